@@ -1,0 +1,16 @@
+pub mod History
+pub mod Ids
+pub mod Moment
+pub mod Pattern
+pub mod Data
+pub mod Query
+pub mod Property
+pub mod Asked
+pub mod Rows
+pub mod Lines
+pub mod Reply
+pub mod Change
+pub mod Write
+pub mod Template
+pub mod Plan
+pub mod Resolving

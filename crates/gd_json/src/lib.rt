@@ -1,0 +1,4 @@
+//! JSON values without fractions, of bounded depth and width.
+#![tactic(auto)]
+
+pub mod from;

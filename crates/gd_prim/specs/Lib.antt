@@ -1,0 +1,5 @@
+pub mod Builtin
+pub mod Tables
+pub mod Live
+pub mod Limits
+pub mod WellFormed

@@ -1,0 +1,12 @@
+pub mod Request
+pub mod Input
+pub mod Legal
+pub mod Explained
+pub mod Core
+pub mod Replay
+pub mod Owed
+pub mod Shape
+pub mod Thawed
+pub mod Work
+pub mod Pace
+pub mod Side

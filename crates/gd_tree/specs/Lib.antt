@@ -1,0 +1,4 @@
+pub mod Hex
+pub mod Json
+pub mod Look
+pub mod JsonCode
