@@ -1,0 +1,98 @@
+-- Files of the format and their meaning: a file of one group, and the edges of gates, lengths and payloads.
+use Rattle.std.specs.Str.{is_utf8, chars}
+use lib.Utf8.{encode}
+use Rattle.std.proofs.Common.{◌≡◌, refl, ℕ, List, [], ◌∷◌, ◌++◌, codes, Some, None, length, replicate, take, drop, option_map}
+use Rattle.gd_prim.specs.declared.Batch.{Batch}
+use Rattle.gd_prim.specs.Builtin.{object, name_link}
+use Rattle.gd_bytes.specs.Group.{spelling, group_of}
+use Rattle.gd_bytes.specs.File.{header, meaning, payloads, groups, not_store, damaged, at_rest}
+
+-- an object named Ann
+abbrev pub ann : List Batch
+ann = (record { moment = 0; prims = object ∷ name_link (70, codes "Ann") ∷ [] }) ∷ []
+
+abbrev pub ann_file : List ℕ
+ann_file = codes "GRAPHD1\n" ++ 1 ∷ 0 ∷ 0 ∷ 0 ∷ 29 ∷ 0 ∷ 1 ∷ 0 ∷ 0 ∷ 0 ∷ 0 ∷ 0 ∷ 0 ∷ 0 ∷ 0 ∷ 0 ∷ 2 ∷ 64 ∷ 0 ∷ 69 ∷ 0 ∷ 0 ∷ 0 ∷ 70 ∷ 0 ∷ 0 ∷ 0 ∷ 13 ∷ 1 ∷ 0 ∷ 3 ∷ 65 ∷ 110 ∷ 110 ∷ 0 ∷ []
+
+pub written : at_rest (spelling ann ∷ []) ≡ ann_file
+written = refl
+
+pub length_43 : length ann_file ≡ 43
+length_43 = refl
+
+pub read_again : group_of (spelling ann) ≡ Some ann
+unfolding is_utf8 chars encode
+read_again = refl
+
+pub meant : meaning ann_file ≡ groups (ann ∷ [])
+unfolding is_utf8 chars encode
+meant = refl
+
+pub nine : meaning (replicate 9 65) ≡ groups []
+nine = refl
+
+pub ten : meaning (replicate 10 65) ≡ not_store
+ten = refl
+
+pub closed : meaning (codes "GRAPHD1\n" ++ 7 ∷ 1 ∷ 2 ∷ 3 ∷ []) ≡ groups []
+closed = refl
+
+pub short : meaning (codes "GRAPHD1\n" ++ 1 ∷ 0 ∷ 0 ∷ 0 ∷ 29 ∷ 1 ∷ 2 ∷ 3 ∷ 4 ∷ 5 ∷ []) ≡ damaged 8
+short = refl
+
+-- ---- edges
+
+pub nothing : meaning [] ≡ groups []
+nothing = refl
+
+-- a ninth byte is no gate
+pub gate_nine : meaning (header ++ 1 ∷ []) ≡ groups []
+gate_nine = refl
+
+pub no_length : meaning (header ++ 1 ∷ 0 ∷ []) ≡ damaged 8
+no_length = refl
+
+pub length_zero : meaning (header ++ 1 ∷ 0 ∷ 0 ∷ 0 ∷ 0 ∷ 0 ∷ []) ≡ damaged 8
+length_zero = refl
+
+pub length_above : meaning (header ++ 1 ∷ 16 ∷ 0 ∷ 0 ∷ 1 ∷ 0 ∷ []) ≡ damaged 8
+length_above = refl
+
+-- without the next gate
+pub no_gate : meaning (take 42 ann_file) ≡ damaged 8
+no_gate = refl
+
+-- any byte but 1 closes the file, whatever stands behind it
+pub other_gate : meaning (take 42 ann_file ++ 7 ∷ 1 ∷ 1 ∷ []) ≡ groups (ann ∷ [])
+unfolding is_utf8 chars encode
+other_gate = refl
+
+-- the second record is damaged, at its own gate
+pub second_damaged : meaning (take 42 ann_file ++ 1 ∷ 0 ∷ 0 ∷ 0 ∷ 2 ∷ 0 ∷ 0 ∷ 0 ∷ []) ≡ damaged 42
+unfolding is_utf8 chars encode
+second_damaged = refl
+
+-- the same group again is well formed: its references lie below its own places
+pub twice : meaning (take 42 ann_file ++ 1 ∷ take 33 (drop 9 ann_file) ++ 0 ∷ []) ≡ groups (ann ∷ ann ∷ [])
+unfolding is_utf8 chars encode
+twice = refl
+
+-- a payload that is no group is a payload, and damage
+pub some_payload : payloads (header ++ 1 ∷ 0 ∷ 0 ∷ 0 ∷ 1 ∷ 9 ∷ 0 ∷ []) ≡ record { list = (8, 9 ∷ []) ∷ []; damaged = None }
+some_payload = refl
+
+pub bad_payload : meaning (header ++ 1 ∷ 0 ∷ 0 ∷ 0 ∷ 1 ∷ 9 ∷ 0 ∷ []) ≡ damaged 8
+bad_payload = refl
+
+pub torn_payload : (payloads (header ++ 1 ∷ 0 ∷ 0 ∷ 0 ∷ 1 ∷ 9 ∷ 1 ∷ 0 ∷ [])).damaged ≡ Some 14
+torn_payload = refl
+
+pub no_batches : group_of (0 ∷ 0 ∷ []) ≡ None
+no_batches = refl
+
+-- 256 empty batches are a group, 257 are none
+pub most_batches : option_map length (group_of (1 ∷ 0 ∷ replicate 2560 0)) ≡ Some 256
+most_batches = refl
+
+pub more_batches : group_of (1 ∷ 1 ∷ replicate 2570 0) ≡ None
+more_batches = refl

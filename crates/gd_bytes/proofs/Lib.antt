@@ -1,0 +1,4 @@
+pub mod CursorLaws
+mod CursorRows
+mod FileRows
+mod FrozenRows
