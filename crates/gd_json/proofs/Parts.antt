@@ -4,7 +4,7 @@ use Rattle.std.proofs.lemmas.Option.{slice_get_read, slice_get_past}
 use Rattle.std.specs.List.{slice_get}
 use Rattle.std.specs.Slice.{IsItemAt}
 use Rattle.gd_tree.specs.Json as tree
-use Rattle.gd_tree.specs.Look.{get, at, items_len, members_len}
+use Rattle.gd_tree.specs.Look.{get, at, member_at, items_len, members_len}
 use Rattle.gd_json.specs.View.{view, items_view, members_view}
 use Rattle.gd_json.specs.declared.value.Json.{Json, List as List', Object, the_lemmas}
 
@@ -41,3 +41,15 @@ get-drop k ms i m b within is test =
 pub seen_at : (js : List Json) (i : ℕ) (found : Option (Bor Json)) → IsItemAt js i found → option_map (λ part. view part.now) found ≡ at i (items_view js)
 seen_at js i None h = sym (at-items_view js i ∙ ap (option_map view) (slice_get_past js i h.3))
 seen_at js i (Some part) h = sym (at-items_view js i ∙ ap (option_map view) (slice_get_read js (length js) i part.now refl h.3.0 h.1))
+
+pub member_at-members_view : (ms : List (List ℕ × Json)) (i : ℕ) → member_at i (members_view ms) ≡ option_map (λ m. (m.0, view m.1)) (slice_get ms i)
+member_at-members_view [] i = refl
+member_at-members_view (m ∷ ms) zero = refl
+member_at-members_view (m ∷ ms) (suc i) = member_at-members_view ms i
+
+-- the member that a look-up by index found, or that none is there
+pub member_found : (ms : List (List ℕ × Json)) (i : ℕ) (part : Bor (List ℕ × Json)) → IsItemAt ms i (Some part) → Some (part.now.0, view part.now.1) ≡ member_at i (members_view ms)
+member_found ms i part h = sym (member_at-members_view ms i ∙ ap (option_map (λ m. (m.0, view m.1))) (slice_get_read ms (length ms) i part.now refl h.3.0 h.1))
+
+pub member_missing : (ms : List (List ℕ × Json)) (i : ℕ) → IsItemAt ms i None → None ≡ member_at i (members_view ms)
+member_missing ms i h = sym (member_at-members_view ms i ∙ ap (option_map (λ m. (m.0, view m.1))) (slice_get_past ms i h.3))

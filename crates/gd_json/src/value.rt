@@ -134,6 +134,17 @@ impl Json {
         }
     }
 
+    /// The member at an index of an object with its name, the first in byte order being at 0.
+    pub fn nth_member(&self, index: usize) -> Option<(&JsonText, &Json)>
+        ensures { option_map (λ part. (part.0.now, view part.1.now)) result
+            ≡ look.nth_member_of index (view self.now) }
+    {
+        match self {
+            Json::Object(members) => nth(members, index),
+            _ => None,
+        }
+    }
+
     /// The value of an object's member of this name.
     pub fn member(&self, name: &str) -> Option<&Json>
         ensures { option_map (λ part. view part.now) result ≡ look.member_of name.now (view self.now) }
@@ -142,6 +153,16 @@ impl Json {
             Json::Object(members) => find(members, name),
             _ => None,
         }
+    }
+}
+
+fn nth(members: &Vec<(JsonText, Json)>, index: usize) -> Option<(&JsonText, &Json)>
+    ensures { option_map (λ part. (part.0.now, view part.1.now)) result
+        ≡ look.member_at index (members_view members.now.items) }
+{
+    match members.get(index) {
+        Some(member) => Some((&member.0, &member.1)),
+        None => None,
     }
 }
 

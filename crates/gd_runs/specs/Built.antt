@@ -1,9 +1,12 @@
 -- Which lines are built so far. Every other line that is JSON of this profile is refused as not built; the file goes once all are.
 use Rattle.std.specs.Prelude.{◌≡◌, ℕ, List, Bool, true, false, ◌&&◌, length, nat_le, Option, Some, None, bytes_eq, ◌==◌, if◌then◌else◌, codes, pos}
+use Rattle.std.specs.Ordering.{int_eq}
+use Rattle.std.specs.Option.{option_eq}
 use Rattle.gd_grammar.specs.Maybe.{◌>>=◌}
 use Rattle.gd_prim.specs.declared.Primitive.{Primitive}
 use Rattle.gd_prim.specs.Builtin.{name_place}
-use Rattle.gd_tree.specs.Json.{Json, null, number, text, list, object, item, no_items, member, no_members}
+use Rattle.gd_tree.specs.Json.{Json, text}
+use Rattle.gd_tree.specs.Look.{member_count, nth_member_of, item_count, item_of, text_of, int_of, is_null}
 use Rattle.gd_defs.specs.Query as query
 use Rattle.gd_defs.specs.Query.{Query, Name, no_directives}
 use Rattle.gd_defs.specs.Property.{property_object, stated}
@@ -11,33 +14,24 @@ use Rattle.gd_defs.specs.Asked.{name_property}
 
 -- the values of an object's only two members, which have these names
 abbrev pub pair_of : List ℕ → List ℕ → Json → Option (Json × Json)
-pair_of k l (object (member a v (member b w no_members))) = if bytes_eq k a && bytes_eq l b then Some (v, w) else None
-pair_of k l _ = None
+pair_of k l j = if member_count j == 2 then (nth_member_of 0 j >>= λ a. nth_member_of 1 j >>= λ b.
+    if bytes_eq a.0 k && bytes_eq b.0 l then Some (a.1, b.1) else None) else None
 
 -- the value of an object's only member, which has this name
 abbrev pub sole_member : List ℕ → Json → Option Json
-sole_member k (object (member a v no_members)) = if bytes_eq k a then Some v else None
-sole_member k _ = None
+sole_member k j = if member_count j == 1 then (nth_member_of 0 j >>= λ a. if bytes_eq a.0 k then Some a.1 else None) else None
 
 -- the only item of a list
 abbrev pub sole_item : Json → Option Json
-sole_item (list (item j no_items)) = Some j
-sole_item _ = None
-
--- null
-abbrev pub is_null : Json → Bool
-is_null null = true
-is_null _ = false
+sole_item j = if item_count j == 1 then item_of 0 j else None
 
 -- the number 0
 abbrev pub is_zero : Json → Bool
-is_zero (number (pos n)) = n == 0
-is_zero _ = false
+is_zero j = option_eq int_eq (int_of j) (Some (pos 0))
 
 -- a text of at most 4,096 bytes
 abbrev pub short_text : Json → Option (List ℕ)
-short_text (text t) = if nat_le (length t) 4096 then Some t else None
-short_text _ = None
+short_text j = text_of j >>= λ t. if nat_le (length t) 4096 then Some t else None
 
 -- the name, where the line asks in session 0 for the objects of a name and their guids: {"read":{"query":[{"guid":null,"name":NAME}]},"sid":0}
 unfoldable pub name_asked : Json → Option (List ℕ)

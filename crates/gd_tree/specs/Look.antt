@@ -19,6 +19,12 @@ at n no_items = None
 at zero (item j js) = Some j
 at (suc n) (item j js) = at n js
 
+-- the member at a place, the first being at 0, with its name
+abbrev pub member_at : ℕ → Members → Option (List ℕ × Json)
+member_at n no_members = None
+member_at zero (member k j ms) = Some (k, j)
+member_at (suc n) (member k j ms) = member_at n ms
+
 -- how many items a list has
 abbrev pub items_len : Items → ℕ
 items_len no_items = 0
@@ -35,6 +41,11 @@ members_len (member k j ms) = suc (members_len ms)
 abbrev pub member_of : List ℕ → Json → Option Json
 member_of k (object ms) = get k ms
 member_of k _ = None
+
+-- the member at a place of an object, with its name
+abbrev pub nth_member_of : ℕ → Json → Option (List ℕ × Json)
+nth_member_of n (object ms) = member_at n ms
+nth_member_of n _ = None
 
 -- the item at a place of a list
 abbrev pub item_of : ℕ → Json → Option Json

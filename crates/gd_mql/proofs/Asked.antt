@@ -1,58 +1,16 @@
 -- The line that asks for a name, taken apart and put together again.
-use Rattle.std.proofs.Common.{◌≡◌, ℕ, List, length, Bool, true, false, ◌&&◌, Option, Some, None, Ok, codes, pos, negsuc, refl, ap, sym, subst, ◌∙◌, nat_le, arith}
+use Rattle.std.proofs.Common.{◌≡◌, ℕ, zero, suc, List, length, Bool, true, false, ◌&&◌, Option, Some, None, Ok, codes, pos, negsuc, refl, ap, sym, subst, ◌∙◌, ◌≤◌, nat_le, arith, Bor, option_map, IfSome}
 use Rattle.std.specs.Prelude.{bytes_eq, unwrap_or, if◌then◌else◌, ◌==◌}
 use Rattle.std.proofs.lemmas.Slice.Eq.{bytes_eq-Decides}
 use Rattle.std.proofs.lemmas.Bool.Decides.{nat_tests}
 use Rattle.gd_grammar.specs.Maybe.{◌>>=◌}
 use Rattle.gd_tree.specs.Json.{Json, null, boolean, number, text, list, object, item, no_items, member, no_members}
+use Rattle.gd_tree.specs.Look.{is_null, items_len, members_len}
 use Rattle.gd_runs.specs.Request.{read, line_of, no_cursor}
-use Rattle.gd_runs.specs.Built.{pair_of, sole_member, sole_item, is_null, is_zero, short_text, name_asked, name_query}
+use Rattle.gd_runs.specs.Built.{pair_of, sole_member, sole_item, is_zero, short_text, name_asked, name_query}
 
 same_bytes : (s t : List ℕ) → bytes_eq s t ≡ true → s ≡ t
 same_bytes s t is = (bytes_eq-Decides s t).0 is
-
-pair_of-is : (k l : List ℕ) (j : Json) (p : Json × Json) → pair_of k l j ≡ Some p → j ≡ object (member k p.0 (member l p.1 no_members))
-pair_of-is k l null p is = cc
-pair_of-is k l (boolean b) p is = cc
-pair_of-is k l (number n) p is = cc
-pair_of-is k l (text t) p is = cc
-pair_of-is k l (list js) p is = cc
-pair_of-is k l (object no_members) p is = cc
-pair_of-is k l (object (member a v no_members)) p is = cc
-pair_of-is k l (object (member a v (member b w (member c u ms)))) p is = cc
-pair_of-is k l (object (member a v (member b w no_members))) p is = both (bytes_eq k a) (bytes_eq l b) refl refl is
-  where
-    both : (c d : Bool) → bytes_eq k a ≡ c → bytes_eq l b ≡ d → (if c && d then Some (v, w) else None) ≡ Some p → object (member a v (member b w no_members)) ≡ object (member k p.0 (member l p.1 no_members))
-    both true true ka lb is =
-        let pair : (v, w) ≡ p = ap (λ o. unwrap_or o (v, w)) is in
-        let ak : a ≡ k = sym (same_bytes k a ka) in let bl : b ≡ l = sym (same_bytes l b lb) in
-        rw (ak, bl) (ap (λ (q : Json × Json). object (member k q.0 (member l q.1 no_members))) pair)
-    both true false ka lb is = cc
-    both false d ka lb is = cc
-
-sole_member-is : (k : List ℕ) (j v : Json) → sole_member k j ≡ Some v → j ≡ object (member k v no_members)
-sole_member-is k null v is = cc
-sole_member-is k (boolean b) v is = cc
-sole_member-is k (number n) v is = cc
-sole_member-is k (text t) v is = cc
-sole_member-is k (list js) v is = cc
-sole_member-is k (object no_members) v is = cc
-sole_member-is k (object (member a u (member b w ms))) v is = cc
-sole_member-is k (object (member a u no_members)) v is = one (bytes_eq k a) refl is
-  where
-    one : (c : Bool) → bytes_eq k a ≡ c → (if c then Some u else None) ≡ Some v → object (member a u no_members) ≡ object (member k v no_members)
-    one true ka is = let ak : a ≡ k = sym (same_bytes k a ka) in let uv : u ≡ v = cc in rw (ak, uv) refl
-    one false ka is = cc
-
-sole_item-is : (j v : Json) → sole_item j ≡ Some v → j ≡ list (item v no_items)
-sole_item-is null v is = cc
-sole_item-is (boolean b) v is = cc
-sole_item-is (number n) v is = cc
-sole_item-is (text t) v is = cc
-sole_item-is (object ms) v is = cc
-sole_item-is (list no_items) v is = cc
-sole_item-is (list (item u (item w js))) v is = cc
-sole_item-is (list (item u no_items)) v is = cc
 
 -- a step that gave something, taken apart
 step-is : {A B : Type 0} (o : Option A) (f : A → Option B) (b : B) → (o >>= f) ≡ Some b → (a : A) × (o ≡ Some a) × (f a ≡ Some b)
@@ -64,6 +22,55 @@ test-is : {A : Type 0} (c : Bool) (o : Option A) (a : A) → (if c then o else N
 test-is true o a is = (refl, is)
 test-is false o a is = cc
 
+two-is : (n : ℕ) → (suc (suc (suc n)) == 2) ≡ true → ⊥
+two-is n is = absurd (grind (arith, nat_tests))
+
+one-is : (n : ℕ) → (suc (suc n) == 1) ≡ true → ⊥
+one-is n is = absurd (grind (arith, nat_tests))
+
+pair_of-is : (k l : List ℕ) (j : Json) (p : Json × Json) → pair_of k l j ≡ Some p → j ≡ object (member k p.0 (member l p.1 no_members))
+pair_of-is k l null p is = cc
+pair_of-is k l (boolean b) p is = cc
+pair_of-is k l (number n) p is = cc
+pair_of-is k l (text t) p is = cc
+pair_of-is k l (list js) p is = cc
+pair_of-is k l (object no_members) p is = cc
+pair_of-is k l (object (member a v no_members)) p is = cc
+pair_of-is k l (object (member a v (member b w (member c u ms)))) p is = absurd (two-is (members_len ms) (test-is (suc (suc (suc (members_len ms))) == 2) _ p is).0)
+pair_of-is k l (object (member a v (member b w no_members))) p is = both (bytes_eq a k) (bytes_eq b l) refl refl is
+  where
+    both : (c d : Bool) → bytes_eq a k ≡ c → bytes_eq b l ≡ d → (if c && d then Some (v, w) else None) ≡ Some p → object (member a v (member b w no_members)) ≡ object (member k p.0 (member l p.1 no_members))
+    both true true ka lb is =
+        let pair : (v, w) ≡ p = ap (λ o. unwrap_or o (v, w)) is in
+        let ak : a ≡ k = same_bytes a k ka in let bl : b ≡ l = same_bytes b l lb in
+        rw (ak, bl) (ap (λ (q : Json × Json). object (member k q.0 (member l q.1 no_members))) pair)
+    both true false ka lb is = cc
+    both false d ka lb is = cc
+
+sole_member-is : (k : List ℕ) (j v : Json) → sole_member k j ≡ Some v → j ≡ object (member k v no_members)
+sole_member-is k null v is = cc
+sole_member-is k (boolean b) v is = cc
+sole_member-is k (number n) v is = cc
+sole_member-is k (text t) v is = cc
+sole_member-is k (list js) v is = cc
+sole_member-is k (object no_members) v is = cc
+sole_member-is k (object (member a u (member b w ms))) v is = absurd (one-is (members_len ms) (test-is (suc (suc (members_len ms)) == 1) _ v is).0)
+sole_member-is k (object (member a u no_members)) v is = one (bytes_eq a k) refl is
+  where
+    one : (c : Bool) → bytes_eq a k ≡ c → (if c then Some u else None) ≡ Some v → object (member a u no_members) ≡ object (member k v no_members)
+    one true ka is = let ak : a ≡ k = same_bytes a k ka in let uv : u ≡ v = cc in rw (ak, uv) refl
+    one false ka is = cc
+
+sole_item-is : (j v : Json) → sole_item j ≡ Some v → j ≡ list (item v no_items)
+sole_item-is null v is = cc
+sole_item-is (boolean b) v is = cc
+sole_item-is (number n) v is = cc
+sole_item-is (text t) v is = cc
+sole_item-is (object ms) v is = cc
+sole_item-is (list no_items) v is = cc
+sole_item-is (list (item u (item w js))) v is = absurd (one-is (items_len js) (test-is (suc (suc (items_len js)) == 1) _ v is).0)
+sole_item-is (list (item u no_items)) v is = let uv : u ≡ v = cc in rw uv refl
+
 is_null-is : (j : Json) → is_null j ≡ true → j ≡ null
 is_null-is null is = refl
 is_null-is (boolean b) is = cc
@@ -72,11 +79,9 @@ is_null-is (text t) is = cc
 is_null-is (list js) is = cc
 is_null-is (object ms) is = cc
 
-zero-is : (n : ℕ) → (n == 0) ≡ true → n ≡ 0
-zero-is n is = grind (arith, nat_tests)
-
 is_zero-is : (j : Json) → is_zero j ≡ true → j ≡ number (pos 0)
-is_zero-is (number (pos n)) is = ap (λ m. number (pos m)) (zero-is n is)
+is_zero-is (number (pos zero)) is = refl
+is_zero-is (number (pos (suc n))) is = absurd (grind (arith, nat_tests))
 is_zero-is (number (negsuc n)) is = cc
 is_zero-is null is = cc
 is_zero-is (boolean b) is = cc
@@ -126,3 +131,15 @@ name_asked-is j x is =
 -- what such a line asks
 pub line_of-name_line : (x : List ℕ) → line_of (name_line x) ≡ Ok (read 0 (record { cursor = no_cursor; query = name_query x }))
 line_of-name_line x = refl
+
+fits : (n : ℕ) → nat_le n 4096 ≡ true → n ≤ 4096
+fits n is = grind (arith, nat_tests)
+
+pub found-short : (j : Json) (found : Option (Bor (List ℕ))) → option_map (λ n. n.now) found ≡ name_asked j → IfSome found (λ n. length n.now ≤ 4096)
+found-short j None is = tt
+found-short j (Some n) is = fits (length n.now) (name_asked-is j n.now (sym is)).1
+
+pub found-asks : (j : Json) (found : Option (Bor (List ℕ))) → option_map (λ n. n.now) found ≡ name_asked j
+    → IfSome found (λ n. line_of j ≡ Ok (read 0 (record { cursor = no_cursor; query = name_query n.now })))
+found-asks j None is = tt
+found-asks j (Some n) is = ap line_of (name_asked-is j n.now (sym is)).0 ∙ line_of-name_line n.now
