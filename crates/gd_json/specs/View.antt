@@ -30,5 +30,8 @@ view = fold-Json tree.Json view_step
 abbrev pub items_view : List Json → Items
 items_view js = items_of (map view js)
 
+abbrev pub member_view : List ℕ × Json → List ℕ × tree.Json
+member_view m = (m.0, view m.1)
+
 abbrev pub members_view : List (List ℕ × Json) → Members
-members_view ms = members_of (map (λ m. (m.0, view m.1)) ms)
+members_view ms = members_of (map member_view ms)
