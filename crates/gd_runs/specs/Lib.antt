@@ -10,3 +10,5 @@ pub mod Thawed
 pub mod Work
 pub mod Pace
 pub mod Side
+pub mod Built
+pub mod OneLine

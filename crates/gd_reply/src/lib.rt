@@ -1,0 +1,2 @@
+//! Reply lines, and the reply to a read by name.
+#![tactic(auto)]
