@@ -4,6 +4,6 @@ use Rattle.gd_prim.specs.declared.Primitive.{Primitive}
 use Rattle.gd_prim.specs.declared.Batch.{Batch}
 use Rattle.gd_prim.specs.Builtin.{builtin}
 
--- the built-in primitives and the first n batches, as one list: a dateline is such an n
+-- the primitives at a dateline, a number n of batches: the built-in ones and those of the first n batches, as one list
 abbrev pub prims_at : List Batch → ℕ → List Primitive
 prims_at batches n = builtin ++ flat_map (λ b. b.prims) (take n batches)

@@ -1,6 +1,6 @@
 pub mod Plain
 pub mod Asking
-pub mod Rounds
+pub mod RoundLaws
 mod rows
 mod LineRows
 mod TemplateRows

@@ -1,35 +1,28 @@
 -- The JSON that the bytes of a line are, and the line that they spell.
-use Rattle.std.specs.Prelude.{ℕ, List, [], length, nat_lt, Result, Ok, Err, if◌then◌else◌, codes}
+use Rattle.std.specs.Prelude.{ℕ, List, [], length, nat_lt, Result, Err, if◌then◌else◌, codes}
 use Rattle.gd_tree.specs.Json.{Json}
 use Rattle.gd_json.specs.declared.from.JsonFault.{JsonFault}
 use Rattle.gd_json.specs.declared.from.JsonFault.TheVariants as json_fault
 use Rattle.gd_json.specs.Reading.{json_from}
+use Rattle.gd_grammar.specs.Chain.{◌>>=◌, map_err}
 use Rattle.gd_defs.specs.Lines.{Refusal, refusal, err_line_plain}
 use Rattle.gd_runs.specs.Request.{Line, LineFault, line_of, fault_line}
 
--- why a line is no request
+-- why bytes are no line: too many, no JSON of this profile, or no line that JSON spells
 pub data InputFault : Type 0 where
   line_too_long : InputFault
   no_json : JsonFault → InputFault
   no_line : LineFault → InputFault
 
--- the bytes of a line
+-- the greatest number of bytes of a line
 abbrev pub max_line : ℕ
 max_line = 262_144
 
 -- the line that bytes spell
 abbrev pub line_from : List ℕ → Result Line InputFault
-line_from bytes = if nat_lt max_line (length bytes) then Err line_too_long else by (json_from bytes)
-  where
-    line : Result Line LineFault → Result Line InputFault
-    line (Ok l) = Ok l
-    line (Err f) = Err (no_line f)
+line_from bytes = if nat_lt max_line (length bytes) then Err line_too_long else map_err no_json (json_from bytes) >>= λ j. map_err no_line (line_of j)
 
-    by : Result Json JsonFault → Result Line InputFault
-    by (Ok j) = line (line_of j)
-    by (Err f) = Err (no_json f)
-
--- the refusal of bytes that are no JSON of this profile
+-- the refusal that a fault of JSON is
 abbrev pub json_refusal : JsonFault → Refusal
 json_refusal json_fault.BadJson = refusal (codes "BadJson") []
 json_refusal json_fault.TooDeep = refusal (codes "TooDeep") []
@@ -37,7 +30,7 @@ json_refusal json_fault.TooWide = refusal (codes "TooWide") []
 json_refusal json_fault.FloatValue = refusal (codes "FloatValue") []
 json_refusal json_fault.Memory = refusal (codes "Memory") []
 
--- the reply line of such a fault
+-- the reply line to bytes that are no line
 abbrev pub input_fault_line : ℕ → InputFault → List ℕ
 input_fault_line line line_too_long = err_line_plain line (refusal (codes "LineTooLong") [])
 input_fault_line line (no_json f) = err_line_plain line (json_refusal f)
