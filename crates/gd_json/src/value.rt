@@ -1,5 +1,6 @@
 //! A JSON value, and looking into it.
 ghost use Rattle.std.specs.Prelude.{◌≡◌, IfOk, option_map, string_bytes};
+ghost use Rattle.gd_tree.specs.Json as tree;
 ghost use Rattle.gd_tree.specs.Look as look;
 ghost use Rattle.gd_json.specs.View.{view, items_view, members_view};
 
@@ -67,6 +68,20 @@ impl JsonText {
 }
 
 impl Json {
+    /// A text value of these bytes.
+    pub fn text(alloc: Global, text: &str) -> Result<Json, Memory>
+        ensures { IfOk result (λ json. view json ≡ tree.text text.now) }
+    {
+        Ok(Json::Text(JsonText::from_str(alloc, text)?))
+    }
+
+    /// A member of an object, of this name and value.
+    pub fn named(alloc: Global, name: &str, value: Json) -> Result<(JsonText, Json), Memory>
+        ensures { IfOk result (λ member. member ≡ (name.now, value)) }
+    {
+        Ok((JsonText::from_str(alloc, name)?, value))
+    }
+
     /// Whether the value is null.
     pub fn is_null(&self) -> bool
         ensures { result ≡ look.is_null (view self.now) }
@@ -100,6 +115,27 @@ impl Json {
     {
         match self {
             Json::Text(text) => Some(text),
+            _ => None,
+        }
+    }
+
+    /// The items of a list, in order.
+    pub fn as_list(&self) -> Option<&[Json]>
+        ensures { option_map (λ items. items_view items.now) result ≡ look.items_in (view self.now) }
+    {
+        match self {
+            Json::List(items) => Some(items.as_slice()),
+            _ => None,
+        }
+    }
+
+    /// The members of an object, in byte order of their names.
+    pub fn as_object(&self) -> Option<&[(JsonText, Json)]>
+        ensures { option_map (λ members. members_view members.now) result
+            ≡ look.members_in (view self.now) }
+    {
+        match self {
+            Json::Object(members) => Some(members.as_slice()),
             _ => None,
         }
     }
