@@ -1,5 +1,7 @@
 //! A JSON value, and looking into it.
-ghost use Rattle.std.specs.Prelude.{◌≡◌, IfOk, option_map, string_bytes};
+ghost use Rattle.std.specs.Prelude.{◌≡◌, IfOk, nat_eq, option_map, string_bytes};
+ghost use Rattle.std.specs.Cmp.{partial_equiv_from_equiv};
+ghost use Rattle.std.specs.Cmp.Lexicographic.{pointwise, nat_list_eq_equiv};
 ghost use Rattle.gd_tree.specs.Json as tree;
 ghost use Rattle.gd_tree.specs.Look as look;
 ghost use Rattle.gd_json.specs.View.{view, items_view, members_view};
@@ -23,7 +25,7 @@ impl Model for JsonText {
 }
 
 /// A JSON value whose numbers are whole. The members of an object stand in byte order of their names, each name once.
-#[derive(Drop)]
+#[derive(Debug, PartialEq, Eq, Drop)]
 pub enum Json {
     Null,
     Bool(bool),
@@ -31,6 +33,20 @@ pub enum Json {
     Text(JsonText),
     List(Vec<Json>),
     Object(Vec<(JsonText, Json)>),
+}
+
+impl PartialEq for JsonText {
+    ghost eq = { λ a b. pointwise nat_eq a b };
+
+    ghost laws = { partial_equiv_from_equiv nat_list_eq_equiv };
+
+    fn eq(&self, other: &JsonText) -> bool {
+        self.string == other.string
+    }
+}
+
+impl Eq for JsonText {
+    ghost laws = { nat_list_eq_equiv };
 }
 
 impl JsonText {
@@ -141,6 +157,7 @@ impl Json {
     }
 
     /// How many items a list has; 0 for any other value.
+    #[tactic(auto, using(crate::proofs::Parts::list_count))]
     pub fn item_count(&self) -> usize
         ensures { result ≡ look.item_count (view self.now) }
     {
@@ -151,6 +168,7 @@ impl Json {
     }
 
     /// How many members an object has; 0 for any other value.
+    #[tactic(auto, using(crate::proofs::Parts::object_count))]
     pub fn member_count(&self) -> usize
         ensures { result ≡ look.member_count (view self.now) }
     {
