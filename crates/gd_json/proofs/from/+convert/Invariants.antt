@@ -1,0 +1,12 @@
+use Rattle.std.proofs.Common.{◌≡◌, map, drop}
+use Rattle.serde_json.specs.View.{items_view as values_view, members_view as map_view}
+use Rattle.gd_json.specs.View.{view, member_view}
+use Rattle.gd_json.specs.Reading.{items_at, members_at}
+use Rattle.gd_json.proofs.Walk.{items_then, members_then}
+use Rattle.gd_json.proofs.from.+convert.Given as goal
+
+abbrev pub invariant-convert_list-loop-item : goal.invariant-convert_list-loop-item
+invariant-convert_list-loop-item l = items_then (map view l.list.items) (items_at l.level (values_view (drop l.item-index l.item-items))) ≡ items_at l.level (values_view l.item-items)
+
+abbrev pub invariant-convert_object-loop-name : goal.invariant-convert_object-loop-name
+invariant-convert_object-loop-name l = members_then (map member_view l.object.items) (members_at l.level (map_view l.name-iterator)) ≡ members_at l.level (map_view l.members.entries)
