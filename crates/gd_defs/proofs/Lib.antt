@@ -1,2 +1,2 @@
 mod WordRows
-mod ReadRows
+mod PropertyRows

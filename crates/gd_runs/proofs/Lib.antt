@@ -1,19 +1,12 @@
-pub mod Session
+pub mod Plain
+pub mod Asking
 pub mod Rounds
+mod rows
 mod LineRows
+mod TemplateRows
+mod PositionRows
 mod FitRows
-mod RowsOne
+mod BegunRows
+mod WorkRows
 mod ReplayRow
-mod RowsCodes
-mod RowsReviewed
-mod PlanRows
 mod ExplainedRow
-mod ThawRows
-mod RowsCore
-mod RowsBytes
-mod RowsLibrary
-mod RowsPages
-mod RowsSorted
-mod RowsWrites
-mod RowsWork
-mod RowsPlaces

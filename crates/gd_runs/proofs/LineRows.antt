@@ -1,6 +1,7 @@
--- The lines of an input and the rounds that they stand in.
-use Rattle.std.proofs.Common.{◌≡◌, refl, ℕ, List, [], ◌∷◌, ◌++◌, codes, replicate, flat_map, map}
+-- The lines of an input, the rounds that they stand in, and how long a line may be.
+use Rattle.std.proofs.Common.{◌≡◌, Err, false, length, nat_lt, refl, ℕ, List, [], ◌∷◌, ◌++◌, codes, replicate, flat_map, map}
 use Rattle.gd_runs.specs.Explained.{lines_of}
+use Rattle.gd_runs.specs.Input.{max_line, line_from, line_too_long}
 
 abbrev told : List ℕ → List (List ℕ × ℕ)
 told input = map (λ l. (l.bytes, l.round)) (lines_of input)
@@ -15,3 +16,10 @@ returns = refl
 -- the 256th line ends a round
 pub full_round : map (λ l. l.round) (lines_of (flat_map {X = ℕ} (λ n. 97 ∷ 10 ∷ []) (replicate 258 0))) ≡ replicate 256 0 ++ 1 ∷ 1 ∷ []
 full_round = refl
+
+-- a line of the greatest length is read, and one byte more is too long
+pub longest : nat_lt max_line (length (replicate {A = ℕ} 262_144 97)) ≡ false
+longest = refl
+
+pub too_long : line_from (replicate 262_145 97) ≡ Err line_too_long
+too_long = refl

@@ -1,0 +1,11 @@
+-- The worked rows of rows/, written by tools/row.py.
+mod Family
+mod Forms
+mod Keys
+mod Lines
+mod Meanings
+mod Pages
+mod Properties
+mod Reading
+mod Versions
+mod Writing

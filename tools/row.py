@@ -1,0 +1,205 @@
+#!/usr/bin/env python3
+"""Worked rows: texts of lines and replies, made into lemmas that the definitions compute.
+
+    row.py [--check] [TEXT..]   writes the lemmas of each text; without TEXT those of every text in rows/.
+                                --check writes nothing, and fails where a file is not what its text gives
+    row.py --lines TEXT ROW     prints the lines of a row, as a program reads them
+    row.py --replies TEXT ROW   prints its replies, as a program writes them
+    row.py --why TEXT ROW       prints a proof file whose refusal shows what the definitions compute in place of
+                                the first wrong reply of a row
+
+README.md, beside this program, says what stands in a text.
+"""
+import argparse
+import os
+import re
+import sys
+
+TOP = os.path.dirname(os.path.dirname(os.path.abspath(__file__)))
+TEXTS = os.path.join(TOP, "rows")
+PROOFS = os.path.join(TOP, "crates", "gd_runs", "proofs")
+
+
+class BadText(Exception):
+    """A text that is not of the form that README.md describes."""
+
+
+class Row:
+    """One run on a fresh store: its lines in order, each with its reply."""
+
+    def __init__(self, name):
+        self.name = name
+        self.comment = []
+        self.pairs = []
+
+
+def bytes_of(mark, rest):
+    """The bytes behind a mark: UTF-8 text behind `> ` and `< `, hexadecimal digits behind `>x ` and `<x `."""
+    return bytes.fromhex(rest) if mark.endswith("x") else rest.encode()
+
+
+def rows_of(path):
+    """The header comment of a text, and its rows."""
+    header, rows, waiting = [], [], None
+    with open(path, encoding="utf-8", newline="\n") as text:
+        for number, line in enumerate(text, 1):
+            line = line.rstrip("\n")
+
+            def refuse(why):
+                raise BadText("%s:%d: %s" % (path, number, why))
+
+            mark, _, rest = line.partition(" ")
+            if line == "":
+                continue
+            if mark == "#":
+                if rows and rows[-1].pairs:
+                    refuse("a comment stands behind the first line of its row")
+                (rows[-1].comment if rows else header).append(rest)
+            elif mark == "row":
+                if waiting is not None:
+                    refuse("the line before has no reply")
+                if not re.fullmatch("[a-z][a-z0-9_]*", rest):
+                    refuse("a row's name is of small letters, digits and `_`")
+                if any(row.name == rest for row in rows):
+                    refuse("the name stands twice")
+                rows.append(Row(rest))
+            elif mark in (">", ">x"):
+                if not rows or waiting is not None:
+                    refuse("a line stands behind `row NAME`, or behind the reply to the line before")
+                waiting = bytes_of(mark, rest)
+            elif mark in ("<", "<x"):
+                if waiting is None:
+                    refuse("a reply stands behind its line")
+                rows[-1].pairs.append((waiting, bytes_of(mark, rest)))
+                waiting = None
+            else:
+                refuse("what begins with neither `#`, `row`, `>` nor `<`")
+    if waiting is not None:
+        raise BadText("%s: the last line has no reply" % path)
+    if not header or not rows or not all(row.pairs for row in rows):
+        raise BadText("%s: there is no header comment, no row, or a row without lines" % path)
+    return header, rows
+
+
+def quoted(text):
+    """A text as antt spells it."""
+    escapes = {'"': '\\"', "\\": "\\\\", "\t": "\\t", "\r": "\\r"}
+    return '"%s"' % "".join(escapes.get(c, c) for c in text)
+
+
+def term(data):
+    """Bytes as a term: the codes of a text, or byte by byte where they are no printable text."""
+    try:
+        text = data.decode()
+    except UnicodeDecodeError:
+        text = None
+    if text is None or not text.replace("\t", "").replace("\r", "").isprintable():
+        return "(%s)" % " ∷ ".join([str(byte) for byte in data] + ["[]"])
+    if text.isascii():
+        return "codes " + quoted(text)
+    return "encode_utf8_all (codes %s)" % quoted(text)
+
+
+def lemma(row, says="AreReplies"):
+    """A row as a lemma: each line with its reply, by computation."""
+    out = ["-- " + line for line in row.comment]
+    out.append("pub %s : %s (" % (row.name, says))
+    for number, (line, reply) in enumerate(row.pairs):
+        out.append("    %s%s" % ("∷ " if number else "", term(line)))
+        out.append("    ⇒ %s" % term(reply))
+    out.append("    ∷ [])")
+    out.append("unfolding replies")
+    out.append("%s = refl" % row.name)
+    return out
+
+
+def module_of(path):
+    """The module of a text: `some_words.txt` is `SomeWords`."""
+    words = os.path.splitext(os.path.basename(path))[0].split("_")
+    return "".join(word.capitalize() for word in words)
+
+
+def proof(header, rows, says="AreReplies"):
+    """The content of a proof file: its header comment, and a lemma for each row."""
+    body = "\n\n".join("\n".join(lemma(row, says)) for row in rows)
+    out = ["-- " + line for line in header]
+    words = [word for word in ("refl", "[]", "◌∷◌", "codes") if word != "codes" or "codes " in body]
+    out.append("use Rattle.std.proofs.Common.{%s}" % ", ".join(words))
+    if "encode_utf8_all" in body:
+        out.append("use Rattle.std.specs.Prelude.{encode_utf8_all}")
+    out.append("use Rattle.gd_runs.proofs.Plain.{◌⇒◌, replies, %s}" % says)
+    return "\n".join(out) + "\n\n" + body + "\n"
+
+
+def file_of(path):
+    """The proof file of a text: its path and its content."""
+    header, rows = rows_of(path)
+    written = "Written by tools/row.py from %s." % os.path.relpath(path, TOP)
+    return os.path.join(PROOFS, "rows", module_of(path) + ".antt"), proof(header + [written], rows)
+
+
+def row_of(path, name):
+    """A row of a text by its name."""
+    for row in rows_of(path)[1]:
+        if row.name == name:
+            return row
+    raise BadText("%s: there is no row %s" % (path, name))
+
+
+def texts():
+    """Every text of rows/."""
+    return sorted(os.path.join(TEXTS, name) for name in os.listdir(TEXTS) if name.endswith(".txt"))
+
+
+def files(paths):
+    """The files that texts give, and the one that names all of their modules."""
+    out = [file_of(path) for path in paths]
+    mods = ["-- The worked rows of rows/, written by tools/row.py."] + ["mod " + module_of(path) for path in texts()]
+    out.append((os.path.join(PROOFS, "rows.antt"), "\n".join(mods) + "\n"))
+    return out
+
+
+def content_of(path):
+    """What stands in a file, nothing where there is none."""
+    if not os.path.exists(path):
+        return None
+    with open(path, encoding="utf-8") as file:
+        return file.read()
+
+
+def main():
+    parser = argparse.ArgumentParser(description=__doc__, formatter_class=argparse.RawDescriptionHelpFormatter)
+    parser.add_argument("--check", action="store_true")
+    parser.add_argument("--lines", action="store_true")
+    parser.add_argument("--replies", action="store_true")
+    parser.add_argument("--why", action="store_true")
+    parser.add_argument("words", nargs="*", metavar="TEXT")
+    given = parser.parse_args()
+    if given.lines or given.replies or given.why:
+        if len(given.words) != 2:
+            parser.error("a text and a row are wanted")
+        row = row_of(*given.words)
+        if given.why:
+            print(proof(["Why the row %s does not compute." % row.name], [row], "NoneIsWrong"), end="")
+            return 0
+        for line, reply in row.pairs:
+            sys.stdout.buffer.write((line if given.lines else reply) + b"\n")
+        return 0
+    stale = 0
+    for path, content in files([os.path.abspath(word) for word in given.words] or texts()):
+        if content_of(path) == content:
+            continue
+        stale += 1
+        print(("is not what its text gives: " if given.check else "wrote ") + os.path.relpath(path, TOP))
+        if not given.check:
+            os.makedirs(os.path.dirname(path), exist_ok=True)
+            with open(path, "w", encoding="utf-8") as file:
+                file.write(content)
+    return 1 if given.check and stale else 0
+
+
+if __name__ == "__main__":
+    try:
+        sys.exit(main())
+    except (BadText, ValueError) as error:
+        sys.exit("row.py: %s" % error)
