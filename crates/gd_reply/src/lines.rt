@@ -1,5 +1,5 @@
 //! Reply lines: one line of JSON, whose newline is not part of it.
-ghost use Rattle.std.specs.Prelude.{◌≡◌, ◌<◌, ◌^◌, IfOk};
+ghost use Rattle.std.specs.Prelude.{◌≡◌, ◌<◌, ◌^◌, ◌∷◌, ◌++◌, [], IfOk};
 ghost use Rattle.gd_tree.specs.Json as tree;
 ghost use Rattle.gd_json.specs.View.{view};
 ghost use Rattle.gd_defs.specs.Lines as printed;
@@ -89,9 +89,9 @@ pub fn err_line_plain(alloc: Global, line: u64, refusal: Refusal) -> Result<Vec<
     )
 }
 
-/// The reply line of line 0 where no memory was left. It takes none itself.
+/// What is printed for line 0 where no memory was left, with its newline. It takes none itself.
 pub fn memory_line() -> &'static str
-    ensures { result.now ≡ explained.memory_line 0 }
+    ensures { result.now ≡ explained.memory_line 0 ++ 10 ∷ [] }
 {
-    "{\"code\":\"/api/status/error\",\"error\":\"Memory\",\"info\":{},\"line\":0}"
+    "{\"code\":\"/api/status/error\",\"error\":\"Memory\",\"info\":{},\"line\":0}\n"
 }
