@@ -8,8 +8,9 @@ use Rattle.gd_defs.specs.Lines.{refusal, ok_line, err_line, err_line_plain, coun
 use Rattle.gd_prim.specs.WellFormed.{max_moment}
 use Rattle.gd_defs.specs.Write.{WriteRequest, ChangeFault}
 use Rattle.gd_runs.specs.Request.{Line, read, write, ReadRequest, CursorAsk, page_after, reply_of, change_refusal}
-use Rattle.gd_runs.specs.Input.{line_from, InputFault, input_fault_line}
+use Rattle.gd_runs.specs.Input.{Forms, line_from, line_at, InputFault, input_fault_line}
 use Rattle.gd_runs.specs.Legal.{Entry, History, batches, size, with_entry, with_entries, upto, exec_line, AreEntriesAfter, IsLegal}
+use Rattle.gd_defs.specs.History.{prims_at}
 use Rattle.gd_bytes.specs.File.{StandsFor}
 
 -- ---- lines and rounds of the input
@@ -82,17 +83,21 @@ IsOfLine h k e entry = (entry_at h e ≡ Some entry) × (entry.line ≡ k)
 abbrev pub IsWrite : List ℕ → Type 0
 IsWrite bytes = (s : ℕ) × (w : WriteRequest) × (line_from bytes ≡ Ok (write s w))
 
+-- the bytes are this request over the first n batches
+abbrev pub IsAskedAt : Forms → History → ℕ → List ℕ → Line → Type 0
+IsAskedAt forms h n bytes l = line_at forms (prims_at (batches h) n) bytes ≡ Ok l
+
 -- line k came to this and printed the reply
-abbrev pub Prints : History → ℕ → List ℕ → Outcome → List ℕ → Type 0
-Prints h k bytes no_request reply = (f : InputFault) × (line_from bytes ≡ Err f) × (reply ≡ input_fault_line k f)
-Prints h k bytes no_memory reply = reply ≡ memory_line k
-Prints h k bytes (stored e) reply = (entry : Entry) × IsOfLine h k e entry × (reply ≡ ok_line (e + 1) k entry.result)
-Prints h k bytes (late e) reply = (entry : Entry) × IsOfLine h k e entry × (reply ≡ late_line k e)
-Prints h k bytes in_doubt reply = IsWrite bytes × (reply ≡ disk_line k (codes "maybe"))
-Prints h k bytes not_tried reply = IsWrite bytes × (reply ≡ disk_line k (codes "no"))
-Prints h k bytes (refused n) reply = (s : ℕ) × (w : WriteRequest) × (moment : ℕ) × (f : ChangeFault) × (line_from bytes ≡ Ok (write s w))
+abbrev pub Prints : Forms → History → ℕ → List ℕ → Outcome → List ℕ → Type 0
+Prints forms h k bytes no_request reply = (n : ℕ) × (f : InputFault) × (n ≤ size h) × (line_at forms (prims_at (batches h) n) bytes ≡ Err f) × (reply ≡ input_fault_line k f)
+Prints forms h k bytes no_memory reply = reply ≡ memory_line k
+Prints forms h k bytes (stored e) reply = (entry : Entry) × (s : ℕ) × IsOfLine h k e entry × IsAskedAt forms h e bytes (write s entry.request) × (reply ≡ ok_line (e + 1) k entry.result)
+Prints forms h k bytes (late e) reply = (entry : Entry) × IsOfLine h k e entry × (reply ≡ late_line k e)
+Prints forms h k bytes in_doubt reply = IsWrite bytes × (reply ≡ disk_line k (codes "maybe"))
+Prints forms h k bytes not_tried reply = IsWrite bytes × (reply ≡ disk_line k (codes "no"))
+Prints forms h k bytes (refused n) reply = (s : ℕ) × (w : WriteRequest) × (moment : ℕ) × (f : ChangeFault) × IsAskedAt forms h n bytes (write s w)
     × (length h.loaded ≤ n) × (n ≤ size h) × (exec_line (upto n h) w moment (length bytes) ≡ Err f) × (reply ≡ err_line n k (change_refusal f))
-Prints h k bytes (answered m) reply = (s : ℕ) × (r : ReadRequest) × (line_from bytes ≡ Ok (read s r)) × (m ≤ size h) × (reply ≡ reply_of (batches h) m k r)
+Prints forms h k bytes (answered m) reply = (s : ℕ) × (r : ReadRequest) × IsAskedAt forms h m bytes (read s r) × (m ≤ size h) × (reply ≡ reply_of (batches h) m k r)
 
 -- the number of line k: of an entry its place, of a refusal or a read where it was made
 abbrev pub HasNumber : History → ℕ → Outcome → ℕ → Type 0
@@ -196,12 +201,12 @@ abbrev pub IsOfRun : List Run → ℕ → Entry → Type 0
 IsOfRun runs e entry = (r : Run) × (slice_get runs entry.line ≡ Some r) × DoesLine r.line.bytes entry × MayBeEntry r.outcome e
 
 -- The history begins with the loaded batches, is legal, and explains what each of these lines printed.
-pub record IsExplainedBy (loaded : List Batch) (may : ℕ → Bool) (given : List Numbered) (output : List ℕ) (h : History) (runs : List Run) : Type 0 where
+pub record IsExplainedBy (forms : Forms) (loaded : List Batch) (may : ℕ → Bool) (given : List Numbered) (output : List ℕ) (h : History) (runs : List Run) : Type 0 where
   pub begins : h.loaded ≡ loaded
   pub legal : IsLegal h
   pub lines : map (λ r. r.line) runs ≡ given
   pub replies : output ≡ flat_map (λ r. r.reply ++ 10 ∷ []) runs
-  pub each : (k : ℕ) (r : Run) → slice_get runs k ≡ Some r → Prints h k r.line.bytes r.outcome r.reply
+  pub each : (k : ℕ) (r : Run) → slice_get runs k ≡ Some r → Prints forms h k r.line.bytes r.outcome r.reply
   -- no entry is of another line; since line numbers differ, no line has two
   pub entries : (e : ℕ) (entry : Entry) → entry_at h e ≡ Some entry → IsOfRun runs e entry
   pub bounds : (k : ℕ) (r : Run) (n : ℕ) → slice_get runs k ≡ Some r → HasNumber h k r.outcome n → IsBounded h runs k r n
@@ -211,16 +216,16 @@ pub record IsExplainedBy (loaded : List Batch) (may : ℕ → Bool) (given : Lis
   pub moments : (e : ℕ) (entry : Entry) → entry_at h e ≡ Some entry → MayBe may entry.moment
 
 -- so it explains every line of the input
-abbrev pub Explains : List Batch → (ℕ → Bool) → List ℕ → List ℕ → History → Type 0
-Explains loaded may input output h = (runs : List Run) × IsExplainedBy loaded may (lines_of input) output h runs
+abbrev pub Explains : Forms → List Batch → (ℕ → Bool) → List ℕ → List ℕ → History → Type 0
+Explains forms loaded may input output h = (runs : List Run) × IsExplainedBy forms loaded may (lines_of input) output h runs
 
 -- the output is the front of one that is explained
-abbrev pub ExplainsFront : List Batch → (ℕ → Bool) → List ℕ → List ℕ → History → Type 0
-ExplainsFront loaded may input output h = (rest : List ℕ) × Explains loaded may input (output ++ rest) h
+abbrev pub ExplainsFront : Forms → List Batch → (ℕ → Bool) → List ℕ → List ℕ → History → Type 0
+ExplainsFront forms loaded may input output h = (rest : List ℕ) × Explains forms loaded may input (output ++ rest) h
 
 -- it is explained for the first rounds of the input, so many
-abbrev pub ExplainsRounds : ℕ → List Batch → (ℕ → Bool) → List ℕ → List ℕ → History → Type 0
-ExplainsRounds rounds loaded may input output h = (runs : List Run) × IsExplainedBy loaded may (filter (λ l. nat_lt l.round rounds) (lines_of input)) output h runs
+abbrev pub ExplainsRounds : ℕ → Forms → List Batch → (ℕ → Bool) → List ℕ → List ℕ → History → Type 0
+ExplainsRounds rounds forms loaded may input output h = (runs : List Run) × IsExplainedBy forms loaded may (filter (λ l. nat_lt l.round rounds) (lines_of input)) output h runs
 
 -- the bytes of a file stand for the history, or for it with the entry of one line that is in doubt
 abbrev pub Holds : History → List Run → List ℕ → Type 0
@@ -254,14 +259,14 @@ pub record IsOldDoubt (h : History) (runs : List Run) (entry : Entry) (r : Run) 
   pub last : (e : ℕ) (x : Entry) (q : Run) → entry_at h e ≡ Some x → slice_get runs x.line ≡ Some q
       → (q.line.round ≤ r.line.round) × (SameSession r q → x.line < entry.line) × (x.line ≡ entry.line → ⊥)
 
--- A round: after the lines before it and the history that explains them, its lines, what they came to, and the entries that the history gained.
-pub record IsRoundAfter (may : ℕ → Bool) (h : History) (runs : List Run) (round : ℕ) (given : List Numbered) (output : List ℕ) (new : List Entry) (more : List Run) : Type 0 where
-  pub earlier : (k : ℕ) (r : Run) → slice_get runs k ≡ Some r → r.line.round < round
+-- A round, or a part of one: after the lines before it and the history that explains them, its lines, what they came to, and the entries that the history gained.
+pub record IsRoundAfter (forms : Forms) (may : ℕ → Bool) (h : History) (runs : List Run) (round : ℕ) (given : List Numbered) (output : List ℕ) (new : List Entry) (more : List Run) : Type 0 where
+  pub earlier : (k : ℕ) (r : Run) → slice_get runs k ≡ Some r → r.line.round ≤ round
   pub this : (j : ℕ) (r : Run) → slice_get more j ≡ Some r → r.line.round ≡ round
   pub lines : map (λ r. r.line) more ≡ given
   pub replies : output ≡ flat_map (λ r. r.reply ++ 10 ∷ []) more
   pub legal : AreEntriesAfter h new
-  pub each : (j : ℕ) (r : Run) → slice_get more j ≡ Some r → Prints (with_entries h new) (length runs + j) r.line.bytes r.outcome r.reply
+  pub each : (j : ℕ) (r : Run) → slice_get more j ≡ Some r → Prints forms (with_entries h new) (length runs + j) r.line.bytes r.outcome r.reply
   pub entries : (i : ℕ) (entry : Entry) → slice_get new i ≡ Some entry → IsOfRound (length runs) more (size h + i) entry ⊎ ((i ≡ 0) × ((r : Run) × IsOldDoubt h runs entry r))
   pub bounds : (j : ℕ) (r : Run) (n : ℕ) → slice_get more j ≡ Some r → HasNumber (with_entries h new) (length runs + j) r.outcome n
       → TakesIn (length h.loaded) (runs ++ more) (length runs + j) r n × (n ≤ size (with_entries h new))
