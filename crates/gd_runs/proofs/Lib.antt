@@ -10,3 +10,4 @@ mod BegunRows
 mod WorkRows
 mod ReplayRow
 mod ExplainedRow
+pub mod BuiltRows
