@@ -111,3 +111,6 @@ pub fn graphd<S: Source, K: Sink>(
         Err(_) => Status::SinkFault,
     }
 }
+
+#[cfg(test)]
+mod tests;
