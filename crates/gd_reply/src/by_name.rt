@@ -232,3 +232,6 @@ pub fn reply_to_name(
 {
     named_line(alloc, prims, dateline, line, name)
 }
+
+#[cfg(test)]
+mod tests;

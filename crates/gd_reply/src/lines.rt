@@ -95,3 +95,6 @@ pub fn memory_line() -> &'static str
 {
     "{\"code\":\"/api/status/error\",\"error\":\"Memory\",\"info\":{},\"line\":0}\n"
 }
+
+#[cfg(test)]
+mod tests;

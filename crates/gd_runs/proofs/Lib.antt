@@ -11,3 +11,4 @@ mod WorkRows
 mod ReplayRow
 mod ExplainedRow
 pub mod BuiltRows
+pub mod LineMore

@@ -111,7 +111,7 @@ entry_cases h new e x is =
 batches_more : (h : History) (new : List Entry) → batches (with_entries h new) ≡ batches h ++ map (λ e. e.batch) new
 batches_more h new = ap (λ (l : List Batch). h.loaded ++ l) (map-append (λ e. e.batch) h.entries new) ∙ sym (append_assoc h.loaded (map (λ e. e.batch) h.entries) (map (λ e. e.batch) new))
 
-length_batches : (h : History) → length (batches h) ≡ size h
+pub length_batches : (h : History) → length (batches h) ≡ size h
 length_batches h = length-append h.loaded (map (λ e. e.batch) h.entries) ∙ ap (λ (n : ℕ). length h.loaded + n) (length-map h.entries (λ (e : Entry). e.batch))
 
 pub prims_kept : (bs cs : List Batch) (m : ℕ) → m ≤ length bs → prims_at (bs ++ cs) m ≡ prims_at bs m
@@ -159,15 +159,15 @@ upto_kept h new n within = ap (λ (es : List Entry). record { loaded = h.loaded;
 of_line_kept : (h : History) (new : List Entry) (k e : ℕ) (x : Entry) → IsOfLine h k e x → IsOfLine (with_entries h new) k e x
 of_line_kept h new k e x (there, line) = (entry_old h new e x there, line)
 
-size_more : (h : History) (new : List Entry) → size h ≤ size (with_entries h new)
+pub size_more : (h : History) (new : List Entry) → size h ≤ size (with_entries h new)
 size_more h new = let long = length-append h.entries new in omega (arith, long)
 
-prims_same : (h : History) (new : List Entry) (n : ℕ) → n ≤ size h → prims_at (batches (with_entries h new)) n ≡ prims_at (batches h) n
+pub prims_same : (h : History) (new : List Entry) (n : ℕ) → n ≤ size h → prims_at (batches (with_entries h new)) n ≡ prims_at (batches h) n
 prims_same h new n within =
     let long : n ≤ length (batches h) = omega (arith, within, length_batches h) in
     ap (λ (bs : List Batch). prims_at bs n) (batches_more h new) ∙ prims_kept (batches h) (map (λ e. e.batch) new) n long
 
-line_at_kept : (forms : Forms) (h : History) (new : List Entry) (n : ℕ) (bytes : List ℕ) (l : Result Line InputFault) → n ≤ size h
+pub line_at_kept : (forms : Forms) (h : History) (new : List Entry) (n : ℕ) (bytes : List ℕ) (l : Result Line InputFault) → n ≤ size h
     → line_at forms (prims_at (batches h) n) bytes ≡ l → line_at forms (prims_at (batches (with_entries h new)) n) bytes ≡ l
 line_at_kept forms h new n bytes l within is = ap (λ (prims : List Primitive). line_at forms prims bytes) (prims_same h new n within) ∙ is
 
@@ -263,7 +263,7 @@ line_within m (Ok (write s w)) = omega arith
 line_within m (Err f) = omega arith
 
 -- no dateline is printed above the history
-told_within : (forms : Forms) (h : History) (k : ℕ) (bytes : List ℕ) (o : Outcome) (reply : List ℕ) (d : ℕ) → Prints forms h k bytes o reply → told_dateline bytes o ≡ Some d → d ≤ size h
+pub told_within : (forms : Forms) (h : History) (k : ℕ) (bytes : List ℕ) (o : Outcome) (reply : List ℕ) (d : ℕ) → Prints forms h k bytes o reply → told_dateline bytes o ≡ Some d → d ≤ size h
 told_within forms h k bytes no_request reply d p e = no_some e
 told_within forms h k bytes no_memory reply d p e = no_some e
 told_within forms h k bytes (stored n) reply d (x, s, (there, line), asked, is) e = let below = entry_below h n x there in let same = some_same e in omega (arith, below, same)
@@ -274,7 +274,7 @@ told_within forms h k bytes not_tried reply d p e = no_some e
 told_within forms h k bytes (answered m) reply d (s, r, asked, most, is) e = let within = line_within m (line_from bytes) in let same = some_same e in omega (arith, within, same, most)
 
 -- what a write printed with ok was told too
-stored_told : (bytes : List ℕ) (o : Outcome) (d : ℕ) → stored_dateline o ≡ Some d → told_dateline bytes o ≡ Some d
+pub stored_told : (bytes : List ℕ) (o : Outcome) (d : ℕ) → stored_dateline o ≡ Some d → told_dateline bytes o ≡ Some d
 stored_told bytes no_request d e = no_some e
 stored_told bytes no_memory d e = no_some e
 stored_told bytes (stored n) d e = e

@@ -19,17 +19,23 @@ pub data InputFault : Type 0 where
 abbrev pub max_line : ℕ
 max_line = 262_144
 
+-- what the value is as a line, or why the bytes are no JSON of this profile
+abbrev pub value_line : (Json → Result Line InputFault) → Result Json JsonFault → Result Line InputFault
+value_line line (Ok j) = line j
+value_line line (Err f) = Err (no_json f)
+
+-- what bytes are as a line, where the line of a value is given
+abbrev pub bytes_line : (Json → Result Line InputFault) → List ℕ → Result Line InputFault
+bytes_line line bytes = if nat_lt max_line (length bytes) then Err line_too_long else value_line line (json_from bytes)
+
+-- a line, or its fault by form
+abbrev pub as_line : Result Line LineFault → Result Line InputFault
+as_line (Ok l) = Ok l
+as_line (Err f) = Err (no_line f)
+
 -- the line that bytes spell
 abbrev pub line_from : List ℕ → Result Line InputFault
-line_from bytes = if nat_lt max_line (length bytes) then Err line_too_long else by (json_from bytes)
-  where
-    line : Result Line LineFault → Result Line InputFault
-    line (Ok l) = Ok l
-    line (Err f) = Err (no_line f)
-
-    by : Result Json JsonFault → Result Line InputFault
-    by (Ok j) = line (line_of j)
-    by (Err f) = Err (no_json f)
+line_from bytes = bytes_line (λ j. as_line (line_of j)) bytes
 
 -- Which values are requests of a form that is built, over a list of primitives.
 abbrev pub Forms : Type 0
@@ -39,20 +45,17 @@ Forms = List Primitive → Json → Bool
 abbrev pub not_built : InputFault
 not_built = no_line (bad_form (record { code = unbuilt; path = [] }))
 
--- the line that bytes spell, where its form is built over a list; what is no line at all is refused as ever
-abbrev pub line_at : Forms → List Primitive → List ℕ → Result Line InputFault
-line_at forms prims bytes = if nat_lt max_line (length bytes) then Err line_too_long else by (json_from bytes)
-  where
-    line : Bool → Result Line LineFault → Result Line InputFault
-    line built (Err bad_line) = Err (no_line bad_line)
-    line true (Err (bad_form f)) = Err (no_line (bad_form f))
-    line true (Ok l) = Ok l
-    line false (Err (bad_form f)) = Err not_built
-    line false (Ok l) = Err not_built
+-- the same where its form is built; what is no line at all is refused as ever
+abbrev pub as_built : Bool → Result Line LineFault → Result Line InputFault
+as_built built (Err bad_line) = Err (no_line bad_line)
+as_built true (Err (bad_form f)) = Err (no_line (bad_form f))
+as_built true (Ok l) = Ok l
+as_built false (Err (bad_form f)) = Err not_built
+as_built false (Ok l) = Err not_built
 
-    by : Result Json JsonFault → Result Line InputFault
-    by (Ok j) = line (forms prims j) (line_of j)
-    by (Err f) = Err (no_json f)
+-- the line that bytes spell over a list, where its form is built
+abbrev pub line_at : Forms → List Primitive → List ℕ → Result Line InputFault
+line_at forms prims bytes = bytes_line (λ j. as_built (forms prims j) (line_of j)) bytes
 
 -- the refusal of bytes that are no JSON of this profile
 abbrev pub json_refusal : JsonFault → Refusal
