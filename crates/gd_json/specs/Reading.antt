@@ -20,9 +20,11 @@ abbrev pub whole : Option ℤ → Result Json JsonFault
 whole None = Err FloatValue
 whole (Some n) = Ok (number n)
 
+-- the list of these items
 abbrev pub list_of : Result Items JsonFault → Result Json JsonFault
 list_of r = r >>= λ js. Ok (list js)
 
+-- the object of these members
 abbrev pub object_of : Result Members JsonFault → Result Json JsonFault
 object_of r = r >>= λ ms. Ok (object ms)
 

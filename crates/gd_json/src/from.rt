@@ -7,7 +7,6 @@ ghost use Rattle.gd_json.specs.Reading.{value_at, items_at, members_at, list_of,
 ghost use Rattle.gd_json.specs.declared.from.JsonFault.TheVariants.{Memory as no_memory};
 
 use crate::value::{Json, JsonText};
-use gd_base::memory::Memory;
 use serde_json::{Map, Value};
 use std::alloc::{AllocError, AllocFailed, Global};
 
@@ -26,18 +25,10 @@ pub enum JsonFault {
     TooDeep,
     /// A list or an object has more than `WIDEST` parts.
     TooWide,
-    /// A number is not whole, or does not fit 64 bits with a sign.
+    /// A number has a fraction or an exponent, is `-0`, or does not fit 64 bits with a sign.
     FloatValue,
     /// An allocation was refused.
     Memory,
-}
-
-impl From<Memory> for JsonFault {
-    ghost from_gives = { λ _ fault. fault ≡ no_memory };
-
-    fn from(_refused: Memory) -> JsonFault {
-        JsonFault::Memory
-    }
 }
 
 impl From<AllocError> for JsonFault {
@@ -63,7 +54,7 @@ pub fn json_from(alloc: Global, bytes: &[u8]) -> Result<Json, JsonFault>
     ensures { Gives view JsonFault.Memory (json_of bytes.now) result }
 {
     match Value::from_slice(alloc, bytes) {
-        Ok(value) => convert(alloc, &value, 1),
+        Ok(value) => convert(alloc, value, 1),
         Err(error) => {
             if error.is_memory() {
                 Err(JsonFault::Memory)
@@ -74,22 +65,22 @@ pub fn json_from(alloc: Global, bytes: &[u8]) -> Result<Json, JsonFault>
     }
 }
 
-// The value of a reading, at a level.
+// The value of a reading that stands at the level.
 #[cycle(convert)]
-fn convert(alloc: Global, value: &Value, level: u32) -> Result<Json, JsonFault>
-    ensures { Gives view JsonFault.Memory (value_at level (value_view value.now)) result }
+fn convert(alloc: Global, value: Value, level: u32) -> Result<Json, JsonFault>
+    ensures { Gives view JsonFault.Memory (value_at level (value_view value)) result }
 {
     if level > DEEPEST {
         return Err(JsonFault::TooDeep);
     }
     match value {
         Value::Null => Ok(Json::Null),
-        Value::Bool(b) => Ok(Json::Bool(*b)),
+        Value::Bool(b) => Ok(Json::Bool(b)),
         Value::Number(number) => match number.as_i64() {
             Some(n) => Ok(Json::Int(n)),
             None => Err(JsonFault::FloatValue),
         },
-        Value::String(text) => Ok(Json::Text(JsonText::from_str(alloc, text.as_str())?)),
+        Value::String(text) => Ok(Json::Text(JsonText::new(text))),
         Value::Array(items) => {
             if items.len() > WIDEST {
                 return Err(JsonFault::TooWide);
@@ -107,8 +98,9 @@ fn convert(alloc: Global, value: &Value, level: u32) -> Result<Json, JsonFault>
 
 // The list of these items, which stand at the level.
 #[cycle(convert)]
-fn convert_list(alloc: Global, items: &Vec<Value>, level: u32) -> Result<Json, JsonFault>
-    ensures { Gives view JsonFault.Memory (list_of (items_at level (values_view items.now.items))) result }
+fn convert_list(alloc: Global, items: Vec<Value>, level: u32) -> Result<Json, JsonFault>
+    ensures { Gives view JsonFault.Memory
+        (list_of (items_at level (values_view items.items))) result }
 {
     let mut list = Vec::with_capacity(alloc, items.len())?;
     for item in items {
@@ -119,16 +111,13 @@ fn convert_list(alloc: Global, items: &Vec<Value>, level: u32) -> Result<Json, J
 
 // The object of these members, whose values stand at the level.
 #[cycle(convert)]
-fn convert_object(
-    alloc: Global,
-    members: &Map<String, Value>,
-    level: u32,
-) -> Result<Json, JsonFault>
-    ensures { Gives view JsonFault.Memory (object_of (members_at level (map_view members.now.entries))) result }
+fn convert_object(alloc: Global, members: Map<String, Value>, level: u32) -> Result<Json, JsonFault>
+    ensures { Gives view JsonFault.Memory
+        (object_of (members_at level (map_view members.entries))) result }
 {
     let mut object = Vec::with_capacity(alloc, members.len())?;
-    for (name, member) in members.iter() {
-        let name = JsonText::from_str(alloc, name.as_str())?;
+    for (name, member) in members {
+        let name = JsonText::new(name);
         object.push((name, convert(alloc, member, level)?))?;
     }
     Ok(Json::Object(object))

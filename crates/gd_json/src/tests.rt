@@ -42,7 +42,7 @@ fn nested(alloc: Global, brackets: usize, text: &str) -> Result<String, AllocErr
 }
 
 /// The compact text of what the bytes spell.
-fn reprinted(alloc: Global, bytes: &[u8]) -> Result<Vec<u8>, JsonFault> {
+fn reprinted(alloc: Global, bytes: &[u8]) -> Result<Vec<u8>, Fail> {
     Ok(json_text(alloc, &json_from(alloc, bytes)?)?)
 }
 

@@ -24,7 +24,8 @@ impl Model for JsonText {
     ghost view = { λ text. string_bytes text.string };
 }
 
-/// A JSON value whose numbers are whole. The members of an object stand in byte order of their names, each name once.
+/// A JSON value whose numbers are whole. The members of an object that was read stand in byte order of their names,
+/// each name once; who builds one keeps that order.
 #[derive(Debug, PartialEq, Eq, Drop)]
 pub enum Json {
     Null,
