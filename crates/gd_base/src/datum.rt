@@ -17,7 +17,8 @@ pub enum Precision {
 }
 
 /// The value of a primitive. `Moment` counts milliseconds from 1970-01-01 in UTC. Data are ordered by their variant
-/// as written here, and then by their contents: moments by `ms` and then by precision, texts by bytes.
+/// as written here, and then by their contents: moments by `ms` and then by precision, texts by bytes. No primitive
+/// holds an `Object`: that is how rules speak of the objects at a link's ends.
 #[derive(Debug, Drop, PartialEq, Eq, PartialOrd, Ord, Hash)]
 pub enum Datum {
     Bool(bool),
@@ -60,3 +61,6 @@ impl Datum {
         self == other
     }
 }
+
+#[cfg(test)]
+mod tests;

@@ -14,6 +14,7 @@ use std::alloc::Global;
 use std::cmp::Ordering;
 use std::hash::{Hash, Hasher};
 use std::marker::Model;
+use thiserror::Error;
 
 /// The greatest number of bytes of a text.
 pub const TEXT_LIMIT: usize = 4096;
@@ -35,10 +36,16 @@ impl Model for Text {
 }
 
 /// Why bytes are no text.
-#[derive(Clone, Copy, Debug, PartialEq, Eq)]
+#[derive(Clone, Copy, Debug, PartialEq, Eq, Error)]
 pub enum TextFault {
+    /// There are more than `TEXT_LIMIT`.
+    #[error("the text has more than 4,096 bytes")]
     TooLong,
+    /// They are no UTF-8. The longest front that is has `offset` bytes.
+    #[error("the text is no UTF-8 at byte {offset}")]
     NotUtf8 { offset: u64 },
+    /// An allocation was refused.
+    #[error("out of memory")]
     Memory,
 }
 
@@ -145,3 +152,6 @@ impl Text {
         })
     }
 }
+
+#[cfg(test)]
+mod tests;

@@ -4,7 +4,7 @@ use Rattle.std.proofs.lemmas.Option.{slice_get_read, slice_get_past}
 use Rattle.std.specs.List.{slice_get}
 use Rattle.std.specs.Slice.{IsItemAt}
 use Rattle.gd_tree.specs.Json as tree
-use Rattle.gd_tree.specs.Look.{get, at, member_at, items_len, members_len}
+use Rattle.gd_tree.specs.Look.{get, at, member_at, items_len, members_len, item_count, member_count}
 use Rattle.gd_json.specs.View.{view, items_view, members_view}
 use Rattle.gd_json.specs.declared.value.Json.{Json, List as List', Object, the_lemmas}
 
@@ -21,6 +21,12 @@ items_len-items_view (j ∷ js) = ap suc (items_len-items_view js)
 pub members_len-members_view : (ms : List (List ℕ × Json)) → members_len (members_view ms) ≡ length ms
 members_len-members_view [] = refl
 members_len-members_view (m ∷ ms) = ap suc (members_len-members_view ms)
+
+pub list_count : (v : Vec Json Global) → item_count (view (List' v)) ≡ length v.items
+list_count v = ap item_count (view-List v) ∙ items_len-items_view v.items
+
+pub object_count : (v : Vec (List ℕ × Json) Global) → member_count (view (Object v)) ≡ length v.items
+object_count v = ap member_count (view-Object v) ∙ members_len-members_view v.items
 
 pub at-items_view : (js : List Json) (i : ℕ) → at i (items_view js) ≡ option_map view (slice_get js i)
 at-items_view [] i = refl

@@ -3,5 +3,7 @@
 
 pub mod copy;
 pub mod from;
+#[cfg(test)]
+mod tests;
 pub mod text;
 pub mod value;

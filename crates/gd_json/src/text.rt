@@ -44,7 +44,8 @@ fn write(out: &mut Writer, value: &Json) -> Result<(), Memory>
 // The items and the closing bracket.
 #[cycle(write)]
 fn write_items(out: &mut Writer, items: &Vec<Json>) -> Result<(), Memory>
-    ensures ok { OnOk result (out.new.tokens ≡ out.old.tokens ++ items_tokens (items_view items.now.items)) }
+    ensures ok { OnOk result (out.new.tokens
+        ≡ out.old.tokens ++ items_tokens (items_view items.now.items)) }
     ensures before { out.new.before ≡ out.old.before }
 {
     for item in items {
@@ -57,7 +58,8 @@ fn write_items(out: &mut Writer, items: &Vec<Json>) -> Result<(), Memory>
 // The members and the closing bracket.
 #[cycle(write)]
 fn write_members(out: &mut Writer, members: &Vec<(JsonText, Json)>) -> Result<(), Memory>
-    ensures ok { OnOk result (out.new.tokens ≡ out.old.tokens ++ members_tokens (members_view members.now.items)) }
+    ensures ok { OnOk result (out.new.tokens
+        ≡ out.old.tokens ++ members_tokens (members_view members.now.items)) }
     ensures before { out.new.before ≡ out.old.before }
 {
     for member in members {

@@ -1,5 +1,8 @@
 //! A JSON value, and looking into it.
-ghost use Rattle.std.specs.Prelude.{◌≡◌, IfOk, option_map, string_bytes};
+ghost use Rattle.std.specs.Prelude.{◌≡◌, IfOk, nat_eq, option_map, string_bytes};
+ghost use Rattle.std.specs.Cmp.{partial_equiv_from_equiv};
+ghost use Rattle.std.specs.Cmp.Lexicographic.{pointwise, nat_list_eq_equiv};
+ghost use Rattle.gd_tree.specs.Json as tree;
 ghost use Rattle.gd_tree.specs.Look as look;
 ghost use Rattle.gd_json.specs.View.{view, items_view, members_view};
 
@@ -21,8 +24,9 @@ impl Model for JsonText {
     ghost view = { λ text. string_bytes text.string };
 }
 
-/// A JSON value whose numbers are whole. The members of an object stand in byte order of their names, each name once.
-#[derive(Drop)]
+/// A JSON value whose numbers are whole. The members of an object that was read stand in byte order of their names,
+/// each name once; who builds one keeps that order.
+#[derive(Debug, PartialEq, Eq, Drop)]
 pub enum Json {
     Null,
     Bool(bool),
@@ -30,6 +34,20 @@ pub enum Json {
     Text(JsonText),
     List(Vec<Json>),
     Object(Vec<(JsonText, Json)>),
+}
+
+impl PartialEq for JsonText {
+    ghost eq = { λ a b. pointwise nat_eq a b };
+
+    ghost laws = { partial_equiv_from_equiv nat_list_eq_equiv };
+
+    fn eq(&self, other: &JsonText) -> bool {
+        self.string == other.string
+    }
+}
+
+impl Eq for JsonText {
+    ghost laws = { nat_list_eq_equiv };
 }
 
 impl JsonText {
@@ -67,6 +85,20 @@ impl JsonText {
 }
 
 impl Json {
+    /// A text value of these bytes.
+    pub fn text(alloc: Global, text: &str) -> Result<Json, Memory>
+        ensures { IfOk result (λ json. view json ≡ tree.text text.now) }
+    {
+        Ok(Json::Text(JsonText::from_str(alloc, text)?))
+    }
+
+    /// A member of an object, of this name and value.
+    pub fn named(alloc: Global, name: &str, value: Json) -> Result<(JsonText, Json), Memory>
+        ensures { IfOk result (λ member. member ≡ (name.now, value)) }
+    {
+        Ok((JsonText::from_str(alloc, name)?, value))
+    }
+
     /// Whether the value is null.
     pub fn is_null(&self) -> bool
         ensures { result ≡ look.is_null (view self.now) }
@@ -104,7 +136,29 @@ impl Json {
         }
     }
 
+    /// The items of a list, in order.
+    pub fn as_list(&self) -> Option<&[Json]>
+        ensures { option_map (λ items. items_view items.now) result ≡ look.items_in (view self.now) }
+    {
+        match self {
+            Json::List(items) => Some(items.as_slice()),
+            _ => None,
+        }
+    }
+
+    /// The members of an object, in byte order of their names.
+    pub fn as_object(&self) -> Option<&[(JsonText, Json)]>
+        ensures { option_map (λ members. members_view members.now) result
+            ≡ look.members_in (view self.now) }
+    {
+        match self {
+            Json::Object(members) => Some(members.as_slice()),
+            _ => None,
+        }
+    }
+
     /// How many items a list has; 0 for any other value.
+    #[tactic(auto, using(crate::proofs::Parts::list_count))]
     pub fn item_count(&self) -> usize
         ensures { result ≡ look.item_count (view self.now) }
     {
@@ -115,6 +169,7 @@ impl Json {
     }
 
     /// How many members an object has; 0 for any other value.
+    #[tactic(auto, using(crate::proofs::Parts::object_count))]
     pub fn member_count(&self) -> usize
         ensures { result ≡ look.member_count (view self.now) }
     {

@@ -3,3 +3,4 @@ pub mod Tables
 pub mod Live
 pub mod Limits
 pub mod WellFormed
+pub mod History

@@ -31,12 +31,16 @@ may_hold (datum.Object o) = false
 may_hold (datum.Moment ms precision) = is_moment ms
 may_hold _ = true
 
+-- each reference of the primitive is below this place
+abbrev pub refers_back : ℕ → Primitive → Bool
+refers_back place p = list_all (refers_below place) (p.left ∷ p.right ∷ p.typ ∷ p.scope ∷ p.previous ∷ [])
+
 -- the rules for the primitive at the end of a list, the i-th of a batch of this moment
 abbrev pub is_well_placed : List Primitive → ℕ → ℕ → Primitive → Bool
 is_well_placed before moment i p =
-    list_all (refers_below (length before)) (p.left ∷ p.right ∷ p.typ ∷ p.scope ∷ p.previous ∷ [])
-    && succeeds_current before p.previous && (p.live || is_some p.previous) && may_hold p.value
+    refers_back (length before) p && (p.live || is_some p.previous) && may_hold p.value
     && p.moment == moment && nat_le moment max_moment && nat_lt (length before) max_prims && nat_lt i max_batch
+    && succeeds_current before p.previous
 
 -- the first place whose primitive breaks a rule
 abbrev pub first_bad : List Primitive → ℕ → ℕ → List Primitive → Option ℕ

@@ -16,7 +16,7 @@ fn refers(reference: Option<Id>, place: Id) -> bool
 }
 
 /// Whether some primitive of the list has this place as `previous`.
-fn has_successor(prims: &[Primitive], place: Id) -> bool
+pub(crate) fn has_successor(prims: &[Primitive], place: Id) -> bool
     ensures { result ≡ defined.has_successor prims.now place }
 {
     prims.iter().any(|prim| refers(prim.previous, place))

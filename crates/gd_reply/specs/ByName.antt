@@ -1,10 +1,11 @@
 -- Which objects have a name, over a plain list of primitives.
-use Rattle.std.specs.Prelude.{ℕ, List, [], ◌∷◌, length, take, Bool, ◌&&◌, nat_lt, count_by, sum_by, filter, if◌then◌else◌, codes}
+use Rattle.std.specs.Prelude.{ℕ, List, length, map, take, Bool, ◌&&◌, nat_lt, count_by, sum_by, filter, if◌then◌else◌, codes}
 use Rattle.std.specs.List.{range_with_len, list_any}
 use Rattle.gd_prim.specs.declared.Primitive.{Primitive}
 use Rattle.gd_prim.specs.Builtin.{name_place}
 use Rattle.gd_prim.specs.Live.{refers, passes_at, is_live, is_object, is_text}
-use Rattle.gd_tree.specs.Json.{Json, text, list, object, Items, no_items, item, member, no_members}
+use Rattle.gd_tree.specs.Json.{Json, text, list, object, Items, member, no_members}
+use Rattle.gd_json.specs.View.{items_of}
 use Rattle.gd_defs.specs.Ids.{guid}
 use Rattle.gd_defs.specs.Lines.{ok_line, err_line, too_wide}
 use Rattle.gd_defs.specs.Reply.{max_candidate_weight, max_page_weight, within_reply}
@@ -35,8 +36,7 @@ row_json name place = object (member (codes "guid") (text (guid place)) (member 
 
 -- the same of each
 abbrev pub rows_json : List ℕ → List ℕ → Items
-rows_json name [] = no_items
-rows_json name (o ∷ os) = item (row_json name o) (rows_json name os)
+rows_json name os = items_of (map (row_json name) os)
 
 -- an object is given the name by more links than one answer may weigh
 abbrev pub is_heavy : List Primitive → List ℕ → ℕ → Bool

@@ -1,6 +1,6 @@
 pub mod Plain
 pub mod Asking
-pub mod RoundLaws
+pub mod Rounds
 mod rows
 mod LineRows
 mod TemplateRows
@@ -10,3 +10,5 @@ mod BegunRows
 mod WorkRows
 mod ReplayRow
 mod ExplainedRow
+pub mod BuiltRows
+pub mod LineMore

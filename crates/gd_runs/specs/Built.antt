@@ -1,21 +1,30 @@
 -- Which lines are built so far. Every other line that is JSON of this profile is refused as not built; the file goes once all are.
-use Rattle.std.specs.Prelude.{◌≡◌, ℕ, List, Bool, true, false, ◌&&◌, length, nat_le, Option, Some, None, bytes_eq, ◌==◌, if◌then◌else◌, codes, pos}
+use Rattle.std.specs.Prelude.{◌≡◌, ℕ, List, Bool, true, false, ◌&&◌, length, nat_le, Option, Some, None, bytes_eq, ◌==◌, if◌then◌else◌, codes, pos, not, ◌||◌, is_some, nat_eq, [], Result}
 use Rattle.std.specs.Ordering.{int_eq}
 use Rattle.std.specs.Option.{option_eq}
 use Rattle.gd_grammar.specs.Maybe.{◌>>=◌}
 use Rattle.gd_prim.specs.declared.Primitive.{Primitive}
-use Rattle.gd_prim.specs.Builtin.{name_place}
+use Rattle.gd_prim.specs.Builtin.{name_place, text_place}
 use Rattle.gd_tree.specs.Json.{Json, text}
 use Rattle.gd_tree.specs.Look.{member_count, nth_member_of, item_count, item_of, text_of, int_of, is_null}
 use Rattle.gd_defs.specs.Query as query
 use Rattle.gd_defs.specs.Query.{Query, Name, no_directives}
-use Rattle.gd_defs.specs.Property.{property_object, stated}
+use Rattle.gd_defs.specs.Property.{Property, property_object, stated}
+use Rattle.gd_defs.specs.Change as change
+use Rattle.gd_defs.specs.Write.{WriteRequest}
+use Rattle.gd_runs.specs.Request.{Line, ReadRequest, no_cursor}
+use Rattle.gd_runs.specs.Input.{Forms, InputFault, line_at}
 use Rattle.gd_defs.specs.Asked.{name_property}
 
 -- the values of an object's only two members, which have these names
 abbrev pub pair_of : List ℕ → List ℕ → Json → Option (Json × Json)
 pair_of k l j = if member_count j == 2 then (nth_member_of 0 j >>= λ a. nth_member_of 1 j >>= λ b.
     if bytes_eq a.0 k && bytes_eq b.0 l then Some (a.1, b.1) else None) else None
+
+-- the values of an object's only three members, which have these names
+abbrev pub triple_of : List ℕ → List ℕ → List ℕ → Json → Option (Json × Json × Json)
+triple_of k l m j = if member_count j == 3 then (nth_member_of 0 j >>= λ a. nth_member_of 1 j >>= λ b. nth_member_of 2 j >>= λ c.
+    if bytes_eq a.0 k && bytes_eq b.0 l && bytes_eq c.0 m then Some (a.1, b.1, c.1) else None) else None
 
 -- the value of an object's only member, which has this name
 abbrev pub sole_member : List ℕ → Json → Option Json
@@ -46,10 +55,72 @@ plain_name word = record { spelled = word; reversed = false; word = word; operat
 
 -- the query for the objects of a name and their guids
 abbrev pub name_query : List ℕ → Query
-name_query name = record { listed = true; directives = no_directives;
-    members = query.member (plain_name (codes "guid")) query.ask (query.member (plain_name (codes "name")) (query.literal (text name)) query.no_members) }
+name_query name = record {
+  listed = true;
+  directives = no_directives;
+  members = query.member (plain_name (codes "guid")) query.ask (query.member (plain_name (codes "name")) (query.literal (text name)) query.no_members);
+}
 
 -- The list says of the property `name` what the built-in list says. Over other lists the built forms are not built yet.
 pub record SaysName (prims : List Primitive) : Type 0 where
   pub found : property_object prims None (codes "name") ≡ Some name_place
   pub says : stated prims name_place ≡ name_property
+
+-- ---- the forms of lines
+
+-- the name, where the envelope of a read asks for the objects of a name and their guids: {"query":[{"guid":null,"name":NAME}]}
+abbrev pub read_asked : Json → Option (List ℕ)
+read_asked j = sole_member (codes "query") j >>= λ query. sole_item query >>= λ clause. pair_of (codes "guid") (codes "name") clause >>= λ members.
+    if is_null members.0 then text_of members.1 else None
+
+-- the value is this text
+abbrev pub is_the_text : List ℕ → Json → Bool
+is_the_text t j = option_eq bytes_eq (text_of j) (Some t)
+
+-- whether the guid is asked for, and the name, where the clause creates an object of a name: {"create":"unconditional","guid":null,"name":NAME}, or the same without `guid`
+abbrev pub create_clause : Json → Option (Bool × List ℕ)
+create_clause j = if member_count j == 3 then (triple_of (codes "create") (codes "guid") (codes "name") j >>= λ members.
+    if is_the_text (codes "unconditional") members.0 && is_null members.1 then (text_of members.2 >>= λ name. Some (true, name)) else None)
+    else (pair_of (codes "create") (codes "name") j >>= λ members.
+    if is_the_text (codes "unconditional") members.0 then (text_of members.1 >>= λ name. Some (false, name)) else None)
+
+-- the same of the envelope of a write: {"query":CLAUSE}
+abbrev pub create_asked : Json → Option (Bool × List ℕ)
+create_asked j = sole_member (codes "query") j >>= create_clause
+
+-- the line is such a read or such a write, of any session
+unfoldable pub is_form : Json → Bool
+is_form j = is_some (pair_of (codes "read") (codes "sid") j >>= λ line. read_asked line.0) || is_some (pair_of (codes "sid") (codes "write") j >>= λ line. create_asked line.1)
+
+-- the property states what the built-in `name` states
+abbrev pub is_name_property : Property → Bool
+is_name_property p = p.stored == name_place && not p.reversed && option_eq nat_eq p.expected (Some text_place) && p.unique
+
+-- the list says of the property `name` what the built-in list says, as a test
+unfoldable pub says_name : List Primitive → Bool
+says_name prims = option_eq nat_eq (property_object prims None (codes "name")) (Some name_place) && is_name_property (stated prims name_place)
+
+-- a line of such a form, over a list that says so, is built
+abbrev pub is_built : Forms
+is_built prims j = says_name prims && is_form j
+
+-- the line that bytes spell, as far as forms are built, over every list that says so
+abbrev pub line_asked : List ℕ → Result Line InputFault
+line_asked bytes = line_at (λ prims j. is_form j) [] bytes
+
+-- the request that creates an object of a name, and asks for its guid or does not
+abbrev pub name_fact : List ℕ → change.Members
+name_fact name = change.member (plain_name (codes "name")) (change.plain (text name)) change.no_members
+
+abbrev pub create_request : Bool → List ℕ → WriteRequest
+create_request asks_guid name = record {
+  scope = None;
+  change = record {
+    root = change.to_create change.unconditional;
+    members = change.created change.unconditional (if asks_guid then change.member (plain_name (codes "guid")) change.blank (name_fact name) else name_fact name);
+  };
+}
+
+-- the request that asks for the objects of a name and their guids
+abbrev pub name_request : List ℕ → ReadRequest
+name_request name = record { cursor = no_cursor; query = name_query name }

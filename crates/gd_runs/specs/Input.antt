@@ -1,12 +1,14 @@
 -- The JSON that the bytes of a line are, and the line that they spell.
-use Rattle.std.specs.Prelude.{ℕ, List, [], length, nat_lt, Result, Err, if◌then◌else◌, codes}
+use Rattle.std.specs.Prelude.{ℕ, List, [], length, nat_lt, Result, Ok, Err, if◌then◌else◌, codes, Bool, true, false}
+use Rattle.gd_prim.specs.declared.Primitive.{Primitive}
+use Rattle.gd_grammar.specs.Chain.{◌>>=◌, map_err}
 use Rattle.gd_tree.specs.Json.{Json}
 use Rattle.gd_json.specs.declared.from.JsonFault.{JsonFault}
 use Rattle.gd_json.specs.declared.from.JsonFault.TheVariants as json_fault
 use Rattle.gd_json.specs.Reading.{json_from}
-use Rattle.gd_grammar.specs.Chain.{◌>>=◌, map_err}
 use Rattle.gd_defs.specs.Lines.{Refusal, refusal, err_line_plain}
-use Rattle.gd_runs.specs.Request.{Line, LineFault, line_of, fault_line}
+use Rattle.gd_runs.specs.Request.{Line, LineFault, bad_line, bad_form, line_of, fault_line}
+use Rattle.gd_defs.specs.Query.{unbuilt}
 
 -- why bytes are no line: too many, no JSON of this profile, or no line that JSON spells
 pub data InputFault : Type 0 where
@@ -18,9 +20,41 @@ pub data InputFault : Type 0 where
 abbrev pub max_line : ℕ
 max_line = 262_144
 
+-- what the value of bytes is as a line, by a function, or why they are no JSON of this profile
+abbrev pub value_line : (Json → Result Line InputFault) → Result Json JsonFault → Result Line InputFault
+value_line line r = map_err no_json r >>= line
+
+-- what bytes are as a line, by a function that says it of values
+abbrev pub bytes_line : (Json → Result Line InputFault) → List ℕ → Result Line InputFault
+bytes_line line bytes = if nat_lt max_line (length bytes) then Err line_too_long else value_line line (json_from bytes)
+
+-- a line, or why a value is none
+abbrev pub as_line : Result Line LineFault → Result Line InputFault
+as_line r = map_err no_line r
+
 -- the line that bytes spell
 abbrev pub line_from : List ℕ → Result Line InputFault
-line_from bytes = if nat_lt max_line (length bytes) then Err line_too_long else map_err no_json (json_from bytes) >>= λ j. map_err no_line (line_of j)
+line_from bytes = bytes_line (λ j. as_line (line_of j)) bytes
+
+-- which values are requests of a form that is built, over a list of primitives
+abbrev pub Forms : Type 0
+Forms = List Primitive → Json → Bool
+
+-- the fault of a line whose form is not built
+abbrev pub not_built : InputFault
+not_built = no_line (bad_form (record { code = unbuilt; path = [] }))
+
+-- a line whose form is built or not; a value that is no line at all is refused as ever
+abbrev pub as_built : Bool → Result Line LineFault → Result Line InputFault
+as_built built (Err bad_line) = Err (no_line bad_line)
+as_built true (Err (bad_form f)) = Err (no_line (bad_form f))
+as_built true (Ok l) = Ok l
+as_built false (Err (bad_form f)) = Err not_built
+as_built false (Ok l) = Err not_built
+
+-- the line that bytes spell over a list, where its form is built
+abbrev pub line_at : Forms → List Primitive → List ℕ → Result Line InputFault
+line_at forms prims bytes = bytes_line (λ j. as_built (forms prims j) (line_of j)) bytes
 
 -- the refusal that a fault of JSON is
 abbrev pub json_refusal : JsonFault → Refusal

@@ -47,6 +47,16 @@ abbrev pub nth_member_of : ℕ → Json → Option (List ℕ × Json)
 nth_member_of n (object ms) = member_at n ms
 nth_member_of n _ = None
 
+-- the items of a list
+abbrev pub items_in : Json → Option Items
+items_in (list js) = Some js
+items_in _ = None
+
+-- the members of an object
+abbrev pub members_in : Json → Option Members
+members_in (object ms) = Some ms
+members_in _ = None
+
 -- the item at a place of a list
 abbrev pub item_of : ℕ → Json → Option Json
 item_of n (list js) = at n js

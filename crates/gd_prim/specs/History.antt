@@ -1,0 +1,13 @@
+-- The primitives of a history.
+use Rattle.std.specs.Prelude.{ℕ, List, ◌++◌, take, flat_map}
+use Rattle.gd_prim.specs.declared.Primitive.{Primitive}
+use Rattle.gd_prim.specs.declared.Batch.{Batch}
+use Rattle.gd_prim.specs.Builtin.{builtin}
+
+-- the built-in primitives and those of these batches, as one list
+abbrev pub prims_of : List Batch → List Primitive
+prims_of batches = builtin ++ flat_map (λ b. b.prims) batches
+
+-- those of the first n batches: a dateline is such an n
+abbrev pub prims_at : List Batch → ℕ → List Primitive
+prims_at batches n = prims_of (take n batches)

@@ -1,0 +1,107 @@
+//! Which batches may follow a list of primitives.
+ghost use Rattle.std.specs.Prelude.{◌≡◌, ◌<◌, ◌≤◌, ◌++◌, IsTrue, List, None, Some, length, MatchResult};
+ghost use Rattle.gd_prim.specs.Live as graph;
+ghost use Rattle.gd_prim.specs.WellFormed as defined;
+
+use crate::limits::{MAX_BATCH, MAX_PRIMS};
+use crate::live::has_successor;
+use crate::{Batch, Primitive};
+use gd_base::datum::Datum;
+use gd_base::id::Id;
+use thiserror::Error;
+
+/// The last millisecond of the year 9999, counted from 1970-01-01 in UTC.
+pub const MAX_MOMENT: u64 = 253_402_300_799_999;
+
+/// The first millisecond of the year 0000, counted from 1970-01-01 in UTC.
+pub const MIN_MOMENT: i64 = -62_167_219_200_000;
+
+/// The first place of a batch whose primitive breaks a rule.
+#[derive(Clone, Copy, Debug, PartialEq, Eq, Error)]
+#[error("the primitive at place {} breaks a rule", .place.place())]
+pub struct BadBatch {
+    pub place: Id,
+}
+
+/// Whether the reference, if there is one, is below this place.
+fn refers_below(place: usize, reference: Option<Id>) -> bool
+    ensures { result ≡ defined.refers_below place reference }
+{
+    match reference {
+        Some(named) => (named.place() as usize) < place,
+        None => true,
+    }
+}
+
+/// Whether each reference of the primitive is below this place.
+fn refers_back(place: usize, prim: &Primitive) -> bool
+    ensures { result ≡ defined.refers_back place prim.now }
+{
+    refers_below(place, prim.left)
+        && refers_below(place, prim.right)
+        && refers_below(place, prim.typ)
+        && refers_below(place, prim.scope)
+        && refers_below(place, prim.previous)
+}
+
+/// Whether the previous primitive, if there is one, is current in the two lists one behind the other.
+fn succeeds_current(prior: &[Primitive], earlier: &[Primitive], previous: Option<Id>) -> bool
+    ensures { result ≡ defined.succeeds_current (prior.now ++ earlier.now) previous }
+{
+    match previous {
+        Some(place) => !has_successor(prior, place) && !has_successor(earlier, place),
+        None => true,
+    }
+}
+
+/// Whether a primitive may hold the value.
+fn may_hold(value: &Datum) -> bool
+    ensures { result ≡ defined.may_hold value.now }
+{
+    match value {
+        Datum::Object(_) => false,
+        Datum::Moment { ms, .. } => *ms >= MIN_MOMENT && *ms <= MAX_MOMENT as i64,
+        _ => true,
+    }
+}
+
+/// Whether the primitive keeps the rules behind the two lists, of which the second is what its batch has before it.
+fn is_well_placed(prior: &[Primitive], earlier: &[Primitive], moment: u64, prim: &Primitive) -> bool
+    requires prior { length prior.now ≤ 2_097_151 }
+    requires earlier { length earlier.now ≤ 4_096 }
+    ensures keeps { result ≡ defined.is_well_placed (prior.now ++ earlier.now) moment (length earlier.now) prim.now }
+    ensures room { IsTrue result → length earlier.now < 4_096 }
+{
+    let place = prior.len() + earlier.len();
+    refers_back(place, prim)
+        && (prim.live || prim.previous.is_some())
+        && may_hold(&prim.value)
+        && prim.moment == moment
+        && moment <= MAX_MOMENT
+        && place < MAX_PRIMS
+        && earlier.len() < MAX_BATCH
+        && succeeds_current(prior, earlier, prim.previous)
+}
+
+/// Whether the batch may follow these primitives. `BadBatch`: some primitive of it breaks a rule, with the place of the
+/// first that does. The rules: each reference is below the primitive's own place; `previous` names a place that is
+/// current among the primitives before; a primitive that is not live has a `previous`; the value is no `Object`, and a
+/// `Moment` lies in the years 0000 to 9999; the primitive's moment is the batch's, and at most `MAX_MOMENT`; the place
+/// is below `MAX_PRIMS`; the primitive is among the first `MAX_BATCH` of its batch. It takes no memory.
+pub fn is_well_formed(prior: &[Primitive], batch: &Batch) -> Result<(), BadBatch>
+    requires { length prior.now ≤ 2_097_151 }
+    ensures { MatchResult result (λ _. defined.bad_place prior.now batch.now ≡ None)
+        (λ bad. defined.bad_place prior.now batch.now ≡ Some bad.place) }
+{
+    let prims = batch.prims.as_slice();
+    for (i, prim) in prims.iter().enumerate() {
+        if !is_well_placed(prior, &prims[..i], batch.moment, prim) {
+            let place = (prior.len() + i) as u32;
+            return Err(BadBatch { place: Id(place) });
+        }
+    }
+    Ok(())
+}
+
+#[cfg(test)]
+mod tests;
