@@ -1,5 +1,7 @@
 //! Why the bytes of a line ask nothing.
-ghost use Rattle.std.specs.Prelude.{◌≡◌, []};
+ghost use Rattle.std.specs.Prelude.{◌≡◌, [], nat_eq};
+ghost use Rattle.std.specs.Cmp.{partial_equiv_from_equiv};
+ghost use Rattle.std.specs.Cmp.Lexicographic.{pointwise, lists_equiv, nat_list_eq_equiv};
 
 use gd_base::memory::Memory;
 use gd_json::from::JsonFault;
@@ -29,6 +31,20 @@ impl Model for Path {
     ghost view = { λ path. path.names.items };
 }
 
+impl PartialEq for Path {
+    ghost eq = { λ a b. pointwise (pointwise nat_eq) a b };
+
+    ghost laws = { partial_equiv_from_equiv (lists_equiv nat_list_eq_equiv) };
+
+    fn eq(&self, other: &Path) -> bool {
+        self.names == other.names
+    }
+}
+
+impl Eq for Path {
+    ghost laws = { lists_equiv nat_list_eq_equiv };
+}
+
 impl Path {
     /// The path of the root. It takes no memory.
     pub fn root(alloc: Global) -> Path
@@ -48,7 +64,7 @@ impl Path {
 }
 
 /// Why the bytes of a line ask nothing.
-#[derive(Debug, Drop)]
+#[derive(Debug, PartialEq, Eq, Drop)]
 pub enum LineFault {
     /// They are no JSON of this profile.
     Json(JsonFault),

@@ -6,3 +6,5 @@ pub mod forms;
 pub mod line;
 pub mod parts;
 pub mod request;
+#[cfg(test)]
+mod tests;

@@ -22,20 +22,20 @@ pub const LINE_LIMIT: usize = 262_144;
 pub const SESSIONS: u32 = 64;
 
 /// A read: it asks for the objects of this name and for their guids.
-#[derive(Debug, Drop, PartialEq, Eq)]
+#[derive(Debug, PartialEq, Eq, Drop)]
 pub struct ReadRequest {
     pub name: JsonText,
 }
 
 /// A write: it creates an object of this name, and asks for its guid or not.
-#[derive(Debug, Drop, PartialEq, Eq)]
+#[derive(Debug, PartialEq, Eq, Drop)]
 pub struct WriteRequest {
     pub asks_guid: bool,
     pub name: JsonText,
 }
 
 /// A session, from 0 to 63, and what it asks.
-#[derive(Debug, Drop, PartialEq, Eq)]
+#[derive(Debug, PartialEq, Eq, Drop)]
 pub enum Line {
     Read { sid: u32, request: ReadRequest },
     Write { sid: u32, request: WriteRequest },
