@@ -26,7 +26,8 @@ row_inside prims q r = is_inside prims r.object && length r.keys == length q.sor
 
 -- built trees fit a query: each fits its template, and there are not more than rows, for a count none
 abbrev pub trees_inside : List Primitive → Asked → ℕ → Trees → Bool
-trees_inside prims q rows ts = list_all (tree_fits prims (template_of q)) (list_of ts) && (if q.count then length (list_of ts) == 0 else nat_le (length (list_of ts)) rows)
+trees_inside prims q rows ts = list_all (tree_fits prims (template_of q)) (list_of ts)
+    && (if q.count then length (list_of ts) == 0 else nat_le (length (list_of ts)) rows)
 
 -- a walk fits: its links lie below the end, and their values are texts
 abbrev pub walk_inside : List Primitive → Walk → Bool
@@ -36,7 +37,8 @@ walk_inside prims _ = true
 -- what a reading does fits a query: in building, the row is one of them and no member has accepted it; in printing, no more places and ids are printed than the trees have
 abbrev pub body_inside : List Primitive → MembersOf → Asked → ℕ → Body → Bool
 body_inside prims members q rows (scanning s) = scan_fits prims members (template_of q) s
-body_inside prims members q rows (building w ts s) = trees_inside prims q rows ts && nat_le s.iter.place rows && not (is_some s.iter.accepted) && stack_fits prims members (template_of q) s.frames
+body_inside prims members q rows (building w ts s) = trees_inside prims q rows ts && nat_le s.iter.place rows && not (is_some s.iter.accepted)
+    && stack_fits prims members (template_of q) s.frames
 body_inside prims members q rows (printing n ts walks) = trees_inside prims q rows ts && list_all (walk_inside prims) walks
     && nat_le n (trees_count ts) && nat_le (length walks) (page_ids prims q (list_of ts))
 
