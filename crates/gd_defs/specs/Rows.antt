@@ -99,19 +99,20 @@ abbrev pub keys_cmp : List Primitive → List SortKey → List (Option ℕ) → 
 keys_cmp prims [] ks ls = Equal
 keys_cmp prims (s ∷ ss) [] ls = Equal
 keys_cmp prims (s ∷ ss) (k ∷ ks) [] = Equal
-keys_cmp prims (s ∷ ss) (k ∷ ks) (l ∷ ls) = ordering_then (key_cmp s.descending (option_map (key_value prims s) k) (option_map (key_value prims s) l)) (keys_cmp prims ss ks ls)
+keys_cmp prims (s ∷ ss) (k ∷ ks) (l ∷ ls) =
+    ordering_then (key_cmp s.descending (option_map (key_value prims s) k) (option_map (key_value prims s) l)) (keys_cmp prims ss ks ls)
 
 -- the order of rows: by their keys, then by their objects
 abbrev pub row_cmp : List Primitive → List SortKey → Row → Row → Ordering
 row_cmp prims sort a b = ordering_then (keys_cmp prims sort a.keys b.keys) (nat_cmp a.object b.object)
 
--- rows with one more, in front of the first that it precedes
-abbrev pub insert_row : (Row → Row → Ordering) → Row → List Row → List Row
+-- rows, or others in an order, with one more in front of the first that it precedes
+abbrev pub insert_row : {A : Type 0} → (A → A → Ordering) → A → List A → List A
 insert_row cmp r [] = r ∷ []
 insert_row cmp r (s ∷ rows) = if is_lt (cmp r s) then r ∷ s ∷ rows else s ∷ insert_row cmp r rows
 
--- rows put in order among others that are; those that tie stay as they stood
-abbrev pub sorted_onto : (Row → Row → Ordering) → List Row → List Row → List Row
+-- rows, or others, put in order among such that are; those that tie stay as they stood
+abbrev pub sorted_onto : {A : Type 0} → (A → A → Ordering) → List A → List A → List A
 sorted_onto cmp done [] = done
 sorted_onto cmp done (r ∷ rows) = sorted_onto cmp (insert_row cmp r done) rows
 

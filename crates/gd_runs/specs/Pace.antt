@@ -129,7 +129,8 @@ FreezePace members d s k reply (Some r) left = (f : Frozen) → reply ≡ frozen
 abbrev pub Pace : MembersOf → DueOf → State → ℕ → Event → List ℕ → State → Left → Left → Type 0
 Pace members d s k (begin i r) reply t a b = b ≡ (if says_of (t.sessions i).reading k (codes "begun") reply then renewed d t i a else a)
 Pace members d s k (thaw i r bytes) reply t a b = b ≡ (if says_of (t.sessions i).reading k (codes "thawed") reply then renewed d t i a else a)
-Pace members d s k (slice i budget) reply t a b = MatchBool (says_of (s.sessions i).reading k (codes "unfinished") reply) ((budget ≤ a i) × (b ≡ with_left a i (a i - budget))) (b ≡ a)
+Pace members d s k (slice i budget) reply t a b =
+    MatchBool (says_of (s.sessions i).reading k (codes "unfinished") reply) ((budget ≤ a i) × (b ≡ with_left a i (a i - budget))) (b ≡ a)
 Pace members d s k (freeze i) reply t a b = FreezePace members d s k reply (s.sessions i).reading (a i) × (b ≡ a)
 Pace members d s k e reply t a b = b ≡ a
 
