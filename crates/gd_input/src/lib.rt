@@ -1,0 +1,7 @@
+//! The lines and rounds of an input.
+#![tactic(auto)]
+
+pub mod fault;
+pub mod line;
+pub mod reader;
+// pub mod round;
