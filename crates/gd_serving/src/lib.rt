@@ -1,0 +1,2 @@
+//! What a line of input comes to, on one thread.
+#![tactic(auto)]
