@@ -1,7 +1,7 @@
 -- What one call more makes of a disk in memory.
 use Rattle.std.proofs.Common.{◌≡◌, ◌⊎◌, inl, inr, ℕ, zero, suc, ◌+◌, ◌≤◌, min, List, [], ◌∷◌, ◌++◌, length, take, drop, Option, Some, refl, sym, ◌∙◌, ap, subst, arith, length-append, length-take, length-drop}
 use Rattle.std.proofs.lemmas.List.{take-append-le, drop-append-le, take_all, drop_all, take_at, drop_at, take-take, length-take-le, append-nil, append_assoc}
-use Rattle.gd_bytes.specs.Disk.{written, Torn, Cut, Tells, Follows, Stays, Elapses}
+use Rattle.gd_bytes.specs.Disk.{written, Torn, Cut, Tells, Follows, Only, Stays, Elapses}
 use Rattle.gd_disk.specs.Recorded.{Made, wrote, cut_to, synced, held, left, left_since}
 use Rattle.gd_disk.specs.Laws.{held_left}
 use Rattle.gd_disk.specs.Calls.{made_of, written_by}
@@ -79,9 +79,10 @@ follows_cut first made new n le is =
     there c (inl whole) = (held first made, held_left first made, subst (λ (l : List ℕ). Cut n (held first made) l) (sym whole) (cut_take n (held first made) le))
     there c (inr part) = part
 
-pub only_synced : (first : List ℕ) (made new : List Made) → new ≡ synced ∷ made → (c : List ℕ) → left first new c → Some (held first new) ≡ Some c
+pub only_synced : (first : List ℕ) (made new : List Made) → new ≡ synced ∷ made → (file : List ℕ) → Some (held first new) ≡ Some file → Only file (left first new)
 only_synced first made new is =
-    subst (λ (l : List Made). (c : List ℕ) → left first l c → Some (held first l) ≡ Some c) (sym is) (λ c has. ap (λ (f : List ℕ). Some f) (sym has))
+    subst (λ (l : List Made). (file : List ℕ) → Some (held first l) ≡ Some file → Only file (left first l)) (sym is)
+    (λ file told c has. let same : held first made ≡ file = cc in has ∙ same)
 
 pub stays_synced : (first : List ℕ) (made new : List Made) → new ≡ synced ∷ made → Stays (Some (held first made)) (Some (held first new)) (left first made) (left first new)
 stays_synced first made new is =

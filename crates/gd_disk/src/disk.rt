@@ -2,7 +2,7 @@
 ghost use Rattle.std.specs.Prelude.{◌≡◌, ◌+◌, ◌≤◌, List, ℕ, Option, Some, length, take, IfOk, OnOk};
 ghost use Rattle.std.specs.Option.{ForSome};
 ghost use Rattle.gd_base.specs.Counts.{HasCause};
-ghost use Rattle.gd_bytes.specs.Disk.{part, Written, Shortened, Torn, Cut, Tells, Follows, Stays, Elapses};
+ghost use Rattle.gd_bytes.specs.Disk.{part, Written, Shortened, Torn, Cut, Tells, Follows, Only, Stays, Elapses};
 
 use crate::Failed;
 use gd_base::memory::Memory;
@@ -88,7 +88,7 @@ pub trait Disk {
     /// no more certain than before.
     fn sync(&mut self) -> Result<(), Failed>
         requires { 1 ≤ calls_left self.old }
-        ensures durable { OnOk result ((c : List ℕ) → images self.new c → content self.new ≡ Some c) }
+        ensures durable { OnOk result (ForSome (content self.new) (λ file. Only file (images self.new))) }
         ensures stays { Stays (content self.old) (content self.new) (images self.old) (images self.new) }
         ensures time { Elapses (moment self.old) (moment self.new)
             (images_since self.old) (images_since self.new) (images self.new) }

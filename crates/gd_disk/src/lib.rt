@@ -2,7 +2,9 @@
 #![tactic(auto)]
 
 pub mod disk;
+pub mod file_disk;
 pub mod memory_disk;
+pub mod shelf;
 
 /// The disk or the shelf failed.
 #[derive(Clone, Copy, Debug, PartialEq, Eq)]

@@ -2,7 +2,7 @@
 ghost use Rattle.std.specs.Prelude.{◌≡◌, ◌+◌, ◌-◌, ◌^◌, ◌<◌, ◌≤◌, ◌↔◌, ◌∷◌, ◌++◌, [], List, ℕ, min, length, take, Some, Contains, vec_len, vec_capacity, is_ok, if◌then◌else◌, IsErr, OnOk, IfOk, OnErr};
 ghost use Rattle.std.specs.Option.{ForSome};
 ghost use Rattle.gd_base.specs.Counts.{HasCause};
-ghost use Rattle.gd_bytes.specs.Disk.{part, written, Written, Shortened, Torn, Cut, Tells, Follows, Stays, Elapses};
+ghost use Rattle.gd_bytes.specs.Disk.{part, written, Written, Shortened, Torn, Cut, Tells, Follows, Only, Stays, Elapses};
 ghost use Rattle.gd_disk.specs.Recorded.{wrote, cut_to, synced, held, content_of, images_of, images_since_of, IsNumbered};
 ghost use Rattle.gd_disk.specs.Laws.{reads_one_law, counts_now_law, only_now_law};
 
@@ -71,6 +71,20 @@ impl MemoryDisk {
             number: 0,
             faults: 0,
         })
+    }
+
+    /// How many calls failed.
+    pub fn faults(&self) -> u64
+        ensures { result ≡ self.now.faults }
+    {
+        self.faults
+    }
+
+    /// The same file, whose failures are counted anew.
+    pub(crate) fn with_no_faults(self) -> MemoryDisk
+        ensures { result ≡ record self { faults = 0 } }
+    {
+        MemoryDisk { faults: 0, ..self }
     }
 
     /// The file as a read gives it.
@@ -241,8 +255,7 @@ impl Disk for MemoryDisk {
 
     fn sync(&mut self) -> Result<(), Failed>
         requires { 1 ≤ self.old.calls_left }
-        ensures durable { OnOk result ((c : List ℕ) → images_of self.new c
-            → content_of self.new ≡ Some c) }
+        ensures durable { OnOk result (ForSome (content_of self.new) (λ file. Only file (images_of self.new))) }
         ensures stays { Stays (content_of self.old) (content_of self.new)
             (images_of self.old) (images_of self.new) }
         ensures time { Elapses (length self.old.made) (length self.new.made) (images_since_of self.old)
