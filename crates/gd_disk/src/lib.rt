@@ -4,6 +4,7 @@
 pub mod disk;
 pub mod file_disk;
 pub mod memory_disk;
+pub mod memory_shelf;
 pub mod shelf;
 
 /// The disk or the shelf failed.

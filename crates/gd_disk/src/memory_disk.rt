@@ -96,7 +96,7 @@ impl MemoryDisk {
 }
 
 /// Counts a call, and fails where its number is one of those that are to fail.
-fn meet(failing: &[u64], number: &mut u64, faults: &mut u64) -> Result<(), Failed>
+pub(crate) fn meet(failing: &[u64], number: &mut u64, faults: &mut u64) -> Result<(), Failed>
     ensures number { number.new ≡ min (number.old + 1) (2 ^ 64 - 1) }
     ensures fails { IsErr result ↔ Contains failing.now number.old }
     ensures faults { faults.new ≡ (if is_ok result then faults.old else min (faults.old + 1) (2 ^ 64 - 1)) }

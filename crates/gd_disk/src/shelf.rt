@@ -2,15 +2,42 @@
 ghost use Rattle.std.specs.Prelude.{◌≡◌, ◌≢◌, ◌+◌, ◌-◌, ◌^◌, ◌≤◌, ℕ, List, Option, Bool, true, false, min, is_ok, IfOk, OnErr, IsErrOf};
 ghost use Rattle.gd_base.specs.Counts.{Rose};
 ghost use Rattle.gd_bytes.specs.Disk.{HoldsSame};
+ghost use Rattle.gd_disk.specs.declared.shelf.ShelfFault.TheVariants as why;
 
 use crate::disk::Disk;
+use gd_base::memory::Memory;
 use gd_base::text::Text;
+use std::alloc::AllocFailed;
 
 /// Why a file is not opened.
 #[derive(Clone, Copy, Debug, PartialEq, Eq)]
 pub enum ShelfFault {
     Failed,
     Memory,
+}
+
+impl From<crate::Failed> for ShelfFault {
+    ghost from_gives = { λ _ fault. fault ≡ why.Failed };
+
+    fn from(_fault: crate::Failed) -> ShelfFault {
+        ShelfFault::Failed
+    }
+}
+
+impl From<Memory> for ShelfFault {
+    ghost from_gives = { λ _ fault. fault ≡ why.Memory };
+
+    fn from(_refused: Memory) -> ShelfFault {
+        ShelfFault::Memory
+    }
+}
+
+impl<T: Drop> From<AllocFailed<T>> for ShelfFault {
+    ghost from_gives = { λ _ fault. fault ≡ why.Memory };
+
+    fn from(_refused: AllocFailed<T>) -> ShelfFault {
+        ShelfFault::Memory
+    }
 }
 
 /// Files by their paths. A path is out from the call that opens it to the call that puts its device back.
