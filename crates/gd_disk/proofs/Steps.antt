@@ -1,6 +1,6 @@
 -- What one call more makes of a disk in memory.
-use Rattle.std.proofs.Common.{◌≡◌, ◌⊎◌, inl, inr, ℕ, zero, suc, ◌+◌, ◌≤◌, min, List, [], ◌∷◌, ◌++◌, length, take, drop, Option, Some, refl, sym, ◌∙◌, ap, subst, arith, length-append, length-take, length-drop}
-use Rattle.std.proofs.lemmas.List.{take-append-le, drop-append-le, take_all, drop_all, take_at, drop_at, take-take, length-take-le, append-nil, append_assoc}
+use Rattle.std.proofs.Common.{◌≡◌, ◌⊎◌, inl, inr, ℕ, zero, suc, ◌+◌, ◌≤◌, List, [], ◌∷◌, ◌++◌, length, take, drop, Some, refl, sym, ◌∙◌, ap, subst, arith, length-append, length-take, length-drop}
+use Rattle.std.proofs.lemmas.List.{take-append-le, drop-append-le, take_all, drop_at, take-take, length-take-le, append_assoc}
 use Rattle.gd_bytes.specs.Disk.{written, Torn, Cut, Tells, Follows, Only, Stays, Elapses}
 use Rattle.gd_disk.specs.Recorded.{Made, wrote, cut_to, synced, held, left, left_since}
 use Rattle.gd_disk.specs.Laws.{held_left}

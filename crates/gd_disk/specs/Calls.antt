@@ -1,6 +1,6 @@
 -- How a disk in memory keeps its calls: in order, and the bytes of the writes one behind the other.
-use Rattle.std.specs.Prelude.{◌≡◌, ℕ, ◌+◌, List, [], ◌∷◌, length, take, drop}
-use Rattle.gd_disk.specs.Recorded.{Made, wrote, cut_to, synced, held}
+use Rattle.std.specs.Prelude.{ℕ, ◌+◌, List, [], ◌∷◌, take, drop}
+use Rattle.gd_disk.specs.Recorded.{Made, wrote, cut_to, synced}
 use Rattle.gd_disk.specs.declared.memory_disk.Call.{Call}
 use Rattle.gd_disk.specs.declared.memory_disk.Call.TheVariants.{Write, Cut, Sync}
 

@@ -2,3 +2,4 @@ pub mod Recorded
 pub mod Calls
 pub mod Laws
 pub mod Shelved
+pub mod FileShelf

@@ -3,6 +3,7 @@
 
 pub mod disk;
 pub mod file_disk;
+pub mod file_shelf;
 pub mod memory_disk;
 pub mod memory_shelf;
 pub mod shelf;

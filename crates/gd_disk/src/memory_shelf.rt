@@ -1,5 +1,6 @@
 //! A shelf in memory, whose failures are chosen.
 ghost use Rattle.std.specs.Prelude.{◌≡◌, ◌≢◌, ◌+◌, ◌-◌, ◌^◌, ◌≤◌, ◌<◌, ◌↔◌, ◌∷◌, [], ℕ, List, Some, None, true, false, min, vec_len, is_ok, IfOk, OnOk, OnErr, IsErr, IsErrOf, Contains, position, bytes_eq, length, option_map};
+ghost use Rattle.std.specs.Option.{ForSome};
 ghost use Rattle.gd_base.specs.Counts.{Rose};
 ghost use Rattle.gd_bytes.specs.Disk.{HoldsSame};
 ghost use Rattle.gd_disk.specs.Recorded.{content_of, images_of};
@@ -133,6 +134,9 @@ impl Shelf for MemoryShelf {
         ensures later { self.old.faults ≤ self.new.faults }
         ensures cause { IsErrOf result ShelfFault.Failed → Rose self.old.faults self.new.faults }
         ensures tried { IsTried self.old self.new result }
+        // It is the very disk that was kept.
+        ensures kept { IfOk result (λ device. ForSome (slot_at self.old.slots path.now) (λ kept. ForSome kept (λ disk.
+            device ≡ record disk { faults = 0 }))) }
     {
         meet(&self.failing, &mut self.number, &mut self.faults)?;
         match replace_at(&mut self.slots, path, None) {
@@ -146,7 +150,18 @@ impl Shelf for MemoryShelf {
         }
     }
 
-    fn put_back(&mut self, path: &Text, device: MemoryDisk) {
+    fn put_back(&mut self, path: &Text, device: MemoryDisk)
+        requires { is_out_in (slot_at self.old.slots path.now) ≡ true }
+        ensures holds { HoldsSame (content_of device) (content_in (slot_at self.new.slots path.now))
+            (images_of device) (images_in (slot_at self.new.slots path.now)) }
+        ensures back { is_out_in (slot_at self.new.slots path.now) ≡ false }
+        ensures others { (other : List ℕ) → other ≢ path.now → HoldsSame
+            (content_in (slot_at self.old.slots other)) (content_in (slot_at self.new.slots other))
+            (images_in (slot_at self.old.slots other)) (images_in (slot_at self.new.slots other))
+            × (is_out_in (slot_at self.new.slots other) ≡ is_out_in (slot_at self.old.slots other)) }
+        ensures count { self.new.faults ≡ min (self.old.faults + device.faults) (2 ^ 64 - 1) }
+        ensures kept { slot_at self.new.slots path.now ≡ Some (Some device) }
+    {
         self.faults = self.faults.saturating_add(device.faults());
         let _ = replace_at(&mut self.slots, path, Some(device));
     }

@@ -4,10 +4,11 @@ ghost use Rattle.gd_base.specs.Counts.{Rose};
 ghost use Rattle.gd_bytes.specs.Disk.{HoldsSame};
 ghost use Rattle.gd_disk.specs.declared.shelf.ShelfFault.TheVariants as why;
 
+use crate::Failed;
 use crate::disk::Disk;
 use gd_base::memory::Memory;
 use gd_base::text::Text;
-use std::alloc::AllocFailed;
+use std::alloc::AllocError;
 
 /// Why a file is not opened.
 #[derive(Clone, Copy, Debug, PartialEq, Eq)]
@@ -16,10 +17,10 @@ pub enum ShelfFault {
     Memory,
 }
 
-impl From<crate::Failed> for ShelfFault {
+impl From<Failed> for ShelfFault {
     ghost from_gives = { λ _ fault. fault ≡ why.Failed };
 
-    fn from(_fault: crate::Failed) -> ShelfFault {
+    fn from(_fault: Failed) -> ShelfFault {
         ShelfFault::Failed
     }
 }
@@ -32,10 +33,10 @@ impl From<Memory> for ShelfFault {
     }
 }
 
-impl<T: Drop> From<AllocFailed<T>> for ShelfFault {
+impl From<AllocError> for ShelfFault {
     ghost from_gives = { λ _ fault. fault ≡ why.Memory };
 
-    fn from(_refused: AllocFailed<T>) -> ShelfFault {
+    fn from(_refused: AllocError) -> ShelfFault {
         ShelfFault::Memory
     }
 }

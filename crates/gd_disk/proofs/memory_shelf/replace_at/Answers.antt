@@ -1,4 +1,4 @@
-use Rattle.std.proofs.Common.{rules, ◌≡◌, Option, Some, option_map, List, ℕ, bytes_eq, sym, ◌∙◌, ap}
+use Rattle.std.proofs.Common.{rules, Option, Some, option_map, List, bytes_eq, sym, ◌∙◌, ap}
 use Rattle.std.specs.List.{position}
 use Rattle.gd_disk.specs.Recorded.{Recorded}
 use Rattle.gd_disk.specs.declared.memory_shelf.Slot.{Slot}

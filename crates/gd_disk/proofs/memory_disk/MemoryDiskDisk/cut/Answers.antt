@@ -1,6 +1,6 @@
-use Rattle.std.proofs.Common.{◌≡◌, ◌≤◌, [], ◌∷◌, ◌++◌, List, length, take, refl, sym, ◌∙◌, ap, subst, arith}
-use Rattle.gd_bytes.specs.Disk.{Shortened, Cut, Tells}
-use Rattle.gd_disk.specs.Recorded.{Recorded, Made, cut_to, held}
+use Rattle.std.proofs.Common.{◌≤◌, [], List, length, take, refl, sym, ◌∙◌, ap, subst, arith}
+use Rattle.gd_bytes.specs.Disk.{Shortened, Cut}
+use Rattle.gd_disk.specs.Recorded.{Recorded, Made, held}
 use Rattle.gd_disk.specs.Calls.{made_of, written_by}
 use Rattle.gd_disk.proofs.Steps.{cut_more, elapses_more, follows_cut, tells_some, cut_take, written_by-push}
 use Rattle.gd_disk.specs.declared.memory_disk.Call.TheVariants.{Cut as CutCall}

@@ -1,6 +1,5 @@
-use Rattle.std.proofs.Common.{◌≡◌, [], ◌∷◌, ◌++◌, List, ℕ, Some, refl, sym, ◌∙◌, ap, subst, arith}
-use Rattle.gd_bytes.specs.Disk.{Stays}
-use Rattle.gd_disk.specs.Recorded.{Made, synced, held, left}
+use Rattle.std.proofs.Common.{[], List, sym, ◌∙◌, ap, arith}
+use Rattle.gd_disk.specs.Recorded.{Made, held}
 use Rattle.gd_disk.specs.Calls.{made_of, written_by}
 use Rattle.gd_disk.proofs.Steps.{sync_more, elapses_more, stays_synced, only_synced, written_by-push}
 use Rattle.gd_disk.specs.declared.memory_disk.Call.TheVariants.{Sync}

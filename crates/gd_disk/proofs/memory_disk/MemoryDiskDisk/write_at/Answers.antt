@@ -1,6 +1,6 @@
-use Rattle.std.proofs.Common.{◌≡◌, ◌≤◌, [], ◌∷◌, ◌++◌, List, length, refl, sym, ◌∙◌, ap, subst, arith, length-append}
-use Rattle.gd_bytes.specs.Disk.{written, Written, Torn, Tells}
-use Rattle.gd_disk.specs.Recorded.{Recorded, Made, wrote, held}
+use Rattle.std.proofs.Common.{◌≤◌, [], List, length, refl, sym, ◌∙◌, ap, subst, arith, length-append}
+use Rattle.gd_bytes.specs.Disk.{written, Written, Torn}
+use Rattle.gd_disk.specs.Recorded.{Recorded, Made, held}
 use Rattle.gd_disk.specs.Calls.{made_of, written_by}
 use Rattle.gd_disk.proofs.Steps.{write_more, elapses_more, follows_write, tells_some, torn_written, written_by-push}
 use Rattle.gd_disk.specs.declared.memory_disk.Call.TheVariants.{Write}
