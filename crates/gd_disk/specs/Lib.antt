@@ -3,3 +3,4 @@ pub mod Calls
 pub mod Laws
 pub mod Shelved
 pub mod FileShelf
+pub mod Runs

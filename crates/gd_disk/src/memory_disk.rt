@@ -50,7 +50,8 @@ impl Model for MemoryDisk {
       bytes_left = min (vec_capacity d.kept - vec_len d.kept) (vec_capacity d.bytes - vec_len d.bytes);
     } };
 
-    ghost invariant = { λ d. (d.bytes.items ≡ held d.first.items (made_of d.kept.items d.calls.items [])) × (written_by d.calls.items ≡ length d.kept.items) };
+    ghost invariant = { λ d. (d.bytes.items ≡ held d.first.items (made_of d.kept.items d.calls.items []))
+        × (written_by d.calls.items ≡ length d.kept.items) };
 }
 
 impl MemoryDisk {
@@ -218,14 +219,12 @@ impl Disk for MemoryDisk {
         ensures numbered { IsNumbered self.old self.new result }
         ensures made { OnOk result (self.new.made ≡ wrote at bytes.now ∷ self.old.made) }
     {
+        let call = Call::Write {
+            at,
+            len: bytes.len() as u64,
+        };
         meet(&self.failing, &mut self.number, &mut self.faults)?;
-        note(
-            &mut self.calls,
-            Call::Write {
-                at,
-                len: bytes.len() as u64,
-            },
-        );
+        note(&mut self.calls, call);
         keep(&mut self.kept, bytes);
         overwrite(&mut self.bytes, at as usize, bytes);
         Ok(())
