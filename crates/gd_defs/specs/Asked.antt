@@ -64,7 +64,7 @@ abbrev pub own_expects : Own → Expects
 own_expects its_timestamp = a_value of_datetime
 own_expects _ = an_object_of_system
 
--- a computed word takes an operator
+-- a computed word takes this operator
 abbrev pub takes : Own → Operator → Bool
 takes its_link _ = false
 takes its_namespace query.one_of = false

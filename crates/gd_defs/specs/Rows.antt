@@ -33,7 +33,7 @@ own_datum prims its_namespace link o = object_datum (end_at (λ p. p.right) prim
 abbrev pub far : List Primitive → Property → ℕ → ℕ
 far prims p link = unwrap_or (far_end prims p link) 0
 
--- a mode is met, where an answer is found or not
+-- a mode is met: required where an answer is found, forbidden where none is, optional ever
 abbrev pub meets_mode : Mode → Bool → Bool
 meets_mode required found = found
 meets_mode optional found = true
@@ -77,7 +77,7 @@ key_value prims s place = by s.key
     by by_timestamp = timestamp prims place
     by (by_property p) = value_at prims place
 
--- the order of two keys, where a missing one comes last, also downward
+-- the order of two keys, upward or downward, where a missing one comes last in both
 abbrev pub key_cmp : Bool → Option Datum → Option Datum → Ordering
 key_cmp descending None None = Equal
 key_cmp descending None (Some b) = Greater

@@ -12,7 +12,7 @@ use Rattle.gd_defs.specs.Asked.Parts.{Style, as_operand, as_value, as_name, as_i
 abbrev pub name_property : Property
 name_property = record { stored = name_place; reversed = false; expected = Some text_place; unique = true }
 
--- what a member asks of a property that asks nothing else: the first answers, up to 100, as they stand
+-- what a member asks of a property where nothing else is said: its answers as they stand, up to 100
 abbrev pub bare_asking : Property → Style → Asking
 bare_asking p style = record { property = p; test = anything; mode = optional; given = false; counted = true; style = style; listed = false; single = false; sort = []; limit = 100 }
 
@@ -41,13 +41,13 @@ abbrev pub counts : Expects → Bool
 counts a_plain_object = false
 counts _ = true
 
--- null, or [] where a list is asked for
+-- the member that null asks, or [] where a list is asked for
 abbrev pub ask_form : List ℕ → Property → Bool → Members → Members
 ask_form name p listed rest = asks name
     (record (bare_asking p (style_of (expects_of p.expected))) { counted = counts (expects_of p.expected); listed = listed; single = not listed })
     (own_clause (expects_of p.expected)) rest
 
--- a literal or an operand with its test; of a plain object it tests the name
+-- the member that a literal or an operand asks, with its test; of a plain object it tests the name
 abbrev pub operand_form : List ℕ → Property → Expects → Bool → Json → Test → Members → Members
 operand_form name p a_plain_object literal j t rest = asks name
     (record (bare_asking p (as_operand j)) { mode = required; given = literal; counted = literal })
@@ -64,7 +64,7 @@ mode_of d = unwrap_or d.mode required
 abbrev pub asks_single : Bool → Directives → Bool
 asks_single listed d = not (listed || option_map_or (λ n. n == 1) d.limit false)
 
--- the form {..}, or [{..}] where a list is asked for
+-- the member that {..} asks, or [{..}] where a list is asked for
 abbrev pub clause_form : List ℕ → Property → Directives → Bool → Clause → Members → Members
 clause_form name p d listed c rest = asks name
     (record (bare_asking p as_clause) {

@@ -61,7 +61,7 @@ subject_of s path prims unless_exists ms = by (filter (has_own prims ms) (object
 abbrev pub created_text : Bool → Json
 created_text existed = text (if existed then codes "existed" else codes "created")
 
--- a fact is inserted, unless its object existed
+-- carrying out a fact: it is inserted, unless its object existed
 abbrev pub fact_made : Stamp → List (List ℕ) → List Primitive → Property → Subject → Target → Json → Result (Made Json) ChangeFault
 fact_made s path prims p o t j = if o.existed then Ok (prims, λ final. j) else inserted s path prims p o.object t >>= λ d. Ok (d.0, λ final. j)
 
