@@ -12,11 +12,13 @@ use Rattle.gd_defs.specs.Write.{WriteRequest, ChangeFault, full, exec}
 use Rattle.gd_runs.specs.Request.{Line, read, write, ReadRequest, reply_of, change_refusal}
 use Rattle.gd_runs.specs.Input.{InputFault, line_at, input_fault_line}
 use Rattle.gd_runs.specs.Legal.{Entry, History, size, batches, with_entries, history_bytes, kept_bytes, max_history, exec_line}
-use Rattle.gd_runs.specs.Explained.{Numbered, Run, stored, MayBe, IsExplainedBy, memory_line}
+use Rattle.gd_runs.specs.Explained.{Numbered, Run, MayBe, IsExplainedBy, memory_line}
+use Rattle.gd_runs.specs.Explained.{stored as stored_outcome}
 use Rattle.gd_runs.specs.Built.{is_built, SaysName}
 use Rattle.gd_runs.proofs.Rounds.{some_same, no_some, length_batches}
 use Rattle.gd_runs.proofs.LineMore.{UptoRound, fault_more, memory_more, read_more, refused_more, stored_more, entry_of, run_of}
 use Rattle.gd_serving.specs.Served.{Progress, IsServed, AreUpto}
+use Rattle.gd_serving.specs.Step.{ComesTo, faulty, answered, refused, too_long, stored}
 
 got_map : {A B : Type 0} (f : A → B) (xs : List A) (k : ℕ) (x : A) → slice_get xs k ≡ Some x → slice_get (map f xs) k ≡ Some (f x)
 got_map f [] k x is = no_some is
@@ -118,8 +120,8 @@ module _ (may : ℕ → Bool) (given : List Numbered) (output : List ℕ) (h : H
       record {
         history = with_entries h (entry_of is_built [] may given output h runs ex l here w moment done ∷ []);
         runs = _;
-        explained = subst (λ (k : ℕ). IsExplainedBy is_built [] may (given ++ l ∷ []) (output ++ (ok_line (length (batches h) + 1) k done.1 ++ 10 ∷ [])) (with_entries h (entry_of is_built [] may given output h runs ex l here w moment done ∷ [])) (runs ++ run_of l (stored (size h)) (ok_line (size h + 1) (length runs) done.1) ∷ [])) count
-            (subst (λ (n : ℕ). IsExplainedBy is_built [] may (given ++ l ∷ []) (output ++ (ok_line (n + 1) (length runs) done.1 ++ 10 ∷ [])) (with_entries h (entry_of is_built [] may given output h runs ex l here w moment done ∷ [])) (runs ++ run_of l (stored (size h)) (ok_line (size h + 1) (length runs) done.1) ∷ [])) sized explained);
+        explained = subst (λ (k : ℕ). IsExplainedBy is_built [] may (given ++ l ∷ []) (output ++ (ok_line (length (batches h) + 1) k done.1 ++ 10 ∷ [])) (with_entries h (entry_of is_built [] may given output h runs ex l here w moment done ∷ [])) (runs ++ run_of l (stored_outcome (size h)) (ok_line (size h + 1) (length runs) done.1) ∷ [])) count
+            (subst (λ (n : ℕ). IsExplainedBy is_built [] may (given ++ l ∷ []) (output ++ (ok_line (n + 1) (length runs) done.1 ++ 10 ∷ [])) (with_entries h (entry_of is_built [] may given output h runs ex l here w moment done ∷ [])) (runs ++ run_of l (stored_outcome (size h)) (ok_line (size h + 1) (length runs) done.1) ∷ [])) sized explained);
         stored = batches_with (entry_of is_built [] may given output h runs ex l here w moment done);
         numbered = one_more given l;
         counted = bytes_with (entry_of is_built [] may given output h runs ex l here w moment done);
@@ -195,3 +197,20 @@ stored_served may given output p l sid w moment done s upto = moved (λ bs k kep
         → SaysName (prims_at (bs ++ done.0 ∷ []) (length (bs ++ done.0 ∷ [])))
         → IsServed may (given ++ l ∷ []) (output ++ (ok_line (length bs + 1) k done.1 ++ 10 ∷ [])) (record { batches = bs ++ done.0 ∷ []; lines = k + 1; kept = kept + kept_bytes (length l.bytes) done.1 }))
     may given output p s (λ says. stored_at may given output s.history s.runs s.explained says l upto sid w moment done)
+
+-- ---- any line
+
+-- the progress with the next line's number
+abbrev pub next : Progress → Progress
+next p = record { batches = p.batches; lines = p.lines + 1; kept = p.kept }
+
+-- what one line comes to, the served run comes to
+pub comes_served : (may : ℕ → Bool) (given : List Numbered) (output : List ℕ) (p q : Progress) (l : Numbered) (reply : List ℕ) → IsServed may given output p → AreUpto given l.round
+    → SaysName (prims_at q.batches (length q.batches)) → ComesTo may p l.bytes reply q → IsServed may (given ++ l ∷ []) (output ++ (reply ++ 10 ∷ [])) (next q)
+comes_served may given output p q l reply s upto says (faulty f is prints leaves) = rw (prints, leaves) (fault_served may given output p l f s upto is)
+comes_served may given output p q l reply s upto says (answered sid r is prints leaves) = rw (prints, leaves) (read_served may given output p l sid r s upto is)
+comes_served may given output p q l reply s upto says (refused sid w moment f is does prints leaves) = rw (prints, leaves) (refused_served may given output p l sid w moment f s upto is does)
+comes_served may given output p q l reply s upto says (too_long sid w moment done is does above prints leaves) = rw (prints, leaves) (full_served may given output p l sid w moment done s upto is does above)
+comes_served may given output p q l reply s upto says (stored sid w moment done is does within may_be prints leaves) =
+    let says_more : SaysName (prims_at (p.batches ++ done.0 ∷ []) (length (p.batches ++ done.0 ∷ []))) = subst (λ (x : Progress). SaysName (prims_at x.batches (length x.batches))) leaves says in
+    rw (prints, leaves) (stored_served may given output p l sid w moment done s upto is does within may_be says_more)
