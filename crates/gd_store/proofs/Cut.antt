@@ -131,7 +131,7 @@ cut-take start prims rs last zero rises = refl
 cut-take start prims [] last (suc n) rises = refl
 cut-take start prims (r ∷ rs) last (suc n) rises =
     ap (λ ps. record { moment = r.moment; prims = ps } ∷ cut r.end (take (end_after r.end rs n) prims) (take n rs))
-        (part-take start r.end (end_after r.end rs n) prims rises.0 (end_after_le r.end rs last n rises.1).0)
+    (part-take start r.end (end_after r.end rs n) prims rises.0 (end_after_le r.end rs last n rises.1).0)
     ∙ ap (λ bs. part r.moment start r.end prims ∷ bs) (cut-take r.end prims rs last n rises.1)
 
 -- there is a batch for each request

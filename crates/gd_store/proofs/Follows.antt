@@ -34,7 +34,7 @@ follows_snoc prims before n m [] b is_before is h may =
     both _ _ (ap (λ ps. may_follow ps n b) same ∙ ap (λ k. may_follow before k b) number ∙ may) refl
 follows_snoc prims before n m (c ∷ bs) b is_before is h may =
     both _ _ (first _ _ h) (follows_snoc (prims ++ c.prims) before (n + 1) m bs b
-        (is_before ∙ sym (append_assoc prims c.prims (flat_map (λ b. b.prims) bs))) (omega arith) (second _ _ h) may)
+    (is_before ∙ sym (append_assoc prims c.prims (flat_map (λ b. b.prims) bs))) (omega arith) (second _ _ h) may)
 
 pub follows_more : (prims before : List Primitive) (m : ℕ) (bs : List Batch) (b : Batch) → before ≡ prims ++ flat_map (λ b. b.prims) bs → m ≡ length bs
     → all_follow prims 0 bs ≡ true → may_follow before m b ≡ true → all_follow prims 0 (bs ++ b ∷ []) ≡ true
