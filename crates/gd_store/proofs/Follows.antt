@@ -1,11 +1,11 @@
 -- Batches that may follow one another.
-use Rattle.std.proofs.Common.{◌≡◌, ℕ, zero, suc, ◌+◌, List, [], ◌∷◌, ◌++◌, length, take, drop, refl, sym, ap, ◌∙◌, append_assoc, subst, arith}
+use Rattle.std.proofs.Common.{◌≡◌, ℕ, zero, suc, ◌+◌, List, [], ◌∷◌, ◌++◌, length, take, refl, sym, ap, ◌∙◌, append_assoc, subst, arith}
 use Rattle.std.specs.Prelude.{Bool, true, false, ◌&&◌, flat_map, Option, Some, None, if◌then◌else◌, nat_lt, sum_by, ◌≤◌, not, is_some, slice_get}
 use Rattle.std.proofs.lemmas.Bool.{ltb-false}
 use Rattle.gd_prim.specs.declared.What.{What}
 use Rattle.gd_prim.specs.declared.What.TheVariants as what
 use Rattle.gd_prim.specs.Limits.{Count, limits, first_full, text_bytes, max_batch, max_prims, max_text, max_requests}
-use Rattle.std.proofs.lemmas.List.{append-nil, take-append-drop}
+use Rattle.std.proofs.lemmas.List.{append-nil}
 use Rattle.gd_prim.specs.declared.Primitive.{Primitive}
 use Rattle.gd_prim.specs.declared.Batch.{Batch}
 use Rattle.gd_prim.specs.WellFormed.{may_follow, all_follow}

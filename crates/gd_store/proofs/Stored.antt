@@ -1,12 +1,12 @@
 -- What the fields of a store say of its batches.
 use Rattle.std.proofs.Common.{◌≡◌, ℕ, ◌+◌, ◌-◌, ◌<◌, ◌≤◌, get_or, List, [], ◌∷◌, ◌++◌, length, take, drop, refl, sym, ap, ◌∙◌, length-append, subst, arith}
-use Rattle.std.specs.Prelude.{flat_map, None, Some, sum_by, not, is_some, option_map, slice_get}
+use Rattle.std.specs.Prelude.{flat_map, true, None, Some, sum_by, not, is_some, option_map, slice_get}
 use Rattle.std.proofs.lemmas.List.{take-append-le, take-take, length-take-le}
 use Rattle.std.proofs.lemmas.List.Sums.{sum_by-append, sum_by-take-drop}
 use Rattle.gd_prim.specs.declared.Primitive.{Primitive}
 use Rattle.gd_prim.specs.declared.Batch.{Batch}
 use Rattle.gd_prim.specs.Builtin.{builtin}
-use Rattle.gd_prim.specs.History.{prims_of, prims_at}
+use Rattle.gd_prim.specs.History.{prims_of, prims_at, is_history}
 use Rattle.gd_prim.specs.Limits.{text_bytes, limits, first_full}
 use Rattle.gd_prim.specs.WellFormed.{bad_place, all_follow}
 use Rattle.gd_store.specs.declared.store.Request.{Request}
@@ -28,6 +28,11 @@ pub all_of_batches : (prims : List Primitive) (requests : List Request) (text : 
 unfolding prims_of
 all_of_batches prims requests text stored =
     ap (λ front. front ++ flat_map (λ b. b.prims) (cut 70 prims requests)) (sym stored.begins) ∙ cut_whole 70 prims requests stored.whole
+
+-- and they may follow one another
+pub history_of_batches : (prims : List Primitive) (requests : List Request) (text : ℕ) → IsStored prims requests text → is_history (batches prims requests) ≡ true
+unfolding is_history
+history_of_batches prims requests text stored = stored.follows
 
 -- its front is that of the first ones
 pub front_of_batches : (prims : List Primitive) (requests : List Request) (text n : ℕ) → IsStored prims requests text

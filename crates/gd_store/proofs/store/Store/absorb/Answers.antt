@@ -1,4 +1,4 @@
-use Rattle.std.proofs.Common.{◌≡◌, ℕ, ◌+◌, ◌++◌, ◌∷◌, [], List, None, length, sum_by, refl, sym, ap, ◌∙◌, arith}
+use Rattle.std.proofs.Common.{◌≡◌, ℕ, ◌+◌, ◌++◌, ◌∷◌, [], List, None, length, sum_by, refl, ap, ◌∙◌, arith}
 use Rattle.gd_prim.specs.declared.Primitive.{Primitive}
 use Rattle.gd_prim.specs.declared.Batch.{Batch}
 use Rattle.gd_prim.specs.History.{prims_of}
