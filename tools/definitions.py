@@ -209,6 +209,7 @@ def the_list():
 
 
 def main():
+    """Writes or checks the list."""
     text = the_list()
     if sys.argv[1:] == ["--check"]:
         with open(LIST, encoding="utf-8") as file:

@@ -168,6 +168,7 @@ def content_of(path):
 
 
 def main():
+    """Runs one of the commands of the head of this file."""
     parser = argparse.ArgumentParser(description=__doc__, formatter_class=argparse.RawDescriptionHelpFormatter)
     parser.add_argument("--check", action="store_true")
     parser.add_argument("--lines", action="store_true")
@@ -185,6 +186,9 @@ def main():
         for line, reply in row.pairs:
             sys.stdout.buffer.write((line if given.lines else reply) + b"\n")
         return 0
+    known = {module_of(path) + ".antt" for path in texts()}
+    for name in sorted(set(os.listdir(os.path.join(PROOFS, "rows"))) - known):
+        raise BadText("%s has no text in rows/" % os.path.relpath(os.path.join(PROOFS, "rows", name), TOP))
     stale = 0
     for path, content in files([os.path.abspath(word) for word in given.words] or texts()):
         if content_of(path) == content:

@@ -8,7 +8,6 @@ use gd_base::memory::Memory;
 use std::fs::{File, OpenOptions};
 use std::io;
 use std::marker::Model;
-use std::os::fd::AsRawFd;
 use std::os::unix::fs::FileExt;
 use std::path::Path;
 use std::rt::Files;
@@ -19,7 +18,13 @@ use std::rt::Files;
 pub struct FileDisk {
     file: File,
     folder: File,
-    settled: bool,
+    // the folder is synced
+    named: bool,
+    // between these offsets something was written since the last sync that succeeded
+    from: u64,
+    to: u64,
+    // a sync failed since then
+    failed: bool,
     faults: u64,
 }
 
@@ -45,7 +50,10 @@ impl FileDisk {
         Ok(FileDisk {
             file,
             folder,
-            settled: false,
+            named: false,
+            from: u64::MAX,
+            to: 0,
+            failed: false,
             faults: 0,
         })
     }
@@ -55,6 +63,26 @@ impl FileDisk {
         ensures { result ≡ self.now }
     {
         self.faults
+    }
+
+    /// Syncs the content and the length, and the first time the folder, which has the file's name. Where a sync
+    /// failed, the system may take for written what was not: so that is written again first.
+    fn settle(&mut self) -> io::Result<()>
+        ensures { self.new ≡ self.old }
+    {
+        if self.failed {
+            write_again(&self.file, self.from, self.to)?;
+        }
+        self.failed = true;
+        self.file.sync_data()?;
+        if !self.named {
+            self.folder.sync_all()?;
+        }
+        self.named = true;
+        self.failed = false;
+        self.from = u64::MAX;
+        self.to = 0;
+        Ok(())
     }
 }
 
@@ -85,18 +113,18 @@ fn read_full(file: &File, at: u64, buf: &mut [u8]) -> io::Result<usize>
     Err(io::ErrorKind::Other.into())
 }
 
-/// Syncs the content and the length. Where no sync has succeeded since the file was opened or since one failed, the
-/// folder is synced too, and the system is asked to forget its copies of the file, which a sync that failed may have
-/// left other than the disk has them: so a read gives what the disk has.
-fn settle(file: &File, folder: &File, settled: bool) -> io::Result<()> {
-    file.sync_data()?;
-    if settled {
-        return Ok(());
-    }
-    folder.sync_all()?;
-    let advised = libc::posix_fadvise(file.as_raw_fd(), 0, 0, libc::POSIX_FADV_DONTNEED);
-    if advised != 0 {
-        return Err(io::Error::from_raw_os_error(advised));
+/// Writes bytes of the file over themselves.
+pub(crate) fn write_again(file: &File, from: u64, to: u64) -> io::Result<()> {
+    let mut buf = [0; 4096];
+    let mut at = from;
+    while at < to {
+        let most = (to - at).min(4096) as usize;
+        let count = read_full(file, at, &mut buf[..most])?;
+        if count == 0 {
+            break;
+        }
+        file.write_all_at(&buf[..count], at)?;
+        at += count as u64;
     }
     Ok(())
 }
@@ -152,6 +180,8 @@ impl Disk for FileDisk {
     }
 
     fn write_at(&mut self, at: u64, bytes: &[u8]) -> Result<(), Failed> {
+        self.from = self.from.min(at);
+        self.to = self.to.max(at.saturating_add(bytes.len() as u64));
         counted(self.file.write_all_at(bytes, at), &mut self.faults)
     }
 
@@ -160,8 +190,7 @@ impl Disk for FileDisk {
     }
 
     fn sync(&mut self) -> Result<(), Failed> {
-        let outcome = settle(&self.file, &self.folder, self.settled);
-        self.settled = outcome.is_ok();
+        let outcome = self.settle();
         counted(outcome, &mut self.faults)
     }
 

@@ -1,11 +1,13 @@
 use crate::Failed;
 use crate::disk::Disk;
+use crate::file_disk::write_again;
 use crate::file_shelf::FileShelf;
 use crate::memory_disk::MemoryDisk;
 use crate::memory_shelf::MemoryShelf;
 use crate::shelf::{Shelf, ShelfFault};
 use gd_base::text::Text;
 use std::fs;
+use std::fs::OpenOptions;
 use std::test::Fail;
 
 #[test]
@@ -71,6 +73,9 @@ fn a_real_file_holds_what_is_written(rt: HostRuntime) -> Result<(), Fail> {
     disk.sync()?;
     assert_eq!(rt; fs::read(&rt, PATH)?.as_slice(), b"abXY\0\xff".as_slice());
     shelf.put_back(&path, disk);
+    let file = OpenOptions::new().read(true).write(true).open(&rt, PATH)?;
+    write_again(&file, 1, 9)?;
+    assert_eq!(rt; fs::read(&rt, PATH)?.as_slice(), b"abXY\0\xff".as_slice());
     let mut disk = shelf.open_at(&path)?;
     let mut buf = [7; 5];
     assert_eq!(rt; disk.len()?, 6);

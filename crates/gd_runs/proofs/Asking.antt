@@ -1,13 +1,4 @@
 -- Queries as texts, the same with their words looked up, and two stores to ask.
-use Rattle.std.specs.Fmt.{digits}
-use Rattle.std.specs.Str.{is_utf8, chars}
-use lib.Utf8.{encode}
-use Rattle.std.specs.Float.Numeral.{scan_numeral}
-use Rattle.json.specs.Json.{value}
-use Rattle.json.specs.Lex.{punctuate, lex}
-use Rattle.json.specs.Text.{content}
-use Rattle.json.specs.Word.{word, after_number}
-use Rattle.serde_json.specs.Read.{number_of}
 use Rattle.std.proofs.Common.{ℕ, List, [], ◌∷◌, Result, Ok, Err, Option, Some, None, option_and_then, map, codes}
 use Rattle.gd_prim.specs.declared.Primitive.{Primitive}
 use Rattle.gd_json.specs.Reading.{json_from}
@@ -15,7 +6,7 @@ use Rattle.gd_defs.specs.History.{prims_at}
 use Rattle.gd_defs.specs.Query.{Query, query_of}
 use Rattle.gd_defs.specs.Asked.{Asked, asked_query}
 use Rattle.gd_runs.specs.Input.{line_from}
-use Rattle.gd_runs.proofs.Plain.{run}
+use Rattle.gd_runs.proofs.Plain.{computing, run}
 
 -- the value of a result
 abbrev pub value_of : {A E : Type 0} → Result A E → Option A
@@ -24,7 +15,7 @@ value_of (Err e) = None
 
 -- the query that bytes spell
 unfoldable pub query_from : List ℕ → Option Query
-unfolding value punctuate lex content word after_number number_of scan_numeral is_utf8 chars encode
+unfolding computing
 query_from bytes = option_and_then (λ j. value_of (query_of j)) (value_of (json_from bytes))
 
 -- the same with its words looked up
@@ -62,7 +53,7 @@ type_lines =
 
 -- the primitives that these lines make
 unfoldable pub type_store : List Primitive
-unfolding digits value punctuate lex content word after_number number_of scan_numeral is_utf8 chars encode
+unfolding computing
 type_store = prims_at (run [] 0 (map line_from type_lines)).0 7
 
 -- queries on them

@@ -18,6 +18,11 @@ use Rattle.gd_defs.specs.Write.{ChangeFault}
 use Rattle.gd_runs.specs.Request.{Line, read, write, reply_of, exec_after, write_line}
 use Rattle.gd_runs.specs.Input.{line_from, InputFault, input_fault_line}
 
+-- names what a computation from bytes to bytes looks into: a lemma by computation unfolds this
+unfoldable pub computing : Unit {0}
+unfolding digits value punctuate lex content code_unit short_escape word after_number number_of scan_numeral float_is_finite round is_utf8 chars encode prims_of
+computing = tt
+
 -- the batches after a write
 abbrev pub after_write : List Batch → Result (Batch × Json) ChangeFault → List Batch
 after_write batches (Ok done) = batches ++ done.0 ∷ []
@@ -37,7 +42,7 @@ run batches k (l ∷ ls) = let one : List Batch × List ℕ = after_line batches
 
 -- the replies to lines of bytes
 unfoldable pub replies : List (List ℕ) → List (List ℕ)
-unfolding digits value punctuate lex content code_unit short_escape word after_number number_of scan_numeral float_is_finite round is_utf8 chars encode prims_of
+unfolding computing
 replies lines = (run [] 0 (map line_from lines)).1
 
 -- a line with its reply

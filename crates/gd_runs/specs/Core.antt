@@ -2,7 +2,7 @@
 use Rattle.std.specs.Prelude.{◌≡◌, ℕ, ◌+◌, max, min, List, [], ◌∷◌, ◌++◌, length, Bool, false, ◌==◌, nat_lt, ◌⊎◌, Option, Some, None, Result, Ok, Err, if◌then◌else◌, codes, IsTrue, pos}
 use Rattle.std.specs.Bool.{MatchBool}
 use Rattle.gd_prim.specs.declared.Batch.{Batch}
-use Rattle.gd_tree.specs.Json.{Json, text, number, object, Members as JsonMembers}
+use Rattle.gd_tree.specs.Json.{text, number, object, Members as JsonMembers}
 use Rattle.gd_defs.specs.History.{prims_at}
 use Rattle.gd_bytes.specs.Cursor.{Cursor, cursor_of}
 use Rattle.gd_defs.specs.Asked.{Asked, Unknown, asked_query}

@@ -1,7 +1,7 @@
 -- A run of events, from the bytes read to the bytes written.
 use Rattle.std.specs.Prelude.{◌≡◌, ℕ, ◌+◌, List, [], ◌∷◌, ◌++◌, length, take, bytes_eq, Bool, nat_lt, ◌⊎◌, Option, Some, None, option_and_then, Result, Ok, Err, if◌then◌else◌, codes, pos}
 use Rattle.gd_prim.specs.declared.Batch.{Batch}
-use Rattle.gd_tree.specs.Json.{Json, text, number, object, Members as JsonMembers, no_members as no_json_members, member as json_member}
+use Rattle.gd_tree.specs.Json.{Json, number, object, Members as JsonMembers, no_members as no_json_members, member as json_member}
 use Rattle.gd_grammar.specs.Chain.{◌>>=◌, map_err}
 use Rattle.gd_tree.specs.Look.{get, only, text_of}
 use Rattle.std.specs.Int.{is_in_range}

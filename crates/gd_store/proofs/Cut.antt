@@ -1,11 +1,10 @@
 -- Batches that requests cut out of a list.
 use Rattle.std.proofs.Common.{◌≡◌, ℕ, zero, suc, ◌+◌, ◌-◌, ◌<◌, ◌≤◌, List, [], ◌∷◌, ◌++◌, length, take, drop, get_or, refl, sym, ap, ◌∙◌, append_assoc, length-drop, add-one, arith}
-use Rattle.std.specs.Prelude.{Bool, true, ◌&&◌, flat_map, Option, Some, slice_get}
-use Rattle.std.proofs.lemmas.List.{append-nil, drop-append-le, take-append-le, drop-take, take-take, take_rest, length-take-le}
+use Rattle.std.specs.Prelude.{flat_map, Some, slice_get}
+use Rattle.std.proofs.lemmas.List.{append-nil, drop-append-le, take-append-le, drop-take, take-take, take_rest}
 use Rattle.std.proofs.Math.Seq.{take-add, take-length, drop-append_seam}
 use Rattle.gd_prim.specs.declared.Primitive.{Primitive}
 use Rattle.gd_prim.specs.declared.Batch.{Batch}
-use Rattle.gd_prim.specs.WellFormed.{may_follow, all_follow}
 use Rattle.gd_store.specs.declared.store.Request.{Request}
 use Rattle.gd_store.specs.Stored.{cut, Rises, end_after}
 
@@ -131,7 +130,7 @@ cut-take start prims rs last zero rises = refl
 cut-take start prims [] last (suc n) rises = refl
 cut-take start prims (r ∷ rs) last (suc n) rises =
     ap (λ ps. record { moment = r.moment; prims = ps } ∷ cut r.end (take (end_after r.end rs n) prims) (take n rs))
-        (part-take start r.end (end_after r.end rs n) prims rises.0 (end_after_le r.end rs last n rises.1).0)
+    (part-take start r.end (end_after r.end rs n) prims rises.0 (end_after_le r.end rs last n rises.1).0)
     ∙ ap (λ bs. part r.moment start r.end prims ∷ bs) (cut-take r.end prims rs last n rises.1)
 
 -- there is a batch for each request

@@ -1,11 +1,11 @@
 -- Batches that may follow one another.
-use Rattle.std.proofs.Common.{◌≡◌, ℕ, zero, suc, ◌+◌, List, [], ◌∷◌, ◌++◌, length, take, drop, refl, sym, ap, ◌∙◌, append_assoc, subst, arith}
+use Rattle.std.proofs.Common.{◌≡◌, ℕ, zero, suc, ◌+◌, List, [], ◌∷◌, ◌++◌, length, take, refl, sym, ap, ◌∙◌, append_assoc, subst, arith}
 use Rattle.std.specs.Prelude.{Bool, true, false, ◌&&◌, flat_map, Option, Some, None, if◌then◌else◌, nat_lt, sum_by, ◌≤◌, not, is_some, slice_get}
 use Rattle.std.proofs.lemmas.Bool.{ltb-false}
 use Rattle.gd_prim.specs.declared.What.{What}
 use Rattle.gd_prim.specs.declared.What.TheVariants as what
 use Rattle.gd_prim.specs.Limits.{Count, limits, first_full, text_bytes, max_batch, max_prims, max_text, max_requests}
-use Rattle.std.proofs.lemmas.List.{append-nil, take-append-drop}
+use Rattle.std.proofs.lemmas.List.{append-nil}
 use Rattle.gd_prim.specs.declared.Primitive.{Primitive}
 use Rattle.gd_prim.specs.declared.Batch.{Batch}
 use Rattle.gd_prim.specs.WellFormed.{may_follow, all_follow}
@@ -34,7 +34,7 @@ follows_snoc prims before n m [] b is_before is h may =
     both _ _ (ap (λ ps. may_follow ps n b) same ∙ ap (λ k. may_follow before k b) number ∙ may) refl
 follows_snoc prims before n m (c ∷ bs) b is_before is h may =
     both _ _ (first _ _ h) (follows_snoc (prims ++ c.prims) before (n + 1) m bs b
-        (is_before ∙ sym (append_assoc prims c.prims (flat_map (λ b. b.prims) bs))) (omega arith) (second _ _ h) may)
+    (is_before ∙ sym (append_assoc prims c.prims (flat_map (λ b. b.prims) bs))) (omega arith) (second _ _ h) may)
 
 pub follows_more : (prims before : List Primitive) (m : ℕ) (bs : List Batch) (b : Batch) → before ≡ prims ++ flat_map (λ b. b.prims) bs → m ≡ length bs
     → all_follow prims 0 bs ≡ true → may_follow before m b ≡ true → all_follow prims 0 (bs ++ b ∷ []) ≡ true

@@ -25,7 +25,7 @@ front_of_all bs n =
 pub front_le_all : (bs : List Batch) (n : ℕ) → length (prims_at bs n) ≤ length (prims_of bs)
 front_le_all bs n =
     let split : length (prims_of bs) ≡ length (prims_at bs n) + length (flat_map (λ (b : Batch). b.prims) (drop n bs)) =
-        ap (λ cs. length (prims_of cs)) (sym (take-append-drop n bs)) ∙ ap length (prims_of-append (take n bs) (drop n bs)) ∙ length-append (prims_at bs n) (flat_map (λ b. b.prims) (drop n bs)) in
+    ap (λ cs. length (prims_of cs)) (sym (take-append-drop n bs)) ∙ ap length (prims_of-append (take n bs) (drop n bs)) ∙ length-append (prims_at bs n) (flat_map (λ b. b.prims) (drop n bs)) in
     omega arith
 
 -- before the first request there are the built-in ones

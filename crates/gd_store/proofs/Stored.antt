@@ -1,12 +1,12 @@
 -- What the fields of a store say of its batches.
 use Rattle.std.proofs.Common.{◌≡◌, ℕ, ◌+◌, ◌-◌, ◌<◌, ◌≤◌, get_or, List, [], ◌∷◌, ◌++◌, length, take, drop, refl, sym, ap, ◌∙◌, length-append, subst, arith}
-use Rattle.std.specs.Prelude.{flat_map, None, Some, sum_by, not, is_some, option_map, slice_get}
+use Rattle.std.specs.Prelude.{flat_map, true, None, Some, sum_by, not, is_some, option_map, slice_get}
 use Rattle.std.proofs.lemmas.List.{take-append-le, take-take, length-take-le}
 use Rattle.std.proofs.lemmas.List.Sums.{sum_by-append, sum_by-take-drop}
 use Rattle.gd_prim.specs.declared.Primitive.{Primitive}
 use Rattle.gd_prim.specs.declared.Batch.{Batch}
 use Rattle.gd_prim.specs.Builtin.{builtin}
-use Rattle.gd_prim.specs.History.{prims_of, prims_at}
+use Rattle.gd_prim.specs.History.{prims_of, prims_at, is_history}
 use Rattle.gd_prim.specs.Limits.{text_bytes, limits, first_full}
 use Rattle.gd_prim.specs.WellFormed.{bad_place, all_follow}
 use Rattle.gd_store.specs.declared.store.Request.{Request}
@@ -28,6 +28,11 @@ pub all_of_batches : (prims : List Primitive) (requests : List Request) (text : 
 unfolding prims_of
 all_of_batches prims requests text stored =
     ap (λ front. front ++ flat_map (λ b. b.prims) (cut 70 prims requests)) (sym stored.begins) ∙ cut_whole 70 prims requests stored.whole
+
+-- and they may follow one another
+pub history_of_batches : (prims : List Primitive) (requests : List Request) (text : ℕ) → IsStored prims requests text → is_history (batches prims requests) ≡ true
+unfolding is_history
+history_of_batches prims requests text stored = stored.follows
 
 -- its front is that of the first ones
 pub front_of_batches : (prims : List Primitive) (requests : List Request) (text n : ℕ) → IsStored prims requests text
@@ -65,15 +70,16 @@ pub stored_more : (prims more : List Primitive) (requests : List Request) (r : R
     → first_full (limits (prims_of (batches prims requests)) (length (batches prims requests)) more) ≡ None
     → IsStored (prims ++ more) (requests ++ r ∷ []) (text + bytes)
 stored_more prims more requests r text bytes stored end is_bytes good fits = record {
-    begins = take-append-le 70 prims more (past_builtin prims requests text stored) ∙ stored.begins;
-    whole = rw (length-append prims more, ← end) (rises_more 70 requests (length prims) r stored.whole (omega arith));
-    follows = ap (all_follow builtin 0) (cut_more 70 prims more requests r stored.whole end)
-        ∙ follows_more builtin (prims_of (batches prims requests)) (length (batches prims requests)) (batches prims requests) batch (prims_of-is (batches prims requests)) refl stored.follows
-            (both _ _ (ap (λ o. not (is_some o)) good) (ap (λ o. not (is_some o)) fits));
-    counted = omega (arith, stored.counted, is_bytes, sum_by-append text_bytes prims more);
-    few_prims = omega (arith, space.prims_fit, length-append prims more);
-    few_requests = omega (arith, space.requests, length-append requests (r ∷ []));
-    little_text = omega (arith, space.text, stored.counted, is_bytes) }
+  begins = take-append-le 70 prims more (past_builtin prims requests text stored) ∙ stored.begins;
+  whole = rw (length-append prims more, ← end) (rises_more 70 requests (length prims) r stored.whole (omega arith));
+  follows = ap (all_follow builtin 0) (cut_more 70 prims more requests r stored.whole end)
+      ∙ follows_more builtin (prims_of (batches prims requests)) (length (batches prims requests)) (batches prims requests) batch (prims_of-is (batches prims requests)) refl stored.follows
+      (both _ _ (ap (λ o. not (is_some o)) good) (ap (λ o. not (is_some o)) fits));
+  counted = omega (arith, stored.counted, is_bytes, sum_by-append text_bytes prims more);
+  few_prims = omega (arith, space.prims_fit, length-append prims more);
+  few_requests = omega (arith, space.requests, length-append requests (r ∷ []));
+  little_text = omega (arith, space.text, stored.counted, is_bytes);
+}
   where
     batch : Batch
     batch = record { moment = r.moment; prims = more }
@@ -92,13 +98,14 @@ stored_front prims requests text n rest stored within is =
     let inside : (70 ≤ end) × (end ≤ length prims) = end_after_le 70 requests (length prims) n stored.whole in
     let count : length (take end prims) ≡ end = length-take-le end prims inside.1 in
     record {
-        begins = take-take 70 end prims inside.0 ∙ stored.begins;
-        whole = subst (λ last. Rises 70 (take n requests) last) (sym count) (rises_front 70 requests (length prims) n stored.whole);
-        follows = ap (all_follow builtin 0) (cut-take 70 prims requests (length prims) n stored.whole) ∙ follows_take builtin 0 (batches prims requests) n stored.follows;
-        counted = omega (arith, is, stored.counted, sum_by-take-drop text_bytes prims end);
-        few_prims = omega (arith, count, inside.1, stored.few_prims);
-        few_requests = omega (arith, length-take-le n requests within, stored.few_requests);
-        little_text = omega (arith, is, stored.little_text) }
+      begins = take-take 70 end prims inside.0 ∙ stored.begins;
+      whole = subst (λ last. Rises 70 (take n requests) last) (sym count) (rises_front 70 requests (length prims) n stored.whole);
+      follows = ap (all_follow builtin 0) (cut-take 70 prims requests (length prims) n stored.whole) ∙ follows_take builtin 0 (batches prims requests) n stored.follows;
+      counted = omega (arith, is, stored.counted, sum_by-take-drop text_bytes prims end);
+      few_prims = omega (arith, count, inside.1, stored.few_prims);
+      few_requests = omega (arith, length-take-le n requests within, stored.few_requests);
+      little_text = omega (arith, is, stored.little_text);
+    }
 
 -- where the requests but the last end
 pub record LastPart (prims : List Primitive) (requests : List Request) (text end : ℕ) : Type 0 where
@@ -115,15 +122,16 @@ last_part prims requests text end stored some is =
     let bound : (70 ≤ end_after 70 requests n) × (end_after 70 requests n ≤ length prims) = end_after_le 70 requests (length prims) n stored.whole in
     let counted : sum_by text_bytes (drop end prims) ≤ text = omega (arith, stored.counted, sum_by-take-drop text_bytes prims end) in
     record {
-        within = omega (arith, bound.1, is);
-        small = subst (λ e. length (drop e prims) ≤ 4_096) (sym is) (small_batch builtin 0 (batches prims requests) n _ stored.follows
-            (last_batch 70 prims requests n (record { end = 0; moment = 0 }) stored.whole (omega arith)));
-        counted = counted;
-        stored = subst (λ e. IsStored (take e prims) (take n requests) (text - sum_by text_bytes (drop end prims))) (sym is)
-            (stored_front prims requests text n (text - sum_by text_bytes (drop end prims)) stored (omega arith)
-                (ap (λ e. text - sum_by text_bytes (drop end prims) + sum_by text_bytes (drop e prims)) (sym is) ∙ omega arith));
-        front = ap (λ e. batches (take e prims) (take n requests)) is ∙ cut-take 70 prims requests (length prims) n stored.whole
-            ∙ ap (λ k. take (k - 1) (batches prims requests)) (sym (count_of_batches prims requests)) }
+      within = omega (arith, bound.1, is);
+      small = subst (λ e. length (drop e prims) ≤ 4_096) (sym is) (small_batch builtin 0 (batches prims requests) n _ stored.follows
+          (last_batch 70 prims requests n (record { end = 0; moment = 0 }) stored.whole (omega arith)));
+      counted = counted;
+      stored = subst (λ e. IsStored (take e prims) (take n requests) (text - sum_by text_bytes (drop end prims))) (sym is)
+          (stored_front prims requests text n (text - sum_by text_bytes (drop end prims)) stored (omega arith)
+          (ap (λ e. text - sum_by text_bytes (drop end prims) + sum_by text_bytes (drop e prims)) (sym is) ∙ omega arith));
+      front = ap (λ e. batches (take e prims) (take n requests)) is ∙ cut-take 70 prims requests (length prims) n stored.whole
+          ∙ ap (λ k. take (k - 1) (batches prims requests)) (sym (count_of_batches prims requests));
+    }
 
 -- the same of equal fields
 pub stored_same : (prims ps : List Primitive) (requests rs : List Request) (text t : ℕ) → IsStored prims requests text → ps ≡ prims → rs ≡ requests → t ≡ text → IsStored ps rs t

@@ -1,10 +1,11 @@
 //! The store.
-ghost use Rattle.std.specs.Prelude.{◌≡◌, ◌+◌, ◌-◌, ◌<◌, ◌≤◌, [], ◌∷◌, ◌++◌, None, Some, length, take, drop, slice_get, option_map, sum_by, nat_lt, if◌then◌else◌, Ok, Err, IfOk, OnOk, OnErr, MatchResult};
-ghost use Rattle.gd_prim.specs.History.{prims_of, prims_at};
+ghost use Rattle.std.specs.Prelude.{◌≡◌, ◌+◌, ◌-◌, ◌<◌, ◌≤◌, [], ◌∷◌, ◌++◌, None, Some, length, take, drop, slice_get, option_map, sum_by, nat_lt, if◌then◌else◌, Ok, Err, IsTrue, IfOk, OnOk, OnErr, MatchResult};
+ghost use Rattle.gd_prim.specs.History.{prims_of, prims_at, is_history};
 ghost use Rattle.gd_prim.specs.WellFormed.{bad_place};
 ghost use Rattle.gd_prim.specs.Limits.{limits, first_full, text_bytes};
 ghost use Rattle.gd_store.specs.Stored as stored;
 
+use crate::view::View;
 use gd_base::id::Id;
 use gd_base::memory::Memory;
 use gd_prim::builtin::builtin;
@@ -148,10 +149,13 @@ impl Store {
     }
 
     /// All primitives: the built-in ones and then those of each request.
-    #[tactic(auto, using(crate::proofs::Stored::all_of_batches))]
+    #[tactic(auto, using(crate::proofs::Stored::all_of_batches, crate::proofs::Stored::history_of_batches))]
     pub fn primitives(&self) -> &[Primitive]
         ensures all { result.now ≡ prims_of self.now }
         ensures few { length result.now ≤ 2_097_151 }
+
+        // Each batch may follow those before it, within the limits.
+        ensures history { IsTrue (is_history self.now) }
     {
         self.prims.as_slice()
     }
@@ -275,4 +279,15 @@ impl Store {
     {
         &self.primitives()[..self.end(dateline) as usize]
     }
+
+    /// The store as it was at a dateline, which is a number of whole requests.
+    pub fn view(&self, dateline: u32) -> View<'_>
+        requires { dateline ≤ length self.now }
+        ensures { result ≡ take dateline self.now }
+    {
+        View::new(self, dateline)
+    }
 }
+
+#[cfg(test)]
+mod tests;

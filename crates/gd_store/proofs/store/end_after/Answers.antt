@@ -1,4 +1,4 @@
-use Rattle.std.proofs.Common.{◌≡◌, sym, arith}
+use Rattle.std.proofs.Common.{sym, arith}
 use Rattle.gd_store.proofs.Cut.{end_after_last}
 use Rattle.gd_store.proofs.store.end_after.Goals as goal
 

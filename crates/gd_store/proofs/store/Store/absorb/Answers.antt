@@ -1,4 +1,4 @@
-use Rattle.std.proofs.Common.{◌≡◌, ℕ, ◌+◌, ◌++◌, ◌∷◌, [], List, None, length, sum_by, refl, sym, ap, ◌∙◌, arith}
+use Rattle.std.proofs.Common.{◌≡◌, ℕ, ◌+◌, ◌++◌, ◌∷◌, [], List, None, length, sum_by, refl, ap, ◌∙◌, arith}
 use Rattle.gd_prim.specs.declared.Primitive.{Primitive}
 use Rattle.gd_prim.specs.declared.Batch.{Batch}
 use Rattle.gd_prim.specs.History.{prims_of}
@@ -17,9 +17,9 @@ stored : (prims copied ps : List Primitive) (requests rs : List Request) (text b
     → ps ≡ prims ++ copied → rs ≡ requests ++ record { end = before + count; moment = b.moment } ∷ [] → IsStored ps rs (text + bytes)
 stored prims copied ps requests rs text bytes before count bs b kept view good fits same is_bytes is_before is_count new_prims new_requests =
     stored_same _ _ _ _ _ _
-        (stored_more prims b.prims requests (record { end = before + count; moment = b.moment }) text bytes kept (omega (arith, ap length same)) (is_bytes ∙ ap (sum_by text_bytes) same)
-            (ap (λ cs. bad_place (prims_of cs) b) view ∙ good) (ap (λ cs. first_full (limits (prims_of cs) (length cs) b.prims)) view ∙ fits))
-        (new_prims ∙ ap (λ more. prims ++ more) same) new_requests refl
+    (stored_more prims b.prims requests (record { end = before + count; moment = b.moment }) text bytes kept (omega (arith, ap length same)) (is_bytes ∙ ap (sum_by text_bytes) same)
+    (ap (λ cs. bad_place (prims_of cs) b) view ∙ good) (ap (λ cs. first_full (limits (prims_of cs) (length cs) b.prims)) view ∙ fits))
+    (new_prims ∙ ap (λ more. prims ++ more) same) new_requests refl
 
 -- and their batches
 appended : (prims copied ps : List Primitive) (requests rs : List Request) (text before count : ℕ) (bs : List Batch) (b : Batch) → IsStored prims requests text
@@ -33,10 +33,10 @@ appended prims copied ps requests rs text before count bs b kept view same is_be
 pub invariant_of-self-2 : goal.invariant_of-self-2
 invariant_of-self-2 c =
     stored c.self.inside.prims c.in_ok-more.more _ c.self.inside.requests.items _ c.self.inside.text _ c.len.result c.len-2.result c.args.self.now c.args.batch.now c.self.invariant
-        c.self.view_is c.requires.well_formed c.requires.fits c.in_ok-more.ensures (c.batch_text_bytes-bytes.ensures.bytes ∙ ap (sum_by text_bytes) c.as_slice.ensures)
-        c.len.ensures c.len-2.ensures c.in_ok-append.ensures.prims c.in_ok-append.ensures.requests
+    c.self.view_is c.requires.well_formed c.requires.fits c.in_ok-more.ensures (c.batch_text_bytes-bytes.ensures.bytes ∙ ap (sum_by text_bytes) c.as_slice.ensures)
+    c.len.ensures c.len-2.ensures c.in_ok-append.ensures.prims c.in_ok-append.ensures.requests
 
 pub returns-clause-ok : goal.returns-clause-ok
 returns-clause-ok c =
     appended c.self.inside.prims c.in_ok-more.more _ c.self.inside.requests.items _ c.self.inside.text c.len.result c.len-2.result c.args.self.now c.args.batch.now c.self.invariant
-        c.self.view_is c.in_ok-more.ensures c.len.ensures c.len-2.ensures c.in_ok-append.ensures.prims c.in_ok-append.ensures.requests
+    c.self.view_is c.in_ok-more.ensures c.len.ensures c.len-2.ensures c.in_ok-append.ensures.prims c.in_ok-append.ensures.requests

@@ -1,4 +1,4 @@
-use Rattle.std.proofs.Common.{◌≡◌, sym, ap, ◌∙◌, length}
+use Rattle.std.proofs.Common.{sym, ap, ◌∙◌, length}
 use Rattle.gd_prim.specs.History.{prims_at}
 use Rattle.gd_store.proofs.History.{seventy}
 use Rattle.gd_store.proofs.store.Store.end.Goals as goal
