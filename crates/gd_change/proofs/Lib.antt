@@ -1,0 +1,4 @@
+pub mod Appended
+pub mod KeptName
+pub mod Created
+pub mod Followed

@@ -1,0 +1,2 @@
+//! What a write does.
+#![tactic(auto)]
