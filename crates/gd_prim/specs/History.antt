@@ -4,8 +4,8 @@ use Rattle.gd_prim.specs.declared.Primitive.{Primitive}
 use Rattle.gd_prim.specs.declared.Batch.{Batch}
 use Rattle.gd_prim.specs.Builtin.{builtin}
 
--- the built-in primitives and those of these batches, as one list
-abbrev pub prims_of : List Batch → List Primitive
+-- the built-in primitives and those of these batches, as one list; shut, since the built-in list is long
+unfoldable pub prims_of : List Batch → List Primitive
 prims_of batches = builtin ++ flat_map (λ b. b.prims) batches
 
 -- those of the first n batches: a dateline is such an n

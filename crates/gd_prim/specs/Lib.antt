@@ -4,3 +4,4 @@ pub mod Live
 pub mod Limits
 pub mod WellFormed
 pub mod History
+pub mod End

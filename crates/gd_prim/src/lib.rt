@@ -2,6 +2,7 @@
 #![tactic(auto)]
 
 ghost use Rattle.std.specs.Prelude.{◌≡◌, ◌↔◌, [], ◌∷◌, ◌++◌, take, length, IsTrue, IfOk, OnOk, OnErr};
+ghost use Rattle.gd_prim.specs.End.{end_of};
 
 pub mod builtin;
 pub mod limits;
@@ -14,6 +15,15 @@ use gd_base::memory::Memory;
 use gd_base::text::Text;
 use std::alloc::Global;
 use std::marker::Model;
+
+/// The references by which primitives are found.
+#[derive(Clone, Copy, Debug, PartialEq, Eq, PartialOrd, Ord, Hash)]
+pub enum End {
+    Left,
+    Right,
+    Typ,
+    Scope,
+}
 
 /// One primitive: an object where `typ` is absent, else a link. It never changes; a newer version is a primitive of its
 /// own that names the one before it.
@@ -37,6 +47,18 @@ pub struct Primitive {
 }
 
 impl Primitive {
+    /// The reference at this end, if there is one.
+    pub fn end(&self, end: End) -> Option<Id>
+        ensures { result ≡ end_of end self.now }
+    {
+        match end {
+            End::Left => self.left,
+            End::Right => self.right,
+            End::Typ => self.typ,
+            End::Scope => self.scope,
+        }
+    }
+
     /// The same primitive again.
     pub fn copy(&self) -> Result<Primitive, Memory>
         ensures { IfOk result (λ prim. prim ≡ self.now) }

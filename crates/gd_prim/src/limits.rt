@@ -36,7 +36,8 @@ pub fn text_bytes(prim: &Primitive) -> u64
 /// The same for the primitives of a batch together.
 pub fn batch_text_bytes(prims: &[Primitive]) -> u64
     requires { length prims.now ≤ 4_096 }
-    ensures { result ≡ sum_by defined.text_bytes prims.now }
+    ensures bytes { result ≡ sum_by defined.text_bytes prims.now }
+    ensures bound { result ≤ 33_554_432 }
 {
     let mut bytes = 0;
     for prim in prims {

@@ -6,7 +6,7 @@ use crate::Primitive;
 use gd_base::id::Id;
 
 /// Whether the reference is there and names this place.
-fn refers(reference: Option<Id>, place: Id) -> bool
+pub fn refers(reference: Option<Id>, place: Id) -> bool
     ensures { result ≡ defined.refers reference place }
 {
     match reference {

@@ -1,0 +1,4 @@
+pub mod Cut
+pub mod Follows
+pub mod History
+pub mod Stored

@@ -1,0 +1,6 @@
+//! The store: a list of primitives, as the requests wrote them, and views of what it was at a dateline.
+#![tactic(auto)]
+
+mod scan;
+pub mod store;
+pub mod view;

@@ -1,0 +1,278 @@
+//! The store.
+ghost use Rattle.std.specs.Prelude.{◌≡◌, ◌+◌, ◌-◌, ◌<◌, ◌≤◌, [], ◌∷◌, ◌++◌, None, Some, length, take, drop, slice_get, option_map, sum_by, nat_lt, if◌then◌else◌, Ok, Err, IfOk, OnOk, OnErr, MatchResult};
+ghost use Rattle.gd_prim.specs.History.{prims_of, prims_at};
+ghost use Rattle.gd_prim.specs.WellFormed.{bad_place};
+ghost use Rattle.gd_prim.specs.Limits.{limits, first_full, text_bytes};
+ghost use Rattle.gd_store.specs.Stored as stored;
+
+use gd_base::id::Id;
+use gd_base::memory::Memory;
+use gd_prim::builtin::builtin;
+use gd_prim::limits::{MAX_BATCH, MAX_PRIMS, MAX_REQUESTS, MAX_TEXT, batch_text_bytes};
+use gd_prim::well_formed::{BadBatch, is_well_formed};
+use gd_prim::{Batch, Primitive, Prims, What};
+use std::alloc::Global;
+use std::marker::Model;
+use thiserror::Error;
+
+/// How many primitives are built in.
+const BUILTIN_END: u32 = 70;
+
+/// A limit that a batch would pass, and the number that would be reached.
+#[derive(Clone, Copy, Debug, PartialEq, Eq, Error)]
+#[error("the limit of {what:?} does not allow {count}")]
+pub struct Full {
+    pub what: What,
+    pub count: u64,
+}
+
+/// The first place behind a request's primitives, and its moment.
+#[derive(Clone, Copy)]
+pub(crate) struct Request {
+    end: u32,
+    moment: u64,
+}
+
+/// The built-in primitives and those of each request, in one list. Contracts see a store as the list of its batches.
+#[derive(Drop)]
+pub struct Store {
+    prims: Prims,
+    requests: Vec<Request>,
+    text: u64,
+}
+
+impl Model for Store {
+    ghost use Rattle.std.specs.Prelude.{List};
+    ghost use Rattle.gd_prim.specs.declared.Batch.{Batch};
+    ghost use Rattle.gd_store.specs.Stored.{batches, IsStored};
+
+    ghost Value = { List Batch };
+
+    ghost view = { λ s. batches s.prims s.requests.items };
+
+    ghost invariant = { λ s. IsStored s.prims s.requests.items s.text };
+}
+
+/// Refuses a count above its limit.
+fn within(what: What, count: u64, limit: u64) -> Result<(), Full>
+    ensures { result ≡ (if nat_lt limit count then Err (record { what = what; count = count }) else Ok tt) }
+{
+    if count > limit {
+        return Err(Full { what, count });
+    }
+    Ok(())
+}
+
+/// Whether a batch passes no limit behind these primitives, with so many bytes of texts, and so many requests.
+fn fits_behind(
+    prims: &[Primitive],
+    text: u64,
+    requests: u32,
+    batch: &[Primitive],
+) -> Result<(), Full>
+    requires prims { length prims.now ≤ 2_097_151 }
+    requires text { text ≡ sum_by text_bytes prims.now }
+    requires little { text ≤ 134_217_728 }
+    requires requests { requests ≤ 4_194_303 }
+    ensures { MatchResult result (λ _. first_full (limits prims.now requests batch.now) ≡ None)
+        (λ full. first_full (limits prims.now requests batch.now) ≡ Some (full.what, full.count)) }
+{
+    within(What::Batch, batch.len() as u64, MAX_BATCH as u64)?;
+    let count = prims.len() + batch.len();
+    within(What::Primitives, count as u64, MAX_PRIMS as u64)?;
+    within(What::Text, text + batch_text_bytes(batch), MAX_TEXT)?;
+    within(What::Requests, u64::from(requests) + 1, MAX_REQUESTS as u64)?;
+    Ok(())
+}
+
+/// Where the first `n` requests end.
+fn end_after(requests: &[Request], n: usize) -> usize
+    requires { n ≤ length requests.now }
+    ensures { result ≡ stored.end_after 70 requests.now n }
+{
+    if n == 0 {
+        BUILTIN_END as usize
+    } else {
+        requests[n - 1].end as usize
+    }
+}
+
+/// The primitives from a place on.
+fn from_place(prims: &[Primitive], place: usize) -> &[Primitive]
+    requires { place ≤ length prims.now }
+    ensures { result.now ≡ drop place prims.now }
+{
+    &prims[place..]
+}
+
+/// Puts a request and its primitives at the ends, or for want of memory leaves both lists as they were.
+fn append(
+    prims: &mut Prims,
+    requests: &mut Vec<Request>,
+    more: Prims,
+    request: Request,
+) -> Result<(), Memory>
+    ensures prims { MatchResult result (λ _. prims.new ≡ prims.old ++ more) (λ _. prims.new ≡ prims.old) }
+    ensures requests { MatchResult result (λ _. requests.new.items ≡ requests.old.items ++ request ∷ [])
+        (λ _. requests.new.items ≡ requests.old.items) }
+{
+    requests.push(request)?;
+    if let Err(fault) = prims.append(more) {
+        let _request = requests.pop();
+        return Err(fault);
+    }
+    Ok(())
+}
+
+impl Store {
+    /// The store of the built-in primitives, without a request.
+    pub fn new(alloc: Global) -> Result<Store, Memory>
+        ensures { IfOk result (λ store. store ≡ []) }
+    {
+        let prims = Prims::from(builtin(alloc)?);
+        let text = batch_text_bytes(prims.as_slice());
+        Ok(Store {
+            prims,
+            requests: Vec::new(alloc),
+            text,
+        })
+    }
+
+    /// How many requests were stored.
+    #[tactic(auto, using(crate::proofs::Stored::count_of_batches))]
+    pub fn requests(&self) -> u32
+        ensures count { result ≡ length self.now }
+        ensures few { result ≤ 4_194_303 }
+    {
+        self.requests.len() as u32
+    }
+
+    /// All primitives: the built-in ones and then those of each request.
+    #[tactic(auto, using(crate::proofs::Stored::all_of_batches))]
+    pub fn primitives(&self) -> &[Primitive]
+        ensures all { result.now ≡ prims_of self.now }
+        ensures few { length result.now ≤ 2_097_151 }
+    {
+        self.prims.as_slice()
+    }
+
+    /// How many bytes all values and names have that are texts.
+    #[tactic(auto, using(crate::proofs::Stored::all_of_batches))]
+    fn text(&self) -> u64
+        ensures bytes { result ≡ sum_by text_bytes (prims_of self.now) }
+        ensures few { result ≤ 134_217_728 }
+    {
+        self.text
+    }
+
+    /// Whether the batch may follow what is stored, as `is_well_formed` says of the list of all primitives. It takes no
+    /// memory.
+    pub fn check(&self, batch: &Batch) -> Result<(), BadBatch>
+        ensures { MatchResult result (λ _. bad_place (prims_of self.now) batch.now ≡ None)
+            (λ bad. bad_place (prims_of self.now) batch.now ≡ Some bad.place) }
+    {
+        is_well_formed(self.primitives(), batch)
+    }
+
+    /// Whether no limit is passed with the batch. `Full`: one is, with the number that would be reached. The limits are
+    /// tested in the order primitives of the batch, all primitives, bytes of texts, requests. It takes no memory.
+    pub fn fits(&self, batch: &Batch) -> Result<(), Full>
+        ensures { MatchResult result (λ _. first_full (limits (prims_of self.now) (length self.now) batch.now.prims) ≡ None)
+            (λ full. first_full (limits (prims_of self.now) (length self.now) batch.now.prims) ≡ Some (full.what, full.count)) }
+    {
+        fits_behind(
+            self.primitives(),
+            self.text(),
+            self.requests(),
+            batch.prims.as_slice(),
+        )
+    }
+
+    /// Stores the batch as one request more, or for want of memory leaves all as it was. `check` and `fits` accept it.
+    pub fn absorb(&mut self, batch: &Batch) -> Result<(), Memory>
+        requires well_formed { bad_place (prims_of self.old) batch.now ≡ None }
+        requires fits { first_full (limits (prims_of self.old) (length self.old) batch.now.prims) ≡ None }
+        ensures ok { OnOk result (self.new ≡ self.old ++ batch.now ∷ []) }
+        ensures err { OnErr result (self.new ≡ self.old) }
+    {
+        let more = batch.prims.copy()?;
+        let bytes = batch_text_bytes(more.as_slice());
+        let request = Request {
+            end: (self.prims.len() + more.len()) as u32,
+            moment: batch.moment,
+        };
+        append(&mut self.prims, &mut self.requests, more, request)?;
+        self.text += bytes;
+        Ok(())
+    }
+
+    /// Takes the last request away again. It takes no memory.
+    pub fn retract_last(&mut self)
+        requires { 0 < length self.old }
+        ensures { self.new ≡ take (length self.old - 1) self.old }
+    {
+        let kept = self.requests.len() - 1;
+        let end = end_after(self.requests.as_slice(), kept);
+        self.text -= batch_text_bytes(from_place(self.prims.as_slice(), end));
+        self.prims.truncate(end);
+        self.requests.truncate(kept);
+    }
+
+    /// A store of the same batches.
+    pub fn copy(&self) -> Result<Store, Memory>
+        ensures { IfOk result (λ store. store ≡ self.now) }
+    {
+        Ok(Store {
+            prims: self.prims.copy()?,
+            requests: self.requests.to_vec(*self.requests.allocator())?,
+            text: self.text,
+        })
+    }
+
+    /// The n-th request, counted from 0.
+    fn request(&self, n: u32) -> Request
+        requires { n < length self.now }
+        ensures end { result.end ≡ length (prims_at self.now (n + 1)) }
+        ensures moment { option_map (λ batch. batch.moment) (slice_get self.now n) ≡ Some result.moment }
+    {
+        self.requests[n as usize]
+    }
+
+    /// The first place behind the primitives of the n-th request, counted from 0. It takes no memory.
+    pub fn request_end(&self, n: u32) -> Id
+        requires { n < length self.now }
+        ensures { result ≡ length (prims_at self.now (n + 1)) }
+    {
+        Id(self.request(n).end)
+    }
+
+    /// The moment of the n-th request, counted from 0, in milliseconds since 1970-01-01 in UTC. It takes no memory.
+    pub fn request_moment(&self, n: u32) -> u64
+        requires { n < length self.now }
+        ensures { option_map (λ batch. batch.moment) (slice_get self.now n) ≡ Some result }
+    {
+        self.request(n).moment
+    }
+
+    /// The first place above a dateline.
+    fn end(&self, dateline: u32) -> u32
+        requires { dateline ≤ length self.now }
+        ensures { result ≡ length (prims_at self.now dateline) }
+    {
+        if dateline == 0 {
+            BUILTIN_END
+        } else {
+            self.request(dateline - 1).end
+        }
+    }
+
+    /// The primitives below a dateline: the built-in ones and those of the first `dateline` requests.
+    #[tactic(auto, using(crate::proofs::History::front_of_all))]
+    pub(crate) fn below(&self, dateline: u32) -> &[Primitive]
+        requires { dateline ≤ length self.now }
+        ensures below { result.now ≡ prims_at self.now dateline }
+        ensures few { length result.now ≤ 2_097_151 }
+    {
+        &self.primitives()[..self.end(dateline) as usize]
+    }
+}
