@@ -9,16 +9,16 @@ use Rattle.gd_tree.specs.Look.{is_null, items_len, members_len}
 use Rattle.gd_runs.specs.Request.{read, line_of, no_cursor}
 use Rattle.gd_runs.specs.Built.{pair_of, sole_member, sole_item, is_zero, short_text, name_asked, name_query}
 
-same_bytes : (s t : List ℕ) → bytes_eq s t ≡ true → s ≡ t
+pub same_bytes : (s t : List ℕ) → bytes_eq s t ≡ true → s ≡ t
 same_bytes s t is = (bytes_eq-Decides s t).0 is
 
 -- a step that gave something, taken apart
-step-is : {A B : Type 0} (o : Option A) (f : A → Option B) (b : B) → (o >>= f) ≡ Some b → (a : A) × (o ≡ Some a) × (f a ≡ Some b)
+pub step-is : {A B : Type 0} (o : Option A) (f : A → Option B) (b : B) → (o >>= f) ≡ Some b → (a : A) × (o ≡ Some a) × (f a ≡ Some b)
 step-is None f b is = cc
 step-is (Some a) f b is = (a, refl, is)
 
 -- a test that was passed
-test-is : {A : Type 0} (c : Bool) (o : Option A) (a : A) → (if c then o else None) ≡ Some a → (c ≡ true) × (o ≡ Some a)
+pub test-is : {A : Type 0} (c : Bool) (o : Option A) (a : A) → (if c then o else None) ≡ Some a → (c ≡ true) × (o ≡ Some a)
 test-is true o a is = (refl, is)
 test-is false o a is = cc
 
@@ -28,7 +28,7 @@ two-is n is = absurd (grind (arith, nat_tests))
 one-is : (n : ℕ) → (suc (suc n) == 1) ≡ true → ⊥
 one-is n is = absurd (grind (arith, nat_tests))
 
-pair_of-is : (k l : List ℕ) (j : Json) (p : Json × Json) → pair_of k l j ≡ Some p → j ≡ object (member k p.0 (member l p.1 no_members))
+pub pair_of-is : (k l : List ℕ) (j : Json) (p : Json × Json) → pair_of k l j ≡ Some p → j ≡ object (member k p.0 (member l p.1 no_members))
 pair_of-is k l null p is = cc
 pair_of-is k l (boolean b) p is = cc
 pair_of-is k l (number n) p is = cc
@@ -47,7 +47,7 @@ pair_of-is k l (object (member a v (member b w no_members))) p is = both (bytes_
     both true false ka lb is = cc
     both false d ka lb is = cc
 
-sole_member-is : (k : List ℕ) (j v : Json) → sole_member k j ≡ Some v → j ≡ object (member k v no_members)
+pub sole_member-is : (k : List ℕ) (j v : Json) → sole_member k j ≡ Some v → j ≡ object (member k v no_members)
 sole_member-is k null v is = cc
 sole_member-is k (boolean b) v is = cc
 sole_member-is k (number n) v is = cc
@@ -61,7 +61,7 @@ sole_member-is k (object (member a u no_members)) v is = one (bytes_eq a k) refl
     one true ka is = let ak : a ≡ k = same_bytes a k ka in let uv : u ≡ v = cc in rw (ak, uv) refl
     one false ka is = cc
 
-sole_item-is : (j v : Json) → sole_item j ≡ Some v → j ≡ list (item v no_items)
+pub sole_item-is : (j v : Json) → sole_item j ≡ Some v → j ≡ list (item v no_items)
 sole_item-is null v is = cc
 sole_item-is (boolean b) v is = cc
 sole_item-is (number n) v is = cc
@@ -71,7 +71,7 @@ sole_item-is (list no_items) v is = cc
 sole_item-is (list (item u (item w js))) v is = absurd (one-is (items_len js) (test-is (suc (suc (items_len js)) == 1) _ v is).0)
 sole_item-is (list (item u no_items)) v is = let uv : u ≡ v = cc in rw uv refl
 
-is_null-is : (j : Json) → is_null j ≡ true → j ≡ null
+pub is_null-is : (j : Json) → is_null j ≡ true → j ≡ null
 is_null-is null is = refl
 is_null-is (boolean b) is = cc
 is_null-is (number n) is = cc

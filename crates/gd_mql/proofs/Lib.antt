@@ -1,1 +1,5 @@
 pub mod Asked
+pub mod Members
+pub mod Spelled
+pub mod Sessions
+pub mod Bytes

@@ -1,5 +1,10 @@
 //! What a line of input asks.
 #![tactic(auto)]
 
+pub mod fault;
+pub mod forms;
+pub mod line;
 pub mod parts;
 pub mod request;
+#[cfg(test)]
+mod tests;

@@ -1,0 +1,100 @@
+//! Why the bytes of a line ask nothing.
+ghost use Rattle.std.specs.Prelude.{◌≡◌, [], nat_eq};
+ghost use Rattle.std.specs.Cmp.{partial_equiv_from_equiv};
+ghost use Rattle.std.specs.Cmp.Lexicographic.{pointwise, lists_equiv, nat_list_eq_equiv};
+
+use gd_base::memory::Memory;
+use gd_json::from::JsonFault;
+use gd_json::value::JsonText;
+use std::alloc::Global;
+use std::marker::Model;
+
+/// What is wrong with the form of a query.
+#[derive(Clone, Copy, Debug, PartialEq, Eq)]
+pub enum Code {
+    /// The form is not built.
+    Unbuilt,
+}
+
+/// The names of members that lead from the root of a query down to a place in it. Contracts see the list of these
+/// names, each as the list of its bytes.
+#[derive(Debug, Drop)]
+pub struct Path {
+    names: Vec<JsonText>,
+}
+
+impl Model for Path {
+    ghost use Rattle.std.specs.Prelude.{ℕ, List};
+
+    ghost Value = { List (List ℕ) };
+
+    ghost view = { λ path. path.names.items };
+}
+
+impl PartialEq for Path {
+    ghost eq = { λ a b. pointwise (pointwise nat_eq) a b };
+
+    ghost laws = { partial_equiv_from_equiv (lists_equiv nat_list_eq_equiv) };
+
+    fn eq(&self, other: &Path) -> bool {
+        self.names == other.names
+    }
+}
+
+impl Eq for Path {
+    ghost laws = { lists_equiv nat_list_eq_equiv };
+}
+
+impl Path {
+    /// The path of the root. It takes no memory.
+    pub fn root(alloc: Global) -> Path
+        ensures { result ≡ [] }
+    {
+        Path {
+            names: Vec::new(alloc),
+        }
+    }
+
+    /// The names from the root down.
+    pub fn names(&self) -> &[JsonText]
+        ensures { result.now ≡ self.now }
+    {
+        self.names.as_slice()
+    }
+}
+
+/// Why the bytes of a line ask nothing.
+#[derive(Debug, PartialEq, Eq, Drop)]
+pub enum LineFault {
+    /// They are no JSON of this profile.
+    Json(JsonFault),
+    /// They are no object of just `sid`, a number from 0 to 63, and one of `read` and `write`.
+    BadLine,
+    /// The query has not the form that it should, at this place.
+    BadQuery { code: Code, path: Path },
+    /// An allocation was refused.
+    Memory,
+}
+
+impl From<JsonFault> for LineFault {
+    ghost use Rattle.gd_mql.specs.Fault.{fault_of};
+
+    ghost from_gives = { λ given fault. fault ≡ fault_of given };
+
+    fn from(fault: JsonFault) -> LineFault {
+        match fault {
+            JsonFault::Memory => LineFault::Memory,
+            fault => LineFault::Json(fault),
+        }
+    }
+}
+
+impl From<Memory> for LineFault {
+    ghost use Rattle.gd_mql.specs.declared.fault.LineFault.TheVariants.{Memory as no_memory};
+
+    ghost from_gives = { λ _ fault. fault ≡ no_memory };
+
+    fn from(_refused: Memory) -> LineFault {
+        LineFault::Memory
+    }
+}

@@ -1,0 +1,170 @@
+//! What no clause says: lines as texts, and that memory suffices where there is plenty.
+use crate::fault::{Code, LineFault, Path};
+use crate::line::{LINE_LIMIT, Line, ReadRequest, WriteRequest, line_from};
+use gd_json::from::JsonFault;
+use gd_json::value::JsonText;
+use std::alloc::Global;
+use std::test::Fail;
+
+/// What is answered for a text that is no longer than a line may be.
+fn answer(alloc: Global, text: &str) -> Option<Result<Line, LineFault>> {
+    if text.len() > LINE_LIMIT {
+        return None;
+    }
+    Some(line_from(alloc, text.as_bytes()))
+}
+
+/// A read of a session.
+fn read(sid: u32, name: &str, alloc: Global) -> Result<Line, Fail> {
+    let name = JsonText::from_str(alloc, name)?;
+    Ok(Line::Read {
+        sid,
+        request: ReadRequest { name },
+    })
+}
+
+/// A write of a session.
+fn write(sid: u32, asks_guid: bool, name: &str, alloc: Global) -> Result<Line, Fail> {
+    let name = JsonText::from_str(alloc, name)?;
+    Ok(Line::Write {
+        sid,
+        request: WriteRequest { asks_guid, name },
+    })
+}
+
+#[test]
+fn reads_the_built_forms(rt: HostRuntime) -> Result<(), Fail> {
+    let alloc = rt.alloc();
+    let rows = [
+        (
+            "{\"sid\":0,\"read\":{\"query\":[{\"guid\":null,\"name\":\"Type\"}]}}",
+            read(0, "Type", alloc)?,
+        ),
+        (
+            " { \"read\" : {\"query\":[{\"name\":\"\\u0041\",\"guid\":null}]} , \"sid\" : 63 } \r",
+            read(63, "A", alloc)?,
+        ),
+        (
+            "{\"sid\":7,\"read\":{\"query\":[{\"guid\":1,\"name\":\"\",\"guid\":null}]}}",
+            read(7, "", alloc)?,
+        ),
+        (
+            "{\"sid\":1,\"write\":{\"query\":{\"create\":\"unconditional\",\"name\":\"a\"}}}",
+            write(1, false, "a", alloc)?,
+        ),
+        (
+            "{\"write\":{\"query\":{\"name\":\"b\",\"guid\":null,\"create\":\"unconditional\"}},\"sid\":2}",
+            write(2, true, "b", alloc)?,
+        ),
+    ];
+    for (text, line) in rows {
+        assert_eq!(rt; answer(alloc, text), Some(Ok(line)), "at {text}");
+    }
+    Ok(())
+}
+
+/// The fault of a request whose form is not built.
+fn unbuilt(alloc: Global) -> LineFault {
+    LineFault::BadQuery {
+        code: Code::Unbuilt,
+        path: Path::root(alloc),
+    }
+}
+
+#[test]
+fn refuses_what_is_no_line(rt: HostRuntime) -> Result<(), Fail> {
+    let read = "\"read\":{\"query\":[{\"guid\":null,\"name\":\"a\"}]}";
+    let write = "\"write\":{\"query\":{\"create\":\"unconditional\",\"name\":\"a\"}}";
+    let rows = [
+        ("\"sid\":64", read),
+        ("\"sid\":-1", read),
+        ("\"sid\":true", write),
+        ("\"sid\":\"0\"", write),
+        ("\"sid\":0,\"more\":0", read),
+        ("\"sid\":0,\"read\":0", write),
+        ("\"read\":0", write),
+        ("\"session\":0", read),
+    ];
+    for (front, rest) in rows {
+        let text = format!(in rt.alloc(); "{{{front},{rest}}}")?;
+        assert_eq!(rt;
+            answer(rt.alloc(), text.as_str()),
+            Some(Err(LineFault::BadLine)),
+            "at {text}"
+        );
+    }
+    for text in ["null", "[]", "{}", "0", "\"sid\"", "{\"sid\":0}"] {
+        assert_eq!(rt;
+            answer(rt.alloc(), text),
+            Some(Err(LineFault::BadLine)),
+            "at {text}"
+        );
+    }
+    Ok(())
+}
+
+#[test]
+fn refuses_what_is_not_built(rt: HostRuntime) -> Result<(), Fail> {
+    let rows = [
+        "\"read\":null",
+        "\"read\":{\"query\":[]}",
+        "\"read\":{\"query\":{\"guid\":null,\"name\":\"a\"}}",
+        "\"read\":{\"query\":[{\"guid\":null,\"name\":null}]}",
+        "\"read\":{\"query\":[{\"guid\":\"#1\",\"name\":\"a\"}]}",
+        "\"read\":{\"query\":[{\"guid\":null,\"name\":\"a\"},{}]}",
+        "\"read\":{\"query\":[{\"guid\":null,\"id\":null,\"name\":\"a\"}]}",
+        "\"read\":{\"cursor\":true,\"query\":[{\"guid\":null,\"name\":\"a\"}]}",
+        "\"read\":{\"query\":{\"create\":\"unconditional\",\"name\":\"a\"}}",
+        "\"write\":{\"query\":[{\"guid\":null,\"name\":\"a\"}]}",
+        "\"write\":{\"query\":{\"create\":\"unless_exists\",\"name\":\"a\"}}",
+        "\"write\":{\"query\":{\"create\":\"unconditional\",\"guid\":0,\"name\":\"a\"}}",
+        "\"write\":{\"query\":{\"create\":\"unconditional\",\"name\":0}}",
+        "\"write\":{\"query\":{\"create\":\"unconditional\"}}",
+        "\"write\":{\"query\":{\"create\":\"unconditional\",\"name\":\"a\"},\"scope\":\"/\"}",
+    ];
+    for rest in rows {
+        let text = format!(in rt.alloc(); "{{\"sid\":5,{rest}}}")?;
+        assert_eq!(rt;
+            answer(rt.alloc(), text.as_str()),
+            Some(Err(unbuilt(rt.alloc()))),
+            "at {text}"
+        );
+    }
+    assert_eq!(rt; Path::root(rt.alloc()).names().len(), 0);
+    Ok(())
+}
+
+#[test]
+fn tests_json_first(rt: HostRuntime) -> Result<(), Fail> {
+    let rows = [
+        ("", JsonFault::BadJson),
+        ("{\"sid\":64", JsonFault::BadJson),
+        ("{\"sid\":1.0}", JsonFault::FloatValue),
+        ("[[[[[[[[[[[[[[[[[0]]]]]]]]]]]]]]]]]", JsonFault::TooDeep),
+    ];
+    for (text, fault) in rows {
+        assert_eq!(rt;
+            answer(rt.alloc(), text),
+            Some(Err(LineFault::Json(fault))),
+            "at {text}"
+        );
+    }
+    Ok(())
+}
+
+#[test]
+fn names_may_be_long(rt: HostRuntime) -> Result<(), Fail> {
+    let alloc = rt.alloc();
+    let mut name = String::new(alloc);
+    for _ in 0..4097 {
+        name.push_str("a")?;
+    }
+    let text = format!(in alloc;
+        "{{\"sid\":3,\"read\":{{\"query\":[{{\"guid\":null,\"name\":\"{name}\"}}]}}}}"
+    )?;
+    assert_eq!(rt;
+        answer(alloc, text.as_str()),
+        Some(Ok(read(3, name.as_str(), alloc)?))
+    );
+    Ok(())
+}
