@@ -5,28 +5,30 @@ use Rattle.std.proofs.lemmas.Fmt.{decimal_nonempty}
 use Rattle.std.specs.List.{AllByRecursion}
 use Rattle.gd_grammar.specs.Chain.{◌>>=◌}
 use Rattle.gd_grammar.specs.Grammar.{Reads, text_at, number_at, more_at, ended, with_offset}
-use Rattle.gd_bytes.specs.Cursor.{Cursor, max_dateline, max_place, place_spelling, PlaceFits, spelling, Fits, place_at, cursor_at, cursor_of, IsCursorText}
-use Rattle.gd_grammar.proofs.Scans.{Begins, Ends, Stops, Found, Scans, Then, chain, Only, Scans-then, Scans-only, Scans-same, Says, whole_says, read_all, ok_of, ok_same, ends_nil, not_equal, head_same}
+use Rattle.gd_grammar.specs.Mark.{place_text}
+use Rattle.gd_prim.specs.Limits.{max_prims, max_requests}
+use Rattle.gd_bytes.specs.Cursor.{Cursor, PlaceFits, spelling, Fits, place_at, cursor_at, cursor_of, IsCursorText}
+use Rattle.gd_grammar.proofs.Scans.{Begins, Ends, Stops, Found, Scans, Then, chain, Only, Scans-then, Scans-only, Scans-same, Says, whole_says, read_all, ok_same, ends_nil, not_equal, head_same}
 use Rattle.gd_grammar.proofs.Numbers.{Word, Scans-word, word_ends, Number, Scans-number, number_ends, first_digit}
 
 -- ---- key places
 
 abbrev Place : Option ℕ → List ℕ → Type 0
-Place p w = PlaceFits p × (w ≡ place_spelling p)
+Place p w = PlaceFits p × (w ≡ place_text p)
 
 -- a number that is a place
 abbrev Given : Option ℕ → List ℕ → Type 0
-Given = Then (Number max_place) (λ n. Only (Some n))
+Given = Then (Number max_prims) (λ n. Only (Some n))
 
-place_small : max_place < 2 ^ 60
+place_small : max_prims < 2 ^ 60
 place_small = omega arith
 
-dateline_small : max_dateline < 2 ^ 60
+dateline_small : max_requests < 2 ^ 60
 dateline_small = omega arith
 
-Scans-given : Scans Given (chain (number_at max_place) (λ n b. Ok (Some n, b)))
-Scans-given = Scans-then (Number max_place) (λ n. Only (Some n)) (number_at max_place) (λ n b. Ok (Some n, b))
-    (Scans-number max_place place_small) (λ n w is. Scans-only (Some n)) (λ n w is. (Some n, [], (refl, refl))) (λ n v is c u (same, none). ends_nil (Number max_place) v u none)
+Scans-given : Scans Given (chain (number_at max_prims) (λ n b. Ok (Some n, b)))
+Scans-given = Scans-then (Number max_prims) (λ n. Only (Some n)) (number_at max_prims) (λ n b. Ok (Some n, b))
+    (Scans-number max_prims place_small) (λ n w is. Scans-only (Some n)) (λ n w is. (Some n, [], (refl, refl))) (λ n v is c u (same, none). ends_nil (Number max_prims) v u none)
 
 given_place : (p : Option ℕ) (w : List ℕ) → Given p w → Place p w
 given_place p w (n, v, u, (within, v_is), (p_is, none), w_is) =
@@ -36,14 +38,14 @@ given_place p w (n, v, u, (within, v_is), (p_is, none), w_is) =
 place_given : (n : ℕ) (w : List ℕ) → Place (Some n) w → Given (Some n) w
 place_given n w (within, w_is) = (n, w, [], (within, w_is), (refl, refl), sym (append-nil w))
 
-small_64 : (n : ℕ) → n ≤ max_place → n < 2 ^ 64
+small_64 : (n : ℕ) → n ≤ max_prims → n < 2 ^ 64
 small_64 n h = omega (arith, h)
 
-no_mark : (n : ℕ) (t : List ℕ) → n ≤ max_place → decimal n ≡ 45 ∷ t → ⊥
+no_mark : (n : ℕ) (t : List ℕ) → n ≤ max_prims → decimal n ≡ 45 ∷ t → ⊥
 no_mark n t within e = let (low, high) = first_digit n 45 t (small_64 n within) e in omega (arith, low)
 
 abbrev place_by : ℕ → List ℕ → Bool → Reads (Option ℕ)
-place_by c cs b = if b then Ok (None, cs) else (number_at max_place (c ∷ cs) >>= λ n. Ok (Some n.0, n.1))
+place_by c cs b = if b then Ok (None, cs) else (number_at max_prims (c ∷ cs) >>= λ n. Ok (Some n.0, n.1))
 
 -- behind a given front, a place that is a number goes on as a number
 turn_ends : (front rest : List ℕ) → 0 < length front → Ends Given front rest → Ends Place front rest
@@ -86,7 +88,7 @@ place_all (Some n) w rest (within, w_is) ends = ap (λ (l : List ℕ). place_at 
     given = place_given n w (within, w_is)
 
     read_given : List ℕ → Reads (Option ℕ)
-    read_given bytes = number_at max_place bytes >>= λ n. Ok (Some n.0, n.1)
+    read_given bytes = number_at max_prims bytes >>= λ n. Ok (Some n.0, n.1)
 
     reads : read_given (w ++ rest) ≡ Ok (Some n, rest)
     reads = Scans-given.all (Some n) w rest given (λ b more e (q, v, m, s, split). ends b more e (q, v, m, given_place q v s, split))
@@ -138,7 +140,7 @@ place_colon None v u (fits, v_is) (inr (t, u_is)) = subst (λ (l : List ℕ). En
 place_colon (Some n) v u (within, v_is) (inr (t, u_is)) =
     let some = decimal_nonempty n (small_64 n within) in
     let long = ap length v_is in
-    let ends : Ends (Number max_place) v (58 ∷ t) = number_ends max_place n 58 v t place_small (within, v_is) (λ (low, high). omega (arith, high)) in
+    let ends : Ends (Number max_prims) v (58 ∷ t) = number_ends max_prims n 58 v t place_small (within, v_is) (λ (low, high). omega (arith, high)) in
     turn_ends v u (omega (arith, some, long)) (subst (Ends Given v) (sym u_is) (λ b more e (q, w, m, (n', x, y, num, (q_is, none), w_is), split).
     ends b more e (n', x, m, num, sym (w_is ∙ ap (λ (l : List ℕ). x ++ l) none ∙ append-nil x) ∙ split)))
 
@@ -158,25 +160,25 @@ Scans-many = Rattle.gd_grammar.proofs.Scans.Scans-many Place place_at 58 Scans-p
 -- ---- the cursor
 
 abbrev Keys : ℕ → ℕ → Cursor → List ℕ → Type 0
-Keys d o = Then (Many 4) (λ ks. Only (record { dateline = d; object = o; keys = ks }))
+Keys d o = Then (Many 4) (λ ks. Only (record { dateline = d; after = record { object = o; keys = ks } }))
 
 abbrev Object : ℕ → Cursor → List ℕ → Type 0
-Object d = Then (Number max_place) (λ o. Keys d o)
+Object d = Then (Number max_prims) (λ o. Keys d o)
 
 abbrev Colon : ℕ → Cursor → List ℕ → Type 0
 Colon d = Then (Word (codes ":")) (λ u. Object d)
 
 abbrev Dateline : Cursor → List ℕ → Type 0
-Dateline = Then (Number max_dateline) Colon
+Dateline = Then (Number max_requests) Colon
 
 abbrev Whole : Cursor → List ℕ → Type 0
 Whole = Then (Word (codes "c1:")) (λ u. Dateline)
 
 keys_at : ℕ → ℕ → List ℕ → Reads Cursor
-keys_at d o = chain (more_at 4 58 place_at) (λ ks b. Ok (record { dateline = d; object = o; keys = ks }, b))
+keys_at d o = chain (more_at 4 58 place_at) (λ ks b. Ok (record { dateline = d; after = record { object = o; keys = ks } }, b))
 
 some_keys : (d o : ℕ) → (c : Cursor) × (u : List ℕ) × Keys d o c u
-some_keys d o = (record { dateline = d; object = o; keys = [] }, [], ([], [], [], many_none 4, (refl, refl), refl))
+some_keys d o = (record { dateline = d; after = record { object = o; keys = [] } }, [], ([], [], [], many_none 4, (refl, refl), refl))
 
 some_object : (d : ℕ) → (c : Cursor) × (u : List ℕ) × Object d c u
 some_object d = let (c, u, s) = some_keys d 0 in (c, decimal 0 ++ u, (0, decimal 0, u, (omega arith, refl), s, refl))
@@ -198,27 +200,27 @@ number_colon bound n v u small is (inr (t, u_is)) = subst (Ends (Number bound) v
 
 Scans-keys : (d o : ℕ) → Scans (Keys d o) (keys_at d o)
 unfolding keys_at
-Scans-keys d o = Scans-then (Many 4) (λ ks. Only (record { dateline = d; object = o; keys = ks })) (more_at 4 58 place_at) (λ ks b. Ok (record { dateline = d; object = o; keys = ks }, b)) (Scans-many 4)
-    (λ ks v many. Scans-only (record { dateline = d; object = o; keys = ks })) (λ ks v many. (record { dateline = d; object = o; keys = ks }, [], (refl, refl))) (λ ks v many c u (same, none). ends_nil (Many 4) v u none)
+Scans-keys d o = Scans-then (Many 4) (λ ks. Only (record { dateline = d; after = record { object = o; keys = ks } })) (more_at 4 58 place_at) (λ ks b. Ok (record { dateline = d; after = record { object = o; keys = ks } }, b)) (Scans-many 4)
+    (λ ks v many. Scans-only (record { dateline = d; after = record { object = o; keys = ks } })) (λ ks v many. (record { dateline = d; after = record { object = o; keys = ks } }, [], (refl, refl))) (λ ks v many c u (same, none). ends_nil (Many 4) v u none)
 
-Scans-object : (d : ℕ) → Scans (Object d) (chain (number_at max_place) (λ o. keys_at d o))
-Scans-object d = Scans-then (Number max_place) (λ o. Keys d o) (number_at max_place) (λ o. keys_at d o) (Scans-number max_place place_small) (λ o w is. Scans-keys d o) (λ o w is. some_keys d o) (λ o v is c u s. number_colon max_place o v u place_small is (keys_head d o c u s))
+Scans-object : (d : ℕ) → Scans (Object d) (chain (number_at max_prims) (λ o. keys_at d o))
+Scans-object d = Scans-then (Number max_prims) (λ o. Keys d o) (number_at max_prims) (λ o. keys_at d o) (Scans-number max_prims place_small) (λ o w is. Scans-keys d o) (λ o w is. some_keys d o) (λ o v is c u s. number_colon max_prims o v u place_small is (keys_head d o c u s))
 
-Scans-colon : (d : ℕ) → Scans (Colon d) (chain (text_at (codes ":")) (λ u. chain (number_at max_place) (λ o. keys_at d o)))
-Scans-colon d = Scans-then (Word (codes ":")) (λ u. Object d) (text_at (codes ":")) (λ u. chain (number_at max_place) (λ o. keys_at d o)) (Scans-word (codes ":")) (λ u w is. Scans-object d) (λ u w is. some_object d) (λ u v is c x s. word_ends (codes ":") v x is)
+Scans-colon : (d : ℕ) → Scans (Colon d) (chain (text_at (codes ":")) (λ u. chain (number_at max_prims) (λ o. keys_at d o)))
+Scans-colon d = Scans-then (Word (codes ":")) (λ u. Object d) (text_at (codes ":")) (λ u. chain (number_at max_prims) (λ o. keys_at d o)) (Scans-word (codes ":")) (λ u w is. Scans-object d) (λ u w is. some_object d) (λ u v is c x s. word_ends (codes ":") v x is)
 
-Scans-dateline : Scans Dateline (chain (number_at max_dateline) (λ d. chain (text_at (codes ":")) (λ u. chain (number_at max_place) (λ o. keys_at d o))))
-Scans-dateline = Scans-then (Number max_dateline) Colon (number_at max_dateline) (λ d. chain (text_at (codes ":")) (λ u. chain (number_at max_place) (λ o. keys_at d o))) (Scans-number max_dateline dateline_small) (λ d w is. Scans-colon d) (λ d w is. some_colon d)
-    (λ d v is c u (a, x, y, x_is, s, u_is). number_colon max_dateline d v u dateline_small is (inr (y, u_is ∙ ap (λ (l : List ℕ). l ++ y) x_is)))
+Scans-dateline : Scans Dateline (chain (number_at max_requests) (λ d. chain (text_at (codes ":")) (λ u. chain (number_at max_prims) (λ o. keys_at d o))))
+Scans-dateline = Scans-then (Number max_requests) Colon (number_at max_requests) (λ d. chain (text_at (codes ":")) (λ u. chain (number_at max_prims) (λ o. keys_at d o))) (Scans-number max_requests dateline_small) (λ d w is. Scans-colon d) (λ d w is. some_colon d)
+    (λ d v is c u (a, x, y, x_is, s, u_is). number_colon max_requests d v u dateline_small is (inr (y, u_is ∙ ap (λ (l : List ℕ). l ++ y) x_is)))
 
 Scans-parts : Scans Whole cursor_at
 unfolding keys_at
-Scans-parts = Scans-then (Word (codes "c1:")) (λ u. Dateline) (text_at (codes "c1:")) (λ u. chain (number_at max_dateline) (λ d. chain (text_at (codes ":")) (λ u. chain (number_at max_place) (λ o. keys_at d o)))) (Scans-word (codes "c1:")) (λ u w is. Scans-dateline) (λ u w is. some_dateline) (λ u v is c x s. word_ends (codes "c1:") v x is)
+Scans-parts = Scans-then (Word (codes "c1:")) (λ u. Dateline) (text_at (codes "c1:")) (λ u. chain (number_at max_requests) (λ d. chain (text_at (codes ":")) (λ u. chain (number_at max_prims) (λ o. keys_at d o)))) (Scans-word (codes "c1:")) (λ u w is. Scans-dateline) (λ u w is. some_dateline) (λ u v is c x s. word_ends (codes "c1:") v x is)
 
 -- ---- the parts are the spelling
 
 abbrev keys_text : List (Option ℕ) → List ℕ
-keys_text ks = flat_map (λ k. codes ":" ++ place_spelling k) ks
+keys_text ks = flat_map (λ k. codes ":" ++ place_text k) ks
 
 many_text : (n : ℕ) (ks : List (Option ℕ)) (w : List ℕ) → Many n ks w → (length ks ≤ n) × AllByRecursion PlaceFits ks × (w ≡ keys_text ks)
 many_text zero ks w (ks_is, w_is) = subst (λ (l : List (Option ℕ)). (length l ≤ 0) × AllByRecursion PlaceFits l × (w ≡ keys_text l)) (sym ks_is) (omega arith, tt, w_is)
@@ -226,12 +228,12 @@ many_text (suc n) ks w (inl (ks_is, w_is)) = subst (λ (l : List (Option ℕ)). 
 many_text (suc n) ks w (inr (p, qs, v, u, (fits, v_is), many, ks_is, w_is)) =
     let (few, each, u_is) = many_text n qs u many in
     subst (λ (l : List (Option ℕ)). (length l ≤ suc n) × AllByRecursion PlaceFits l × (w ≡ keys_text l)) (sym ks_is)
-    (omega (arith, few), (fits, each), w_is ∙ ap (λ (l : List ℕ). 58 ∷ (l ++ u)) v_is ∙ ap (λ (l : List ℕ). 58 ∷ (place_spelling p ++ l)) u_is)
+    (omega (arith, few), (fits, each), w_is ∙ ap (λ (l : List ℕ). 58 ∷ (l ++ u)) v_is ∙ ap (λ (l : List ℕ). 58 ∷ (place_text p ++ l)) u_is)
 
 text_many : (n : ℕ) (ks : List (Option ℕ)) → length ks ≤ n → AllByRecursion PlaceFits ks → Many n ks (keys_text ks)
 text_many n [] few each = many_none n
 text_many zero (k ∷ ks) few each = absurd (omega (arith, few))
-text_many (suc n) (k ∷ ks) few (fits, each) = inr (k, ks, place_spelling k, keys_text ks, (fits, refl), text_many n ks (omega (arith, few)) each, refl, refl)
+text_many (suc n) (k ∷ ks) few (fits, each) = inr (k, ks, place_text k, keys_text ks, (fits, refl), text_many n ks (omega (arith, few)) each, refl, refl)
 
 -- the five parts of a text, joined from the right and from the left
 abbrev from_right : List ℕ → List ℕ → List ℕ → List ℕ
@@ -258,31 +260,31 @@ text_whole : (c : Cursor) (w : List ℕ) → IsCursorText c w → Whole c w
 text_whole c w (fits, is) = (
   tt,
   codes "c1:",
-  decimal c.dateline ++ (codes ":" ++ (decimal c.object ++ keys_text c.keys)),
+  decimal c.dateline ++ (codes ":" ++ (decimal c.after.object ++ keys_text c.after.keys)),
   refl,
   (
     c.dateline,
     decimal c.dateline,
-    codes ":" ++ (decimal c.object ++ keys_text c.keys),
+    codes ":" ++ (decimal c.after.object ++ keys_text c.after.keys),
     (fits.dateline, refl),
     (
       tt,
       codes ":",
-      decimal c.object ++ keys_text c.keys,
+      decimal c.after.object ++ keys_text c.after.keys,
       refl,
       (
-        c.object,
-        decimal c.object,
-        keys_text c.keys,
+        c.after.object,
+        decimal c.after.object,
+        keys_text c.after.keys,
         (fits.object, refl),
-        (c.keys, keys_text c.keys, [], text_many 4 c.keys fits.few fits.keys, (refl, refl), sym (append-nil (keys_text c.keys))),
+        (c.after.keys, keys_text c.after.keys, [], text_many 4 c.after.keys fits.few fits.keys, (refl, refl), sym (append-nil (keys_text c.after.keys))),
         refl,
       ),
       refl,
     ),
     refl,
   ),
-  is ∙ sym (regroup (decimal c.dateline) (decimal c.object) (keys_text c.keys)),
+  is ∙ sym (regroup (decimal c.dateline) (decimal c.after.object) (keys_text c.after.keys)),
 )
 
 pub Scans-cursor : Scans IsCursorText cursor_at

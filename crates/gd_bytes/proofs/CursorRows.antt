@@ -2,10 +2,10 @@
 use Rattle.std.proofs.Common.{◌≡◌, refl, [], ◌∷◌, codes, Ok, Err, Some, None}
 use Rattle.gd_bytes.specs.Cursor.{cursor_of}
 
-pub ended : cursor_of (codes "c1:5:72") ≡ Ok (record { dateline = 5; object = 72; keys = [] })
+pub ended : cursor_of (codes "c1:5:72") ≡ Ok (record { dateline = 5; after = record { object = 72; keys = [] } })
 ended = refl
 
-pub missing_keys : cursor_of (codes "c1:5:72:-:0") ≡ Ok (record { dateline = 5; object = 72; keys = None ∷ Some 0 ∷ [] })
+pub missing_keys : cursor_of (codes "c1:5:72:-:0") ≡ Ok (record { dateline = 5; after = record { object = 72; keys = None ∷ Some 0 ∷ [] } })
 missing_keys = refl
 
 pub cut : cursor_of (codes "c1:5:") ≡ Err 5
@@ -14,7 +14,7 @@ cut = refl
 pub empty_text : cursor_of [] ≡ Err 0
 empty_text = refl
 
-pub greatest : cursor_of (codes "c1:4194303:2097151") ≡ Ok (record { dateline = 4_194_303; object = 2_097_151; keys = [] })
+pub greatest : cursor_of (codes "c1:4194303:2097151") ≡ Ok (record { dateline = 4_194_303; after = record { object = 2_097_151; keys = [] } })
 greatest = refl
 
 pub above_dateline : cursor_of (codes "c1:4194304:1") ≡ Err 9

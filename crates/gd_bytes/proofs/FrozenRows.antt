@@ -1,7 +1,8 @@
 -- Frozen texts, read and spelled, and how far bad ones go.
 use Rattle.std.specs.Fmt.{digits}
 use Rattle.std.proofs.Common.{◌≡◌, refl, [], ◌∷◌, codes, Ok, Err, Some, None}
-use Rattle.gd_bytes.specs.Frozen.{Frozen, spelling, tree, no_trees, and_tree, no_lists, and_list, scanning, printing, by_guid, is_root, by_links}
+use Rattle.gd_tree.specs.Trees.{tree, no_trees, and_tree, no_lists, and_list}
+use Rattle.gd_bytes.specs.Frozen.{Frozen, spelling, scanning, printing, by_guid, is_root, by_links}
 use Rattle.gd_bytes.specs.FrozenRead.{frozen_of}
 
 abbrev scanned : Frozen

@@ -10,11 +10,11 @@ use Rattle.gd_defs.specs.Moment.{moment_of, moment_text}
 use Rattle.gd_defs.specs.Pattern.{Pattern, matches}
 use Rattle.gd_defs.specs.Ids.{guid, is_key}
 
--- what a property of a value type holds
+-- the kinds of values that a property may hold
 pub data Kind : Type 0 where
   of_text of_int of_boolean of_datetime : Kind
 
--- the datum is of this kind
+-- a datum is of this kind
 abbrev pub has_kind : Kind → Datum → Bool
 has_kind of_text (datum.Text t) = true
 has_kind of_int (datum.Int n) = true
@@ -35,7 +35,7 @@ abbrev pub key_from : Json → Option (List ℕ)
 key_from (text t) = if is_key t then Some t else None
 key_from _ = None
 
--- a datum as JSON; an object as its guid
+-- a datum as it prints, an object as its guid
 abbrev pub datum_json : Datum → Json
 datum_json (datum.Bool b) = boolean b
 datum_json (datum.Int n) = number n
@@ -44,18 +44,18 @@ datum_json (datum.Text t) = text t
 datum_json (datum.Object o) = text (guid o)
 datum_json datum.Empty = null
 
--- what is asked of a datum
+-- what may be asked of a datum: nothing, that it equals another, differs from it, is one of some, lies below or above another, or has words
 pub data Test : Type 0 where
   anything : Test
   equals : Datum → Test
   differs : Datum → Test
   is_one_of : List Datum → Test
-  -- true: or equal
+  -- true: it may be equal too
   is_below : Datum → Bool → Test
   is_above : Datum → Bool → Test
   matches_words : Pattern → Test
 
--- the datum passes; an order asks for the same kind
+-- a datum passes a test; below and above ask for the same kind
 abbrev pub passes : Test → Datum → Bool
 passes anything d = true
 passes (equals v) d = datum_eq d v

@@ -13,4 +13,4 @@ pub mod Change
 pub mod Write
 pub mod Template
 pub mod Plan
-pub mod Resolving
+pub mod Cost

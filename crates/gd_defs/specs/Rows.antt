@@ -16,11 +16,11 @@ use Rattle.gd_defs.specs.Query.{Mode, required, optional, forbidden}
 use Rattle.gd_defs.specs.Property.{Property, answers, answer_datum, far_end, first}
 use Rattle.gd_defs.specs.Asked.{Own, its_id, its_guid, its_timestamp, its_link, its_value, its_namespace, Key, by_guid, by_timestamp, by_property, SortKey, Asking, Members, no_members, own, asks, Asked}
 
--- the moment of a place, in the precision of times
+-- the moment of the primitive at a place, in the precision of times
 abbrev pub timestamp : List Primitive → ℕ → Datum
 timestamp prims o = option_map_or (λ p. datum.Moment (pos p.moment) Time) (slice_get prims o) datum.Empty
 
--- what a computed member tells, of the link that led there and the object
+-- what a computed member tells of an object and of the link that led to it
 abbrev pub own_datum : List Primitive → Own → ℕ → ℕ → Datum
 own_datum prims its_id link o = datum.Object o
 own_datum prims its_guid link o = datum.Object o
@@ -29,21 +29,21 @@ own_datum prims its_link link o = datum.Object link
 own_datum prims its_value link o = value_at prims link
 own_datum prims its_namespace link o = object_datum (end_at (λ p. p.right) prims link)
 
--- the object at the other end of a link; 0 where none is, which is then not asked for
+-- the object at the other end of a link; 0 where there is none, of which nothing is asked then
 abbrev pub far : List Primitive → Property → ℕ → ℕ
 far prims p link = unwrap_or (far_end prims p link) 0
 
--- what a mode asks of whether an answer is there
+-- a mode is met, where an answer is found or not
 abbrev pub meets_mode : Mode → Bool → Bool
 meets_mode required found = found
 meets_mode optional found = true
 meets_mode forbidden found = not found
 
--- an answer meets a member: it passes the test, and the object at its far end meets what the member asks of it
+-- an answer meets a member: it passes the test, and it and the object at its other end meet the clause
 abbrev pub answer_meets : List Primitive → Asking → (ℕ → ℕ → Bool) → ℕ → Bool
 answer_meets prims a meets_clause k = passes a.test (answer_datum prims a.property k) && meets_clause k (far prims a.property k)
 
--- the object, reached by the link, meets the clause
+-- an object, reached by a link, meets a clause
 abbrev pub meets : List Primitive → Members → ℕ → ℕ → Bool
 meets prims no_members link o = true
 meets prims (own name w t operand ms) link o = passes t (own_datum prims w link o) && meets prims ms link o
@@ -51,15 +51,15 @@ meets prims (asks name a clause ms) link o =
     meets_mode a.mode (list_any (answer_meets prims a (λ k x. meets prims clause k x)) (answers prims a.property o))
     && meets prims ms link o
 
--- the links by which a member is met, in order of places
+-- the answers that meet a member, in order of their places
 abbrev pub met : List Primitive → Asking → Members → ℕ → List ℕ
 met prims a clause o = filter (answer_meets prims a (meets prims clause)) (answers prims a.property o)
 
--- there is one
+-- some answer meets a member
 abbrev pub is_met : List Primitive → Asking → Members → ℕ → Bool
 is_met prims a clause o = list_any (answer_meets prims a (meets prims clause)) (answers prims a.property o)
 
--- the sort key of an object, and the place that it stands at
+-- the place at which a sort key of an object stands: its own, or that of the first value of a property
 abbrev pub key_place : List Primitive → ℕ → SortKey → Option ℕ
 key_place prims o s = by s.key
   where
@@ -68,7 +68,7 @@ key_place prims o s = by s.key
     by by_timestamp = Some o
     by (by_property p) = first (answers prims p o)
 
--- the key that stands at a place
+-- the sort key that stands at a place
 abbrev pub key_value : List Primitive → SortKey → ℕ → Datum
 key_value prims s place = by s.key
   where
@@ -77,14 +77,14 @@ key_value prims s place = by s.key
     by by_timestamp = timestamp prims place
     by (by_property p) = value_at prims place
 
--- a missing key comes last, also when descending
+-- the order of two keys, where a missing one comes last, also downward
 abbrev pub key_cmp : Bool → Option Datum → Option Datum → Ordering
 key_cmp descending None None = Equal
 key_cmp descending None (Some b) = Greater
 key_cmp descending (Some a) None = Less
 key_cmp descending (Some a) (Some b) = if descending then ordering_reverse (datum_cmp a b) else datum_cmp a b
 
--- a row: its object, the link that led there, and its sort keys with their places
+-- a row: an object, the link that led to it, and the places of its sort keys
 pub record Row : Type 0 where
   pub object : ℕ
   pub link : ℕ
@@ -94,49 +94,49 @@ pub record Row : Type 0 where
 abbrev pub row_of : List Primitive → List SortKey → ℕ → ℕ → Row
 row_of prims sort link o = record { object = o; link = link; keys = map (key_place prims o) sort }
 
--- keys one after another, then nothing
+-- the order of rows by their keys, one after another
 abbrev pub keys_cmp : List Primitive → List SortKey → List (Option ℕ) → List (Option ℕ) → Ordering
 keys_cmp prims [] ks ls = Equal
 keys_cmp prims (s ∷ ss) [] ls = Equal
 keys_cmp prims (s ∷ ss) (k ∷ ks) [] = Equal
 keys_cmp prims (s ∷ ss) (k ∷ ks) (l ∷ ls) = ordering_then (key_cmp s.descending (option_map (key_value prims s) k) (option_map (key_value prims s) l)) (keys_cmp prims ss ks ls)
 
--- the order of rows: their keys, then their identity
+-- the order of rows: by their keys, then by their objects
 abbrev pub row_cmp : List Primitive → List SortKey → Row → Row → Ordering
 row_cmp prims sort a b = ordering_then (keys_cmp prims sort a.keys b.keys) (nat_cmp a.object b.object)
 
--- a row in its place, behind those that it does not precede
+-- rows with one more, in front of the first that it precedes
 abbrev pub insert_row : (Row → Row → Ordering) → Row → List Row → List Row
 insert_row cmp r [] = r ∷ []
 insert_row cmp r (s ∷ rows) = if is_lt (cmp r s) then r ∷ s ∷ rows else s ∷ insert_row cmp r rows
 
--- the rows in order; those that tie stay as they stood
+-- rows put in order among others that are; those that tie stay as they stood
 abbrev pub sorted_onto : (Row → Row → Ordering) → List Row → List Row → List Row
 sorted_onto cmp done [] = done
 sorted_onto cmp done (r ∷ rows) = sorted_onto cmp (insert_row cmp r done) rows
 
--- nested answers: without sort words as they stand, else sorted
+-- rows in the order of sort keys; without keys as they stand
 abbrev pub in_order : List Primitive → List SortKey → List Row → List Row
 in_order prims [] rows = rows
 in_order prims (s ∷ ss) rows = sorted_onto (row_cmp prims (s ∷ ss)) [] rows
 
--- the answers of a member that meet it, in the order and up to the limit of the member
+-- the rows that a member prints: the answers that meet it, in its order and up to its limit
 abbrev pub printed : List Primitive → Asking → Members → ℕ → List Row
 printed prims a clause o = take a.limit (in_order prims a.sort (map (λ k. row_of prims a.sort k (far prims a.property k)) (met prims a clause o)))
 
--- the objects that meet the root clause, in the order of the query
+-- the rows of a query: the objects that meet its root clause, in its order
 abbrev pub rows : List Primitive → Asked → List Row
 rows prims q = sorted_onto (row_cmp prims q.sort) [] (map (λ o. row_of prims q.sort 0 o) (filter (meets prims q.members 0) (objects prims)))
 
 -- ---- weights
 
--- the given members of the clause are met: literals, and tests of what is computed
+-- an object, reached by a link, meets the given members of a clause: its literals, and the tests of what is computed
 abbrev pub meets_given : List Primitive → Members → ℕ → ℕ → Bool
 meets_given prims no_members link o = true
 meets_given prims (own name w t operand ms) link o = passes t (own_datum prims w link o) && meets_given prims ms link o
 meets_given prims (asks name a clause ms) link o = (not a.given || is_met prims a clause o) && meets_given prims ms link o
 
--- a property among the sort words counts as asked for by null
+-- what the sort keys of a clause weigh: one for each answer of a property
 abbrev pub sort_weight : List Primitive → List SortKey → ℕ → ℕ
 sort_weight prims [] o = 0
 sort_weight prims (s ∷ ss) o = by s.key + sort_weight prims ss o
@@ -145,12 +145,12 @@ sort_weight prims (s ∷ ss) o = by s.key + sort_weight prims ss o
     by (by_property p) = length (answers prims p o)
     by _ = 0
 
--- the sum goes on unless a required member has no answer that meets it
+-- a weight goes on behind a member: unless that is required and no answer meets it
 abbrev pub goes_on : Mode → Bool → Bool
 goes_on required found = found
 goes_on _ found = true
 
--- the weight of an object in a clause with these sort words
+-- the weight of an object in a clause with these sort keys: what its members add, one after another
 abbrev pub weight : List Primitive → List SortKey → Members → ℕ → ℕ → ℕ
 weight prims sort no_members link o = sort_weight prims sort o
 weight prims sort (own name w t operand ms) link o = weight prims sort ms link o
@@ -159,7 +159,7 @@ weight prims sort (asks name a clause ms) link o =
     else sum_by (λ k. 1 + weight prims a.sort clause k (far prims a.property k)) (filter (answer_meets prims a (meets_given prims clause)) (answers prims a.property o)))
     + (if goes_on a.mode (is_met prims a clause o) then weight prims sort ms link o else 0)
 
--- the objects that meet every given member of the root
+-- the candidates of a query: the objects that meet the given members of its root
 abbrev pub candidates : List Primitive → Asked → List ℕ
 candidates prims q = filter (meets_given prims q.members 0) (objects prims)
 

@@ -1,9 +1,10 @@
 -- Words and numbers of texts are read exactly.
 use Rattle.std.proofs.Common.{◌≡◌, refl, ℕ, zero, suc, ◌+◌, ◌-◌, ◌*◌, ◌/◌, ◌%◌, ◌^◌, ◌<◌, ◌≤◌, Bool, true, false, not, ◌&&◌, ◌==◌, nat_lt, nat_le, if◌then◌else◌, List, [], ◌∷◌, ◌++◌, length, Ok, Err, decimal, subst, sym, ap, ◌∙◌, arith, length-append, append_assoc, eqb-true, eq-eqb, le-leb, ltb-true, ltb-false}
+use Rattle.std.specs.Char.{is_ascii_digit}
 use Rattle.std.proofs.lemmas.List.{append-nil}
 use Rattle.std.proofs.lemmas.Bool.Decides.{nat_tests}
 use Rattle.std.proofs.lemmas.Fmt.{decimal_step, decimal_digit, decimal_injective, decimal_nonempty}
-use Rattle.gd_grammar.specs.Grammar.{Reads, text_at, is_digit, digits_at, number_at}
+use Rattle.gd_grammar.specs.Grammar.{Reads, text_at, digits_at, number_at}
 use Rattle.gd_grammar.proofs.Scans.{Ends, Stops, Found, Scans, ok_of, ok_same}
 
 -- ---- these very bytes
@@ -86,7 +87,7 @@ Scans-word cs = record {
 abbrev pub Number : ℕ → ℕ → List ℕ → Type 0
 Number bound n w = (n ≤ bound) × (w ≡ decimal n)
 
-digit_is : (c : ℕ) → 48 ≤ c → c ≤ 57 → is_digit c ≡ true
+digit_is : (c : ℕ) → 48 ≤ c → c ≤ 57 → is_ascii_digit c ≡ true
 digit_is c low high = and_true (nat_le 48 c) (nat_le c 57) (le-leb 48 c low) (le-leb c 57 high)
   where
     and_true : (a b : Bool) → a ≡ true → b ≡ true → (a && b) ≡ true
@@ -213,7 +214,7 @@ digit_within n c (b ∷ t) n_big is =
 
 -- the digit makes the number go on
 abbrev goes_on : ℕ → ℕ → ℕ → Bool
-goes_on bound n c = is_digit c && not (n == 0) && nat_le (10 * n + (c - 48)) bound
+goes_on bound n c = is_ascii_digit c && not (n == 0) && nat_le (10 * n + (c - 48)) bound
 
 goes_on_true : (bound n c : ℕ) → goes_on bound n c ≡ true → (48 ≤ c) × (c ≤ 57) × (0 < n) × (10 * n + (c - 48) ≤ bound)
 goes_on_true bound n c e = (grind (arith, nat_tests), grind (arith, nat_tests), grind (arith, nat_tests), grind (arith, nat_tests))
@@ -221,10 +222,10 @@ goes_on_true bound n c e = (grind (arith, nat_tests), grind (arith, nat_tests), 
 true_goes_on : (bound n c : ℕ) → 48 ≤ c → c ≤ 57 → 0 < n → 10 * n + (c - 48) ≤ bound → goes_on bound n c ≡ true
 true_goes_on bound n c p q r s = grind (arith, nat_tests)
 
-begins_true : (bound c : ℕ) → (is_digit c && nat_le (c - 48) bound) ≡ true → (48 ≤ c) × (c ≤ 57) × (c - 48 ≤ bound)
+begins_true : (bound c : ℕ) → (is_ascii_digit c && nat_le (c - 48) bound) ≡ true → (48 ≤ c) × (c ≤ 57) × (c - 48 ≤ bound)
 begins_true bound c e = (grind (arith, nat_tests), grind (arith, nat_tests), grind (arith, nat_tests))
 
-true_begins : (bound c : ℕ) → 48 ≤ c → c ≤ 57 → c - 48 ≤ bound → (is_digit c && nat_le (c - 48) bound) ≡ true
+true_begins : (bound c : ℕ) → 48 ≤ c → c ≤ 57 → c - 48 ≤ bound → (is_ascii_digit c && nat_le (c - 48) bound) ≡ true
 true_begins bound c p q r = grind (arith, nat_tests)
 
 pub true_false : {b : Bool} {P : Type 0} → b ≡ true → b ≡ false → P
@@ -305,9 +306,9 @@ number_by bound c cs t = if t then Ok (digits_at bound (c - 48) cs) else Err (c 
 
 number_found : (bound : ℕ) → bound < 2 ^ 60 → (bytes : List ℕ) (n : ℕ) (rest : List ℕ) → number_at bound bytes ≡ Ok (n, rest) → Found (Number bound) bytes n rest
 number_found bound small [] n rest is = cc
-number_found bound small (c ∷ cs) n rest is = by (is_digit c && nat_le (c - 48) bound) refl is
+number_found bound small (c ∷ cs) n rest is = by (is_ascii_digit c && nat_le (c - 48) bound) refl is
   where
-    by : (t : Bool) → (is_digit c && nat_le (c - 48) bound) ≡ t → number_by bound c cs t ≡ Ok (n, rest) → Found (Number bound) (c ∷ cs) n rest
+    by : (t : Bool) → (is_ascii_digit c && nat_le (c - 48) bound) ≡ t → number_by bound c cs t ≡ Ok (n, rest) → Found (Number bound) (c ∷ cs) n rest
     by true e same =
         let (low, high, fits) = begins_true bound c e in
         let d = digits_found bound small (c - 48) cs fits in
@@ -342,9 +343,9 @@ number_all bound small n w rest (within, w_is) ends = ap (λ (l : List ℕ). num
 
 number_stops : (bound : ℕ) → bound < 2 ^ 60 → (bytes rest : List ℕ) → number_at bound bytes ≡ Err rest → Stops (Number bound) bytes rest
 number_stops bound small [] rest is = record { front = []; split = cc; begins = (0, decimal 0, decimal 0, (omega arith, refl), refl); last = λ b more e begun. cc }
-number_stops bound small (c ∷ cs) rest is = by (is_digit c && nat_le (c - 48) bound) refl is
+number_stops bound small (c ∷ cs) rest is = by (is_ascii_digit c && nat_le (c - 48) bound) refl is
   where
-    by : (t : Bool) → (is_digit c && nat_le (c - 48) bound) ≡ t → number_by bound c cs t ≡ Err rest → Stops (Number bound) (c ∷ cs) rest
+    by : (t : Bool) → (is_ascii_digit c && nat_le (c - 48) bound) ≡ t → number_by bound c cs t ≡ Err rest → Stops (Number bound) (c ∷ cs) rest
     by true e same = cc
     by false e same = record {
       front = [];

@@ -1,3 +1,4 @@
 pub mod Chain
 pub mod Maybe
 pub mod Grammar
+pub mod Mark

@@ -1,8 +1,7 @@
 -- One step after another, as long as each gives something.
-use Rattle.std.specs.Prelude.{Option, Some, None}
+use Rattle.std.specs.Prelude.{Option, option_and_then}
 
--- the next step, where there was something
+-- what the next step gives, where this one gave something
 infixl 10 ◌>>=◌
 abbrev pub ◌>>=◌ : {A B : Type 0} → Option A → (A → Option B) → Option B
-(Some x) >>= f = f x
-None >>= f = None
+o >>= f = option_and_then f o

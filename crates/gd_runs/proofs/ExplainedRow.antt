@@ -15,7 +15,7 @@ use Rattle.gd_defs.specs.Write.{WriteRequest, ChangeFault}
 use Rattle.gd_runs.specs.Request.{Line, read, write, ReadRequest, exec_after, reply_of}
 use Rattle.gd_runs.specs.Input.{Forms, line_from, InputFault}
 use Rattle.gd_runs.specs.Legal.{Entry, History, IsLegal, exec_line, batches}
-use Rattle.std.specs.Prelude.{slice_get, min, IsTrue, flat_map}
+use Rattle.std.specs.Prelude.{slice_get}
 use Rattle.gd_runs.specs.Explained.{SameSession, MayBe, HasNumber, told_dateline, Explains, Run, stored, answered, lines_of, Prints, IsBounded, IsOfRun, entry_at}
 
 abbrev write_bytes : List ℕ

@@ -1,19 +1,13 @@
--- Which frozen texts fit a query, and that a page's cursor is spelled as cursor texts are.
+-- Which frozen texts fit a query.
 use Rattle.std.proofs.Common.{◌≡◌, refl, ℕ, List, Bool, true, false, codes, Result, Ok, Err}
 use Rattle.std.specs.Option.{option_map_or}
 use Rattle.gd_prim.specs.Builtin.{builtin}
 use Rattle.gd_defs.specs.Asked.{Asked}
-use Rattle.gd_defs.specs.Rows.{Row}
-use Rattle.gd_defs.specs.Reply.{cursor_text}
-use Rattle.gd_bytes.specs.Cursor.{spelling}
 use Rattle.gd_bytes.specs.Frozen.{Frozen}
 use Rattle.gd_bytes.specs.FrozenRead.{frozen_of}
 use Rattle.gd_runs.specs.Owed.{MembersOf}
-use Rattle.gd_runs.specs.Thawed.{fits}
+use Rattle.gd_runs.specs.Fitting.{fits}
 use Rattle.gd_runs.proofs.Asking.{asked_from}
-
-pub printed_cursor : (d : ℕ) (r : Row) → cursor_text d r ≡ spelling (record { dateline = d; object = r.object; keys = r.keys })
-printed_cursor d r = refl
 
 -- each iterator has two members
 abbrev members : MembersOf

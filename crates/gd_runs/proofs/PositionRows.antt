@@ -4,13 +4,15 @@ use Rattle.std.proofs.Common.{◌≡◌, refl, ℕ, List, [], ◌∷◌, Option,
 use Rattle.std.specs.Option.{option_map_or}
 use Rattle.gd_prim.specs.declared.Primitive.{Primitive}
 use Rattle.gd_prim.specs.Builtin.{builtin}
-use Rattle.gd_defs.specs.Asked.{Asked, asked_query}
+use Rattle.gd_defs.specs.Asked.{asked_query}
 use Rattle.gd_defs.specs.Reply.{reply}
 use Rattle.gd_defs.specs.Template.{tree_of}
 use Rattle.gd_defs.specs.Plan.{template_of}
-use Rattle.gd_bytes.specs.Frozen.{Body, RowAt, Trees, no_trees, and_tree, no_lists, and_list, scanning, building, printing, is_root}
-use Rattle.gd_runs.specs.Owed.{tree_from}
-use Rattle.gd_runs.specs.Thawed.{thawed_line, fits}
+use Rattle.gd_bytes.specs.Frozen.{Body, scanning, building, printing, is_root}
+use Rattle.gd_grammar.specs.Mark.{Mark}
+use Rattle.gd_tree.specs.Trees.{Trees, no_trees, no_lists, and_list, trees_of}
+use Rattle.gd_runs.specs.Thawed.{thawed_line}
+use Rattle.gd_runs.specs.Fitting.{fits}
 use Rattle.gd_runs.proofs.Asking.{query_from, asked_from, builtin_queries, type_store, type_queries}
 
 -- the reply to a query
@@ -18,7 +20,7 @@ abbrev by_query : List Primitive → List ℕ → Option (List ℕ)
 by_query prims bytes = option_map (reply prims 0 0 true None) (query_from bytes)
 
 -- the reply that a position with these rows owes
-abbrev by_position : List Primitive → List RowAt → Body → List ℕ → Option (List ℕ)
+abbrev by_position : List Primitive → List Mark → Body → List ℕ → Option (List ℕ)
 by_position prims rows b bytes = option_map (λ q. thawed_line prims true 0 (record { dateline = 0; after = None; rows = rows; body = b }) (asked_query prims q)) (query_from bytes)
 
 -- nothing is scanned yet
@@ -51,20 +53,16 @@ abbrev query : List ℕ
 query = codes "[{\"id\":null,\"name\":null,\"type\":\"/type/namespace\"}]"
 
 -- an object as a row without sort keys
-abbrev row : ℕ → RowAt
+abbrev row : ℕ → Mark
 row o = record { object = o; keys = [] }
 
 -- the three namespaces
-abbrev rows : List RowAt
+abbrev rows : List Mark
 rows = row 0 ∷ row 1 ∷ row 2 ∷ []
 
 -- the trees of these objects
-abbrev trees_of : Asked → List ℕ → Trees
-trees_of q [] = no_trees
-trees_of q (o ∷ os) = and_tree (tree_from (tree_of builtin (template_of q) o)) (trees_of q os)
-
 abbrev trees : List ℕ → Trees
-trees os = option_map_or (λ q. trees_of q os) (asked_from builtin query) no_trees
+trees os = option_map_or (λ q. trees_of (map (tree_of builtin (template_of q)) os)) (asked_from builtin query) no_trees
 
 -- one tree is built
 abbrev built : List ℕ → Body

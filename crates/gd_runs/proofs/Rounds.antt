@@ -125,14 +125,14 @@ page_kept bs cs m k q (Ok c) h = by (nat_lt m c.dateline) refl
     ahead = err_line m k (cursor_ahead c.dateline m)
 
     at : List Batch → List ℕ
-    at batches = reply (prims_at batches c.dateline) c.dateline k true (Some (record { object = c.object; keys = c.keys })) q
+    at batches = reply (prims_at batches c.dateline) c.dateline k true (Some c.after) q
 
     by : (b : Bool) → nat_lt m c.dateline ≡ b → page_reply (bs ++ cs) m k q (Ok c) ≡ page_reply bs m k q (Ok c)
     by true t = ap (λ (b : Bool). if b then ahead else at (bs ++ cs)) t ∙ sym (ap (λ (b : Bool). if b then ahead else at bs) t)
     by false f =
         let within : c.dateline ≤ length bs = let e = ltb-false m c.dateline f in omega (arith, e, h) in
         ap (λ (b : Bool). if b then ahead else at (bs ++ cs)) f
-        ∙ ap (λ (prims : List Primitive). reply prims c.dateline k true (Some (record { object = c.object; keys = c.keys })) q) (prims_kept bs cs c.dateline within)
+        ∙ ap (λ (prims : List Primitive). reply prims c.dateline k true (Some c.after) q) (prims_kept bs cs c.dateline within)
         ∙ sym (ap (λ (b : Bool). if b then ahead else at bs) f)
 
 reply_kept_at : (bs cs : List Batch) (m k : ℕ) (a : CursorAsk) (q : Query) → m ≤ length bs → reply_of (bs ++ cs) m k (record { cursor = a; query = q }) ≡ reply_of bs m k (record { cursor = a; query = q })

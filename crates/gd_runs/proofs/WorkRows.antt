@@ -5,7 +5,8 @@ use Rattle.gd_defs.specs.Query.{required}
 use Rattle.gd_defs.specs.Asked.{Asked}
 use Rattle.gd_defs.specs.Template.{template, clause, no_clauses, links_by, left}
 use Rattle.gd_bytes.specs.Disk.{Cut}
-use Rattle.gd_bytes.specs.Frozen.{Frozen, and_list, no_lists, no_trees}
+use Rattle.gd_tree.specs.Trees.{and_list, no_lists, no_trees}
+use Rattle.gd_bytes.specs.Frozen.{Frozen}
 use Rattle.gd_bytes.specs.FrozenRead.{frozen_of}
 use Rattle.gd_runs.specs.Owed.{left_weight}
 use Rattle.gd_runs.specs.Work.{query_work, page_answers}

@@ -1,6 +1,7 @@
 -- The JSON that the bytes of a line are, and the line that they spell.
 use Rattle.std.specs.Prelude.{ℕ, List, [], length, nat_lt, Result, Ok, Err, if◌then◌else◌, codes, Bool, true, false}
 use Rattle.gd_prim.specs.declared.Primitive.{Primitive}
+use Rattle.gd_grammar.specs.Chain.{◌>>=◌, map_err}
 use Rattle.gd_tree.specs.Json.{Json}
 use Rattle.gd_json.specs.declared.from.JsonFault.{JsonFault}
 use Rattle.gd_json.specs.declared.from.JsonFault.TheVariants as json_fault
@@ -9,35 +10,33 @@ use Rattle.gd_defs.specs.Lines.{Refusal, refusal, err_line_plain}
 use Rattle.gd_runs.specs.Request.{Line, LineFault, bad_line, bad_form, line_of, fault_line}
 use Rattle.gd_defs.specs.Query.{unbuilt}
 
--- why a line is no request
+-- why bytes are no line: too many, no JSON of this profile, or no line that JSON spells
 pub data InputFault : Type 0 where
   line_too_long : InputFault
   no_json : JsonFault → InputFault
   no_line : LineFault → InputFault
 
--- the bytes of a line
+-- the greatest number of bytes of a line
 abbrev pub max_line : ℕ
 max_line = 262_144
 
--- what the value is as a line, or why the bytes are no JSON of this profile
+-- what the value of bytes is as a line, by a function, or why they are no JSON of this profile
 abbrev pub value_line : (Json → Result Line InputFault) → Result Json JsonFault → Result Line InputFault
-value_line line (Ok j) = line j
-value_line line (Err f) = Err (no_json f)
+value_line line r = map_err no_json r >>= line
 
--- what bytes are as a line, where the line of a value is given
+-- what bytes are as a line, by a function that says it of values
 abbrev pub bytes_line : (Json → Result Line InputFault) → List ℕ → Result Line InputFault
 bytes_line line bytes = if nat_lt max_line (length bytes) then Err line_too_long else value_line line (json_from bytes)
 
--- a line, or its fault by form
+-- a line, or why a value is none
 abbrev pub as_line : Result Line LineFault → Result Line InputFault
-as_line (Ok l) = Ok l
-as_line (Err f) = Err (no_line f)
+as_line r = map_err no_line r
 
 -- the line that bytes spell
 abbrev pub line_from : List ℕ → Result Line InputFault
 line_from bytes = bytes_line (λ j. as_line (line_of j)) bytes
 
--- Which values are requests of a form that is built, over a list of primitives.
+-- which values are requests of a form that is built, over a list of primitives
 abbrev pub Forms : Type 0
 Forms = List Primitive → Json → Bool
 
@@ -45,7 +44,7 @@ Forms = List Primitive → Json → Bool
 abbrev pub not_built : InputFault
 not_built = no_line (bad_form (record { code = unbuilt; path = [] }))
 
--- the same where its form is built; what is no line at all is refused as ever
+-- a line whose form is built or not; a value that is no line at all is refused as ever
 abbrev pub as_built : Bool → Result Line LineFault → Result Line InputFault
 as_built built (Err bad_line) = Err (no_line bad_line)
 as_built true (Err (bad_form f)) = Err (no_line (bad_form f))
@@ -57,7 +56,7 @@ as_built false (Ok l) = Err not_built
 abbrev pub line_at : Forms → List Primitive → List ℕ → Result Line InputFault
 line_at forms prims bytes = bytes_line (λ j. as_built (forms prims j) (line_of j)) bytes
 
--- the refusal of bytes that are no JSON of this profile
+-- the refusal that a fault of JSON is
 abbrev pub json_refusal : JsonFault → Refusal
 json_refusal json_fault.BadJson = refusal (codes "BadJson") []
 json_refusal json_fault.TooDeep = refusal (codes "TooDeep") []
@@ -65,7 +64,7 @@ json_refusal json_fault.TooWide = refusal (codes "TooWide") []
 json_refusal json_fault.FloatValue = refusal (codes "FloatValue") []
 json_refusal json_fault.Memory = refusal (codes "Memory") []
 
--- the reply line of such a fault
+-- the reply line to bytes that are no line
 abbrev pub input_fault_line : ℕ → InputFault → List ℕ
 input_fault_line line line_too_long = err_line_plain line (refusal (codes "LineTooLong") [])
 input_fault_line line (no_json f) = err_line_plain line (json_refusal f)

@@ -4,11 +4,12 @@ use Rattle.gd_prim.specs.declared.Batch.{Batch}
 use Rattle.gd_prim.specs.declared.What.TheVariants as what
 use Rattle.gd_prim.specs.Builtin.{builtin}
 use Rattle.gd_defs.specs.History.{prims_at}
+use Rattle.gd_grammar.specs.Chain.{◌>>=◌}
 use Rattle.gd_tree.specs.Json.{Json, compact}
 use Rattle.gd_prim.specs.WellFormed.{all_follow}
 use Rattle.gd_defs.specs.Write.{WriteRequest, ChangeFault, full, exec}
 
--- a stored write: the number and the length of its line, its request and moment, what it wrote and answered
+-- an entry, a write that was stored: the number and the length of its line, its request, its moment, its batch and its result
 pub record Entry : Type 0 where
   pub line : ℕ
   pub bytes : ℕ
@@ -17,16 +18,16 @@ pub record Entry : Type 0 where
   pub batch : Batch
   pub result : Json
 
--- the batches that the file gave at opening, then the entries of this run
+-- a history: the batches that the file gave at opening, and then the entries of this run
 pub record History : Type 0 where
   pub loaded : List Batch
   pub entries : List Entry
 
--- all batches in order
+-- the batches of a history, in order
 abbrev pub batches : History → List Batch
 batches h = h.loaded ++ map (λ e. e.batch) h.entries
 
--- loaded batches and entries count alike
+-- the size of a history: its batches and its entries, counted alike
 abbrev pub size : History → ℕ
 size h = length h.loaded + length h.entries
 
@@ -38,51 +39,46 @@ with_entry h e = record { loaded = h.loaded; entries = h.entries ++ e ∷ [] }
 abbrev pub with_entries : History → List Entry → History
 with_entries h es = record { loaded = h.loaded; entries = h.entries ++ es }
 
--- the bytes of a stored line and of its result
+-- the bytes that an entry keeps: those of its line, and those of its result
 abbrev pub kept_bytes : ℕ → Json → ℕ
 kept_bytes bytes result = bytes + length (compact result)
 
--- the greatest number of such bytes
+-- the greatest number of bytes that the entries of a history keep
 abbrev pub max_history : ℕ
 max_history = 134_217_728
 
--- those of a history
+-- the bytes that the entries of a history keep
 abbrev pub history_bytes : History → ℕ
 history_bytes h = sum_by (λ e. kept_bytes e.bytes e.result) h.entries
 
--- refused where the history would grow past its limit
+-- a batch and its result, unless the entries would keep too many bytes
 abbrev pub within_history : ℕ → Batch × Json → Result (Batch × Json) ChangeFault
 within_history n done = if nat_lt max_history n then Err (full what.History n) else Ok done
 
--- what a write of a line of so many bytes does after a history, or its refusal
+-- what a write of a line of so many bytes does at a moment after a history, or why it is refused
 abbrev pub exec_line : History → WriteRequest → ℕ → ℕ → Result (Batch × Json) ChangeFault
-exec_line h w moment bytes = by (exec (prims_at (batches h) (size h)) (size h) w moment)
-  where
-    by : Result (Batch × Json) ChangeFault → Result (Batch × Json) ChangeFault
-    by (Err f) = Err f
-    by (Ok done) = within_history (history_bytes h + kept_bytes bytes done.1) done
+exec_line h w moment bytes = exec (prims_at (batches h) (size h)) (size h) w moment >>= λ done. within_history (history_bytes h + kept_bytes bytes done.1) done
 
--- the entry is what its request does after the history
+-- an entry is what its request does after a history
 abbrev pub IsEntryAfter : History → Entry → Type 0
 IsEntryAfter h e = exec_line h e.request e.moment e.bytes ≡ Ok (e.batch, e.result)
 
--- so is each entry after those before it
+-- entries are what their requests do, each after a history and the entries before it
 abbrev pub AreEntriesAfter : History → List Entry → Type 0
 AreEntriesAfter h [] = Unit {0}
 AreEntriesAfter h (e ∷ es) = IsEntryAfter h e × AreEntriesAfter (with_entry h e) es
 
--- loaded batches follow one another, entries do what they asked, and their lines differ
+-- a history is legal: its batches may follow one another, its entries are what their requests do, and no two of them have one line
 pub record IsLegal (h : History) : Type 0 where
   pub loaded : IsTrue (all_follow builtin 0 h.loaded)
   pub entries : AreEntriesAfter (record { loaded = h.loaded; entries = [] }) h.entries
-  -- two entries are of two lines
   pub lines : (i j : ℕ) (x y : Entry) → slice_get h.entries i ≡ Some x → slice_get h.entries j ≡ Some y → i < j → x.line ≡ y.line → ⊥
 
--- entries while they stand below n, the first one at this place
+-- the entries that stand below n, where the first one stands at a place
 abbrev pub take_below : ℕ → ℕ → List Entry → List Entry
 take_below place n [] = []
 take_below place n (e ∷ es) = if nat_lt place n then e ∷ take_below (place + 1) n es else []
 
--- the history up to a number of batches, not below the loaded ones
+-- the front of a history of this size, with all of its loaded batches
 abbrev pub upto : ℕ → History → History
 upto n h = record { loaded = h.loaded; entries = take_below (length h.loaded) n h.entries }

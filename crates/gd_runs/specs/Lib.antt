@@ -5,8 +5,11 @@ pub mod Explained
 pub mod Core
 pub mod Replay
 pub mod Owed
+pub mod RootSets
+pub mod Scanned
 pub mod Shape
 pub mod Thawed
+pub mod Fitting
 pub mod Work
 pub mod Pace
 pub mod Side

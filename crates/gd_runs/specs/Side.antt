@@ -8,7 +8,7 @@ use Rattle.gd_bytes.specs.File.{MayStandFor}
 use Rattle.gd_runs.specs.Legal.{Entry, History, batches, size, with_entry, with_entries, upto, exec_line, IsLegal}
 use Rattle.gd_runs.specs.Explained.{IsOfLine, MayBe, entry_at}
 
--- the outcome of a write line: entry and result, an entry that is not shown yet, a refusal over so many, a doubt over so many, not tried, no memory
+-- what is kept of a write line: the number of its entry and its result, of an entry that is not shown yet, why it was refused over so many batches, over how many it is in doubt, that it was not tried, or that no memory was found
 pub data Kept : Type 0 where
   kept_stored : ℕ → Json → Kept
   kept_late : ℕ → Kept
@@ -16,7 +16,7 @@ pub data Kept : Type 0 where
   kept_doubt : ℕ → Kept
   kept_unsettled kept_memory : Kept
 
--- its number
+-- the number of what is kept: of an entry, or of the batches over which it was refused or is in doubt
 abbrev pub number_of : Kept → Option ℕ
 number_of (kept_stored e r) = Some e
 number_of (kept_late e) = Some e
@@ -24,41 +24,41 @@ number_of (kept_refused f n) = Some n
 number_of (kept_doubt n) = Some n
 number_of _ = None
 
--- the entry that it names
+-- the entry that is kept, if it is one
 abbrev pub entry_of : Kept → Option ℕ
 entry_of (kept_stored e r) = Some e
 entry_of (kept_late e) = Some e
 entry_of _ = None
 
--- a group in doubt of this line would become entry n
+-- a group in doubt, if it is of this line, would become this entry
 abbrev pub DoubtStandsAt : Option Entry → ℕ → ℕ → ℕ → Type 0
 DoubtStandsAt None line next n = Unit {0}
 DoubtStandsAt (Some entry) line next n = entry.line ≡ line → n ≡ next
 
--- the outcome of a line agrees with a history and the group in doubt
+-- what is kept of a line agrees with a history and the group in doubt
 abbrev pub Agrees : History → Option Entry → ℕ → Kept → Type 0
 Agrees h doubt line (kept_stored e r) = (entry : Entry) × IsOfLine h line e entry × (entry.result ≡ r)
 Agrees h doubt line (kept_late e) = (entry : Entry) × IsOfLine h line e entry
 Agrees h doubt line (kept_doubt n) = ((e : ℕ) (entry : Entry) → IsOfLine h line e entry → n ≡ e) × DoubtStandsAt doubt line (size h) n
 Agrees h doubt line _ = Unit {0}
 
--- a line with its outcome, in the order of the writes
+-- a line with what is kept of it
 pub record Told : Type 0 where
   pub line : ℕ
   pub kept : Kept
 
--- the lines differ, the numbers do not fall, and behind an entry they are above it
+-- what is kept stands in the order of the writes: the lines differ, the numbers do not fall, and behind an entry they are above it
 pub record AreInOrder (outcomes : List Told) : Type 0 where
   pub lines : (i j : ℕ) (a b : Told) → slice_get outcomes i ≡ Some a → slice_get outcomes j ≡ Some b → i < j → a.line ≡ b.line → ⊥
   pub rise : (i j m n : ℕ) (a b : Told) → slice_get outcomes i ≡ Some a → slice_get outcomes j ≡ Some b → i < j → number_of a.kept ≡ Some m → number_of b.kept ≡ Some n → m ≤ n
   pub above : (i j e n : ℕ) (a b : Told) → slice_get outcomes i ≡ Some a → slice_get outcomes j ≡ Some b → i < j → entry_of a.kept ≡ Some e → number_of b.kept ≡ Some n → e < n
 
--- the group in doubt, if there is one
+-- the groups in doubt, one or none
 abbrev pub doubt_groups : Option Entry → List (List Batch)
 doubt_groups None = []
 doubt_groups (Some e) = (e.batch ∷ []) ∷ []
 
--- a group in doubt may become the next entry
+-- a group in doubt, if there is one, may become the next entry
 abbrev pub MayFollow : (ℕ → Bool) → History → Option Entry → Type 0
 MayFollow may h None = Unit {0}
 MayFollow may h (Some e) = IsLegal (with_entry h e) × MayBe may e.moment
@@ -91,23 +91,23 @@ pub record Begun : Type 0 where
   pub faults : ℕ
   pub lines : List WriteLine
 
--- it is the group that was in doubt
+-- an entry is the group that was in doubt when the round began
 abbrev pub IsOldDoubt : Begun → Entry → Type 0
 IsOldDoubt l entry = l.doubt ≡ Some entry
 
--- an outcome that may be an entry
+-- what is kept may be an entry
 abbrev pub is_stored_or_doubt : Kept → Bool
 is_stored_or_doubt (kept_stored e r) = true
 is_stored_or_doubt (kept_late e) = true
 is_stored_or_doubt (kept_doubt n) = true
 is_stored_or_doubt _ = false
 
--- an entry of a line of the round, which has a kept outcome
+-- an entry is of a line of the round, of which something is kept that may be it
 abbrev pub IsOfBegun : Begun → List Told → Entry → Type 0
 IsOfBegun l outcomes entry = (i : ℕ) × (a : WriteLine) × (slice_get l.lines i ≡ Some a) × (a.line ≡ entry.line) × (a.request ≡ entry.request) × (a.bytes ≡ entry.bytes)
     × ((j : ℕ) × (t : Told) × (slice_get outcomes j ≡ Some t) × (t.line ≡ entry.line) × IsTrue (is_stored_or_doubt t.kept))
 
--- a refusal is that of the line over the first n of the history
+-- where a refusal is kept of a line, it is that of its write over so many batches of the history
 abbrev pub IsRefusalOf : History → WriteLine → Kept → Type 0
 IsRefusalOf h a (kept_refused f n) = (n ≤ size h) × ((moment : ℕ) × (exec_line (upto n h) a.request moment a.bytes ≡ Err f))
 IsRefusalOf h a k = Unit {0}
@@ -116,11 +116,11 @@ IsRefusalOf h a k = Unit {0}
 abbrev pub session_lines : Begun → ℕ → List ℕ
 session_lines l s = map (λ a. a.line) (filter (λ a. a.session == s) l.lines)
 
--- the lines of a session that have an outcome
+-- the lines of a session of which something is kept, in the order of what is kept
 abbrev pub session_outcomes : Begun → ℕ → List Told → List ℕ
 session_outcomes l s outcomes = filter (λ n. list_any (λ m. m == n) (session_lines l s)) (map (λ t. t.line) outcomes)
 
--- the disk failed in the write of this outcome, or in the settling before it
+-- what is kept tells a failure of the disk, in the write or in the settling before it
 abbrev pub is_fault : Kept → Bool
 is_fault (kept_doubt n) = true
 is_fault kept_unsettled = true

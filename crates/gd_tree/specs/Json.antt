@@ -3,6 +3,7 @@ use Rattle.std.specs.Prelude.{ℕ, ◌+◌, ℤ, pos, negsuc, List, [], ◌∷�
 use Rattle.gd_tree.specs.Hex.{hex}
 
 mutual
+  -- null, a truth value, a whole number, a text as its bytes, a list, or an object
   pub data Json : Type 0 where
     null : Json
     boolean : Bool → Json
@@ -11,16 +12,17 @@ mutual
     list : Items → Json
     object : Members → Json
 
+  -- the items of a list, in order
   pub data Items : Type 0 where
     no_items : Items
     item : Json → Items → Items
 
-  -- in byte order of names, each once
+  -- the members of an object: names with their values, in byte order of names, each once
   pub data Members : Type 0 where
     no_members : Members
     member : List ℕ → Json → Members → Members
 
--- a character inside quotes
+-- a byte of a text as it stands between quotes
 abbrev pub escaped : ℕ → List ℕ
 escaped c = if c == 34 then codes "\\\"" else if c == 92 then codes "\\\\" else if nat_lt 31 c then c ∷ []
     else if c == 8 then codes "\\b" else if c == 12 then codes "\\f" else if c == 10 then codes "\\n"
@@ -35,8 +37,8 @@ abbrev pub number_text : ℤ → List ℕ
 number_text (pos n) = decimal n
 number_text (negsuc n) = 45 ∷ decimal (n + 1)
 
--- the compact text: no blanks
 abbrev mutual
+  -- the compact text of a value: without blanks, members in order of their names
   pub compact : Json → List ℕ
   compact null = codes "null"
   compact (boolean true) = codes "true"
@@ -48,10 +50,12 @@ abbrev mutual
   compact (object no_members) = codes "{}"
   compact (object (member k j ms)) = codes "{" ++ quoted k ++ codes ":" ++ compact j ++ more_members ms ++ codes "}"
 
+  -- the texts of further items, a comma before each
   pub more_items : Items → List ℕ
   more_items no_items = []
   more_items (item j js) = codes "," ++ compact j ++ more_items js
 
+  -- the texts of further members, a comma before each
   pub more_members : Members → List ℕ
   more_members no_members = []
   more_members (member k j ms) = codes "," ++ quoted k ++ codes ":" ++ compact j ++ more_members ms

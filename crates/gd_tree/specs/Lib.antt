@@ -2,3 +2,4 @@ pub mod Hex
 pub mod Json
 pub mod Look
 pub mod JsonCode
+pub mod Trees

@@ -1,0 +1,69 @@
+-- What each form of a member asks of its property.
+use Rattle.std.specs.Prelude.{ℕ, List, [], Bool, true, false, not, ◌||◌, ◌==◌, Some, unwrap_or, codes}
+use Rattle.std.specs.Option.{option_map_or}
+use Rattle.gd_prim.specs.Builtin.{name_place, text_place}
+use Rattle.gd_tree.specs.Json.{Json}
+use Rattle.gd_defs.specs.Data.{Test, anything}
+use Rattle.gd_defs.specs.Query.{Mode, required, optional, Directives}
+use Rattle.gd_defs.specs.Property.{Property, Expects, a_value, a_key, an_object_of_system, a_plain_object, expects_of, holds_values}
+use Rattle.gd_defs.specs.Asked.Parts.{Style, as_operand, as_value, as_name, as_id, as_clause, Members, no_members, asks, Clause}
+
+-- the property `name`
+abbrev pub name_property : Property
+name_property = record { stored = name_place; reversed = false; expected = Some text_place; unique = true }
+
+-- the clause whose one member is the name: in a mode, with a test, as a literal or not
+abbrev pub name_test : Mode → Bool → Test → Members
+name_test mode given t = asks (codes "name")
+    (record { property = name_property; test = t; mode = mode; given = given; counted = true; style = as_value; listed = false; single = false; sort = []; limit = 100 })
+    no_members no_members
+
+-- the clause that asks for the name alone
+abbrev pub name_clause : Members
+name_clause = name_test optional false anything
+
+-- how answers print that no clause of their own prints
+abbrev pub style_of : Expects → Style
+style_of (a_value k) = as_value
+style_of a_key = as_value
+style_of an_object_of_system = as_id
+style_of a_plain_object = as_name
+
+-- what null and [] ask of an answer: of a plain object its name
+abbrev pub own_clause : Expects → Members
+own_clause a_plain_object = name_clause
+own_clause _ = no_members
+
+-- the answers are counted one by one, whatever is asked of them: all but plain objects
+abbrev pub counts : Expects → Bool
+counts a_plain_object = false
+counts _ = true
+
+-- null, or [] where a list is asked for
+abbrev pub ask_form : List ℕ → Property → Bool → Members → Members
+ask_form name p listed rest = asks name
+    (record { property = p; test = anything; mode = optional; given = false; counted = counts (expects_of p.expected); style = style_of (expects_of p.expected); listed = listed; single = not listed; sort = []; limit = 100 })
+    (own_clause (expects_of p.expected)) rest
+
+-- a literal or an operand with its test; of a plain object it tests the name
+abbrev pub operand_form : List ℕ → Property → Expects → Bool → Json → Test → Members → Members
+operand_form name p a_plain_object literal j t rest = asks name
+    (record { property = p; test = anything; mode = required; given = literal; counted = literal; style = as_operand j; listed = false; single = false; sort = []; limit = 100 })
+    (name_test required literal t) rest
+operand_form name p e literal j t rest = asks name
+    (record { property = p; test = t; mode = required; given = literal; counted = true; style = as_operand j; listed = false; single = false; sort = []; limit = 100 })
+    no_members rest
+
+-- the mode of a form {..} or [{..}]: required, unless it says otherwise
+abbrev pub mode_of : Directives → Mode
+mode_of d = unwrap_or d.mode required
+
+-- one answer is asked for, and another is one too many: not in a list, nor with the limit 1
+abbrev pub asks_single : Bool → Directives → Bool
+asks_single listed d = not (listed || option_map_or (λ n. n == 1) d.limit false)
+
+-- the form {..}, or [{..}] where a list is asked for
+abbrev pub clause_form : List ℕ → Property → Directives → Bool → Clause → Members → Members
+clause_form name p d listed c rest = asks name
+    (record { property = p; test = anything; mode = mode_of d; given = false; counted = holds_values (expects_of p.expected); style = as_clause; listed = listed; single = asks_single listed d; sort = c.1; limit = unwrap_or d.limit 100 })
+    c.0 rest
