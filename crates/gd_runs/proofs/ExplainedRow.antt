@@ -9,6 +9,7 @@ use Rattle.json.specs.Text.{content}
 use Rattle.json.specs.Word.{word, after_number}
 use Rattle.serde_json.specs.Read.{number_of}
 use Rattle.std.proofs.Common.{◌≡◌, refl, ℕ, zero, suc, ◌<◌, ◌≤◌, List, [], ◌∷◌, ◌++◌, codes, true, Result, Ok, Err, Option, Some, None, subst, sym, ap, ◌∙◌, ◌⊎◌, ⊎_elim, arith, map}
+use Rattle.gd_prim.specs.History.{prims_of}
 use Rattle.gd_prim.specs.declared.Batch.{Batch}
 use Rattle.gd_tree.specs.Json.{Json, null}
 use Rattle.gd_defs.specs.Write.{WriteRequest, ChangeFault}
@@ -58,11 +59,11 @@ pub lines : map (λ r. r.line) runs ≡ lines_of (codes "{\"sid\":0,\"write\":{\
 lines = refl
 
 pub entry_there : exec_line (record { loaded = []; entries = [] }) request 0 79 ≡ Ok (done.0, done.1)
-unfolding digits value punctuate lex content word after_number number_of scan_numeral is_utf8 chars encode
+unfolding digits value punctuate lex content word after_number number_of scan_numeral is_utf8 chars encode prims_of
 entry_there = refl
 
 pub legal : IsLegal history
-unfolding digits value punctuate lex content word after_number number_of scan_numeral is_utf8 chars encode
+unfolding digits value punctuate lex content word after_number number_of scan_numeral is_utf8 chars encode prims_of
 legal = record { loaded = refl; entries = (refl, tt); lines = one_line }
   where
     one_line : (i j : ℕ) (x y : Entry) → slice_get history.entries i ≡ Some x → slice_get history.entries j ≡ Some y → i < j → x.line ≡ y.line → ⊥
@@ -74,7 +75,7 @@ abbrev pub all_built : Forms
 all_built prims j = true
 
 pub printed_first : Prints all_built history 0 write_bytes (stored 0) first_reply
-unfolding digits value punctuate lex content word after_number number_of scan_numeral is_utf8 chars encode
+unfolding digits value punctuate lex content word after_number number_of scan_numeral is_utf8 chars encode prims_of
 printed_first = (entry, 0, (refl, refl), refl, refl)
 
 abbrev read_of : Result Line InputFault → Option ReadRequest
@@ -82,7 +83,7 @@ read_of (Ok (read s r)) = Some r
 read_of _ = None
 
 pub read_reply : Rattle.std.specs.Prelude.option_map (reply_of (batches history) 1 1) (read_of (line_from read_bytes)) ≡ Some second_reply
-unfolding digits value punctuate lex content word after_number number_of scan_numeral is_utf8 chars encode
+unfolding digits value punctuate lex content word after_number number_of scan_numeral is_utf8 chars encode prims_of
 read_reply = refl
 
 -- the two runs
@@ -114,7 +115,7 @@ one_le : 1 ≤ 1
 one_le = Prim.omega arith
 
 pub printed_second : Prints all_built history 1 read_bytes (answered 1) second_reply
-unfolding digits value punctuate lex content word after_number number_of scan_numeral is_utf8 chars encode
+unfolding digits value punctuate lex content word after_number number_of scan_numeral is_utf8 chars encode prims_of
 printed_second = (0, read_request, refl, one_le, refl)
 
 abbrev IsBoundedIfNumber : ℕ → Run → Type 0
@@ -134,7 +135,7 @@ zero_le_one = Prim.omega arith
 
 -- the write has number 0: nothing stands before it
 bound_first : IsBoundedIfNumber 0 first_run
-unfolding digits value punctuate lex content word after_number number_of scan_numeral is_utf8 chars encode
+unfolding digits value punctuate lex content word after_number number_of scan_numeral is_utf8 chars encode prims_of
 bound_first n e = subst (IsBounded history runs 0 first_run) (sym e) (record {
   lower = record { loaded = zero_le; rounds = λ i q d _ later _. below_zero q.line.round later; session = λ i q d before _ _ _. below_zero i before };
   upper = zero_le_one;
@@ -147,7 +148,7 @@ before_second (suc i) q d before at t = absurd (Prim.omega (arith, before))
 
 -- the read has number 1: the write of its session printed dateline 1
 bound_second : IsBoundedIfNumber 1 second_run
-unfolding digits value punctuate lex content word after_number number_of scan_numeral is_utf8 chars encode
+unfolding digits value punctuate lex content word after_number number_of scan_numeral is_utf8 chars encode prims_of
 bound_second n e = subst (IsBounded history runs 1 second_run) (sym e) (record {
   lower = record { loaded = zero_le_one; rounds = λ i q d _ later _. below_zero q.line.round later; session = λ i q d before at same t. before_second i q d before at t };
   upper = one_le;
@@ -161,7 +162,7 @@ apart e = absurd (differ e)
 
 -- the one entry is that of the first line
 its_line : (e : ℕ) (x : Entry) → entry_at history e ≡ Some x → IsOfRun runs e x
-unfolding digits value punctuate lex content word after_number number_of scan_numeral is_utf8 chars encode
+unfolding digits value punctuate lex content word after_number number_of scan_numeral is_utf8 chars encode prims_of
 its_line zero x h = subst (IsOfRun runs 0) (some_eq h) (first_run, refl, (0, refl, refl), refl)
 its_line (suc e) x h = apart h
 
@@ -193,7 +194,7 @@ in_order zero (suc e) x y q r a b c f before = apart b
 
 -- the whole run: what is read, what is printed
 pub explained : Explains all_built [] (λ m. true) (codes "{\"sid\":0,\"write\":{\"query\":{\"create\":\"unconditional\",\"guid\":null,\"name\":\"Ann\"}}}\n{\"sid\":0,\"read\":{\"query\":[{\"guid\":null,\"name\":\"Ann\"}]}}\n") (first_reply ++ 10 ∷ second_reply ++ 10 ∷ []) history
-unfolding digits value punctuate lex content word after_number number_of scan_numeral is_utf8 chars encode
+unfolding digits value punctuate lex content word after_number number_of scan_numeral is_utf8 chars encode prims_of
 explained = (
   runs,
   record {

@@ -11,6 +11,7 @@ use Rattle.json.specs.Text.{content, code_unit, short_escape}
 use Rattle.json.specs.Word.{word, after_number}
 use Rattle.serde_json.specs.Read.{number_of}
 use Rattle.std.proofs.Common.{◌≡◌, ◌==◌, if◌then◌else◌, ℕ, ◌+◌, List, [], ◌∷◌, ◌++◌, length, map, Result, Ok, Err}
+use Rattle.gd_prim.specs.History.{prims_of}
 use Rattle.gd_prim.specs.declared.Batch.{Batch}
 use Rattle.gd_tree.specs.Json.{Json}
 use Rattle.gd_defs.specs.Write.{ChangeFault}
@@ -36,7 +37,7 @@ run batches k (l ∷ ls) = let one : List Batch × List ℕ = after_line batches
 
 -- the replies to lines of bytes
 unfoldable pub replies : List (List ℕ) → List (List ℕ)
-unfolding digits value punctuate lex content code_unit short_escape word after_number number_of scan_numeral float_is_finite round is_utf8 chars encode
+unfolding digits value punctuate lex content code_unit short_escape word after_number number_of scan_numeral float_is_finite round is_utf8 chars encode prims_of
 replies lines = (run [] 0 (map line_from lines)).1
 
 -- a line with its reply

@@ -2,6 +2,7 @@
 use Rattle.std.specs.Fmt.{digits}
 use Rattle.std.proofs.Common.{◌≡◌, refl, ℕ, List, [], ◌∷◌, Option, Some, None, Bool, true, false, map, option_map, codes}
 use Rattle.std.specs.Option.{option_map_or}
+use Rattle.gd_prim.specs.History.{prims_of}
 use Rattle.gd_prim.specs.declared.Primitive.{Primitive}
 use Rattle.gd_prim.specs.Builtin.{builtin}
 use Rattle.gd_defs.specs.Asked.{asked_query}
@@ -28,11 +29,11 @@ abbrev start : Body
 start = scanning (record { iter = record { place = 0; accepted = None }; weight = 0; frames = [] })
 
 pub started_in_builtin : map (by_position builtin [] start) builtin_queries ≡ map (by_query builtin) builtin_queries
-unfolding digits query_from
+unfolding digits query_from prims_of
 started_in_builtin = refl
 
 pub started_in_types : map (by_position type_store [] start) type_queries ≡ map (by_query type_store) type_queries
-unfolding digits query_from type_store
+unfolding digits query_from type_store prims_of
 started_in_types = refl
 
 -- ---- in the middle
@@ -45,7 +46,7 @@ sorted = codes "[{\"name\":null,\"sort\":\"-name\",\"type\":\"/type/namespace\"}
 pub while_scanning : by_position builtin (record { object = 0; keys = Some 66 ∷ [] } ∷ record { object = 1; keys = Some 67 ∷ [] } ∷ [])
     (scanning (record { iter = record { place = 40; accepted = None }; weight = 0; frames = record { place = 2; iter = record { place = 3; accepted = None }; lists = and_list no_trees no_lists } ∷ [] })) sorted
     ≡ by_query builtin sorted
-unfolding digits query_from
+unfolding digits query_from prims_of
 while_scanning = refl
 
 -- namespaces with their ids and names
@@ -77,22 +78,22 @@ abbrev it_fits : Body → Bool
 it_fits b = option_map_or (λ q. fits builtin (λ prims hop t. 2) q (record { dateline = 0; after = None; rows = rows; body = b })) (asked_from builtin query) false
 
 pub after_one_tree : by_position builtin rows (built (0 ∷ [])) query ≡ by_query builtin query
-unfolding digits query_from asked_from
+unfolding digits query_from asked_from prims_of
 after_one_tree = refl
 
 pub after_one_id : by_position builtin rows (printed (0 ∷ 1 ∷ 2 ∷ [])) query ≡ by_query builtin query
-unfolding digits query_from asked_from
+unfolding digits query_from asked_from prims_of
 after_one_id = refl
 
 pub built_fits : it_fits (built (0 ∷ [])) ≡ true
-unfolding asked_from
+unfolding asked_from prims_of
 built_fits = refl
 
 pub printed_fits : it_fits (printed (0 ∷ 1 ∷ 2 ∷ [])) ≡ true
-unfolding asked_from
+unfolding asked_from prims_of
 printed_fits = refl
 
 -- the first row was found, and the scan goes on at the next type link, which one member accepts
 pub after_one_row : by_position builtin (row 0 ∷ []) (scanning (record { iter = record { place = 38; accepted = Some 1 }; weight = 0; frames = [] })) query ≡ by_query builtin query
-unfolding digits query_from
+unfolding digits query_from prims_of
 after_one_row = refl

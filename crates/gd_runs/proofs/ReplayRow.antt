@@ -9,6 +9,7 @@ use Rattle.json.specs.Text.{content}
 use Rattle.json.specs.Word.{word, after_number}
 use Rattle.serde_json.specs.Read.{number_of}
 use Rattle.std.proofs.Common.{◌≡◌, refl, ℕ, List, [], ◌∷◌, ◌++◌, codes, true, Result, Ok, Some, None, inl, inr}
+use Rattle.gd_prim.specs.History.{prims_of}
 use Rattle.gd_runs.specs.Input.{InputFault}
 use Rattle.gd_runs.specs.Owed.{MembersOf}
 use Rattle.gd_bytes.specs.Frozen.{Frozen, scanning}
@@ -53,25 +54,25 @@ abbrev at_start : Frozen
 at_start = record { dateline = 0; after = None; rows = []; body = scanning (record { iter = record { place = 0; accepted = None }; weight = 0; frames = [] }) }
 
 pub owes_the_same : (k : ℕ) → thawed_reply [] k request at_start ≡ owed_line [] k reading
-unfolding digits value punctuate lex content word after_number number_of scan_numeral is_utf8 chars encode
+unfolding digits value punctuate lex content word after_number number_of scan_numeral is_utf8 chars encode prims_of
 owes_the_same k = refl
 
 pub freezes : FreezesAs members [] reading at_start
-unfolding digits value punctuate lex content word after_number number_of scan_numeral is_utf8 chars encode
+unfolding digits value punctuate lex content word after_number number_of scan_numeral is_utf8 chars encode prims_of
 freezes = record { spelled = refl; dateline = refl; after = refl; fitting = refl; same = owes_the_same }
 
 pub began : LineStep members (λ m. true) (opened []) 0 begin_bytes (codes "{\"code\":\"/api/status/ok\",\"dateline\":0,\"line\":0,\"result\":\"begun\"}") held
-unfolding digits value punctuate lex content word after_number number_of scan_numeral is_utf8 chars encode
+unfolding digits value punctuate lex content word after_number number_of scan_numeral is_utf8 chars encode prims_of
 began = inr (inl (begin 0 request, refl, (refl, refl)))
 
 pub froze : LineStep members (λ m. true) held 1 freeze_bytes (codes "{\"code\":\"/api/status/ok\",\"dateline\":0,\"line\":1,\"result\":{\"frozen\":\"f1:0:-:[]:s[0,0]\"}}") held
-unfolding digits value punctuate lex content word after_number number_of scan_numeral is_utf8 chars encode
+unfolding digits value punctuate lex content word after_number number_of scan_numeral is_utf8 chars encode prims_of
 froze = inr (inl (freeze 0, refl, (refl, (at_start, freezes, refl))))
 
 pub finished : LineStep members (λ m. true) held 2 slice_bytes (codes "{\"code\":\"/api/status/ok\",\"dateline\":0,\"line\":2,\"result\":[{\"guid\":\"#00000000000000010000000000000003\",\"name\":\"English\"}]}") ended
-unfolding digits value punctuate lex content word after_number number_of scan_numeral is_utf8 chars encode
+unfolding digits value punctuate lex content word after_number number_of scan_numeral is_utf8 chars encode prims_of
 finished = inr (inl (slice 0 1_000_000, refl, inr (refl, refl)))
 
 pub replayed : Replays members (λ m. true) [] (codes "{\"begin\":{\"sid\":0,\"read\":{\"query\":[{\"guid\":null,\"name\":\"English\"}]}}}\n{\"freeze\":{\"sid\":0}}\n{\"slice\":{\"sid\":0,\"budget\":1000000}}\n") (codes "{\"code\":\"/api/status/ok\",\"dateline\":0,\"line\":0,\"result\":\"begun\"}" ++ 10 ∷ codes "{\"code\":\"/api/status/ok\",\"dateline\":0,\"line\":1,\"result\":{\"frozen\":\"f1:0:-:[]:s[0,0]\"}}" ++ 10 ∷ codes "{\"code\":\"/api/status/ok\",\"dateline\":0,\"line\":2,\"result\":[{\"guid\":\"#00000000000000010000000000000003\",\"name\":\"English\"}]}" ++ 10 ∷ []) ended
-unfolding digits value punctuate lex content word after_number number_of scan_numeral is_utf8 chars encode
+unfolding digits value punctuate lex content word after_number number_of scan_numeral is_utf8 chars encode prims_of
 replayed = (codes "{\"code\":\"/api/status/ok\",\"dateline\":0,\"line\":0,\"result\":\"begun\"}", held, codes "{\"code\":\"/api/status/ok\",\"dateline\":0,\"line\":1,\"result\":{\"frozen\":\"f1:0:-:[]:s[0,0]\"}}" ++ 10 ∷ codes "{\"code\":\"/api/status/ok\",\"dateline\":0,\"line\":2,\"result\":[{\"guid\":\"#00000000000000010000000000000003\",\"name\":\"English\"}]}" ++ 10 ∷ [], began, refl, (codes "{\"code\":\"/api/status/ok\",\"dateline\":0,\"line\":1,\"result\":{\"frozen\":\"f1:0:-:[]:s[0,0]\"}}", held, codes "{\"code\":\"/api/status/ok\",\"dateline\":0,\"line\":2,\"result\":[{\"guid\":\"#00000000000000010000000000000003\",\"name\":\"English\"}]}" ++ 10 ∷ [], froze, refl, (codes "{\"code\":\"/api/status/ok\",\"dateline\":0,\"line\":2,\"result\":[{\"guid\":\"#00000000000000010000000000000003\",\"name\":\"English\"}]}", ended, [], finished, refl, (refl, refl))))

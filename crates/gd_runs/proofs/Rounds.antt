@@ -7,6 +7,7 @@ use Rattle.std.specs.List.{AllByRecursion}
 use Rattle.gd_prim.specs.declared.Primitive.{Primitive}
 use Rattle.gd_prim.specs.declared.Batch.{Batch}
 use Rattle.gd_prim.specs.Builtin.{builtin}
+use Rattle.gd_prim.specs.History.{prims_of}
 use Rattle.gd_defs.specs.History.{prims_at}
 use Rattle.gd_prim.specs.WellFormed.{all_follow}
 use Rattle.gd_defs.specs.Query.{Query}
@@ -115,7 +116,7 @@ pub length_batches : (h : History) → length (batches h) ≡ size h
 length_batches h = length-append h.loaded (map (λ e. e.batch) h.entries) ∙ ap (λ (n : ℕ). length h.loaded + n) (length-map h.entries (λ (e : Entry). e.batch))
 
 pub prims_kept : (bs cs : List Batch) (m : ℕ) → m ≤ length bs → prims_at (bs ++ cs) m ≡ prims_at bs m
-prims_kept bs cs m h = ap (λ (l : List Batch). builtin ++ flat_map (λ b. b.prims) l) (take-append-le m bs cs h)
+prims_kept bs cs m h = ap prims_of (take-append-le m bs cs h)
 
 page_kept : (bs cs : List Batch) (m k : ℕ) (q : Query) (c : Result Cursor ℕ) → m ≤ length bs → page_reply (bs ++ cs) m k q c ≡ page_reply bs m k q c
 page_kept bs cs m k q (Err offset) h = refl

@@ -2,6 +2,7 @@
 use Rattle.std.proofs.Common.{◌≡◌, refl, ℕ, List, Option, true, map, option_map, is_some}
 use Rattle.std.specs.Prelude.{filter}
 use Rattle.std.specs.List.{list_all}
+use Rattle.gd_prim.specs.History.{prims_of}
 use Rattle.gd_prim.specs.declared.Primitive.{Primitive}
 use Rattle.gd_prim.specs.Builtin.{builtin}
 use Rattle.gd_prim.specs.Live.{objects, places_where}
@@ -26,17 +27,17 @@ abbrev each_by_template : List Primitive → List (List ℕ) → List (Option (L
 each_by_template prims = map (λ t. option_map (λ q. by_template prims (template_of q)) (asked_from prims t))
 
 pub builtin_queries_are_meant : list_all (λ t. is_some (asked_from builtin t)) builtin_queries ≡ true
-unfolding asked_from
+unfolding asked_from prims_of
 builtin_queries_are_meant = refl
 
 pub same_of_builtin : each_by_template builtin builtin_queries ≡ each_by_query builtin builtin_queries
-unfolding asked_from
+unfolding asked_from prims_of
 same_of_builtin = refl
 
 pub type_queries_are_meant : list_all (λ t. is_some (asked_from type_store t)) type_queries ≡ true
-unfolding asked_from type_store
+unfolding asked_from type_store prims_of
 type_queries_are_meant = refl
 
 pub same_of_types : each_by_template type_store type_queries ≡ each_by_query type_store type_queries
-unfolding asked_from type_store
+unfolding asked_from type_store prims_of
 same_of_types = refl
