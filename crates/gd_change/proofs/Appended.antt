@@ -9,10 +9,7 @@ use Rattle.std.proofs.Math.ListN.{get_or-append}
 use Rattle.gd_prim.specs.declared.Primitive.{Primitive}
 use Rattle.gd_prim.specs.Live.{has_successor, is_live, is_object, live_where, value_at, end_at, passes_at}
 use Rattle.gd_defs.specs.Property.{first}
-
-or-false : (a : Bool) → (a || false) ≡ a
-or-false true = refl
-or-false false = refl
+use Rattle.gd_change.proofs.Bools.{or-false, or-front, or-back}
 
 -- none has a previous one
 pub record SucceedsNone (more : List Primitive) : Type 0 where
@@ -47,14 +44,6 @@ same_front test prims more i (x ∷ xs) s within =
     let here : i < length prims = omega arith in
     let rest : (i + 1) + length xs ≤ length prims = omega arith in
     rw (is_live-more prims more i s here, same_front test prims more (i + 1) xs s rest) refl
-
-pub or-front : (a b : Bool) → (a || b) ≡ false → a ≡ false
-or-front true b neither = neither
-or-front false b neither = refl
-
-pub or-back : (a b : Bool) → (a || b) ≡ false → b ≡ false
-or-back true b neither = cc
-or-back false b neither = neither
 
 -- what does not pass gives none
 none_of : (test : Primitive → Bool) (prims : List Primitive) (i : ℕ) (xs : List Primitive) → list_any test xs ≡ false → filter_map (seeks test prims) (enumerate_from i xs) ≡ []
@@ -111,16 +100,7 @@ pub any_passes-more : (test : Primitive → Bool) (prims more : List Primitive) 
 any_passes-more test prims more [] below = refl
 any_passes-more test prims more (k ∷ ks) (here, rest) = rw (slice_get-front prims more k here, any_passes-more test prims more ks rest) refl
 
--- the first value that a function gives
-abbrev pub first_some : (ℕ → Option Bool) → List ℕ → Option Bool
-first_some f ks = option_and_then f (find (λ k. is_some (f k)) ks)
-
--- functions that agree below a number give the same first value
-pub first_some-same : (f g : ℕ → Option Bool) (n : ℕ) (ks : List ℕ) → ((k : ℕ) → k < n → f k ≡ g k) → Below n ks → first_some f ks ≡ first_some g ks
-first_some-same f g n [] same below = refl
-first_some-same f g n (k ∷ ks) same (here, rest) =
-    ap (λ b. option_and_then f (cond b (Some k) (find (λ k. is_some (f k)) ks))) (ap is_some (same k here))
-    ∙ (elim (is_some (g k)) as (λ b. option_and_then f (cond b (Some k) (find (λ k. is_some (f k)) ks)) ≡ option_and_then g (cond b (Some k) (find (λ k. is_some (g k)) ks))) [
-      | true ↦ same k here
-      | false ↦ first_some-same f g n ks same rest
-    ])
+-- functions that agree below a number
+pub filter_map-same : {A : Type 0} (f g : ℕ → Option A) (n : ℕ) (ks : List ℕ) → ((k : ℕ) → k < n → f k ≡ g k) → Below n ks → filter_map f ks ≡ filter_map g ks
+filter_map-same f g n [] same below = refl
+filter_map-same f g n (k ∷ ks) same (here, rest) = rw (same k here, filter_map-same f g n ks same rest) refl

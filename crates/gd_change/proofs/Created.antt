@@ -15,10 +15,14 @@ use Rattle.gd_defs.specs.Data.{has_kind, of_text}
 use Rattle.gd_defs.specs.Query.{bad_value}
 use Rattle.gd_defs.specs.Property.{Property, answers, first_right, is_unique, stated}
 use Rattle.gd_defs.specs.Asked.{Unknown, name_property, bad_query, member_property}
-use Rattle.gd_defs.specs.Write.{Stamp, new_object, new_link, to_value, Members, no_members, member, created, fact, its_guid, resolved_root, carried_root, fitting, exec, ChangeFault, unknown}
+use Rattle.gd_defs.specs.Write.Parts.{to_value, Members, no_members, member, created, fact, its_guid}
+use Rattle.gd_defs.specs.Write.Links.{Stamp, new_object}
+use Rattle.gd_defs.specs.Write.{resolved_root, carried_root, fitting, exec, unknown}
 use Rattle.gd_defs.specs.Change as change
 use Rattle.gd_runs.specs.Built.{SaysName, create_request, plain_name}
-use Rattle.gd_change.proofs.Appended.{or-front, or-back, live_where-more, live_where-none}
+use Rattle.gd_change.specs.Create.{stamp, name_link, batch, answer}
+use Rattle.gd_change.proofs.Bools.{or-front, or-back}
+use Rattle.gd_change.proofs.Appended.{live_where-more, live_where-none}
 
 -- the member `name` with its words looked up
 abbrev named : List ℕ → Members
@@ -52,15 +56,6 @@ resolved_root-long prims false x says long = rw (member_property-name prims (cod
 
 -- ---- carried out
 
--- the object and the link of its name, at a place
-abbrev pub made : ℕ → ℕ → List ℕ → List Primitive
-made moment place x = new_object (record { scope = None; moment = moment }) ∷ new_link (record { scope = None; moment = moment }) name_property place (to_value (datum.Text x)) None ∷ []
-
--- what the write answers
-abbrev pub answer : Bool → ℕ → List ℕ → JsonMembers
-answer true place x = json_member (codes "create") (text (codes "created")) (json_member (codes "guid") (text (guid place)) (json_member (codes "name") (text x) no_json_members))
-answer false place x = json_member (codes "create") (text (codes "created")) (json_member (codes "name") (text x) no_json_members)
-
 -- a link of this typ with this left end, and a text
 abbrev names_it : ℕ → Primitive → Bool
 names_it place p = refers p.typ name_place && refers p.left place && has_kind of_text p.value
@@ -84,23 +79,20 @@ answers-new s prims none =
     ∙ live_where-none (names_it (length prims)) prims (none_names (length prims) prims none)
 
 pub carried_root-create : (prims : List Primitive) (moment : ℕ) (g : Bool) (x : List ℕ) → NoneFrom (length prims) prims
-    → carried_root (record { scope = None; moment = moment }) prims (create_request g x).change.root (None, looked_up g x)
-    ≡ Ok ((prims ++ new_object (record { scope = None; moment = moment }) ∷ []) ++ new_link (record { scope = None; moment = moment }) name_property (length prims) (to_value (datum.Text x)) None ∷ [], λ final. answer g (length prims) x)
-carried_root-create prims moment true x none = rw (answers-new (record { scope = None; moment = moment }) prims none) refl
-carried_root-create prims moment false x none = rw (answers-new (record { scope = None; moment = moment }) prims none) refl
+    → carried_root (stamp moment) prims (create_request g x).change.root (None, looked_up g x)
+    ≡ Ok ((prims ++ new_object (stamp moment) ∷ []) ++ name_link moment (length prims) x ∷ [], λ final. answer g (length prims) x)
+carried_root-create prims moment true x none = rw (answers-new (stamp moment) prims none) refl
+carried_root-create prims moment false x none = rw (answers-new (stamp moment) prims none) refl
 
 -- ---- the whole write
-
-abbrev pub batch : ℕ → ℕ → List ℕ → Batch
-batch moment place x = record { moment = moment; prims = made moment place x }
 
 pub exec-create : (prims : List Primitive) (requests moment : ℕ) (g : Bool) (x : List ℕ) → SaysName prims → NoneFrom (length prims) prims → nat_le (length x) 4096 ≡ true
     → exec prims requests (create_request g x) moment ≡ fitting prims requests (batch moment (length prims) x) (object (answer g (length prims) x))
 exec-create prims requests moment g x says none short =
-    let s : Stamp = record { scope = None; moment = moment } in
+    let s : Stamp = stamp moment in
     rw (resolved_root-create prims g x says short, carried_root-create prims moment g x none)
     (ap (λ ps. fitting prims requests (record { moment = moment; prims = ps }) (object (answer g (length prims) x)))
-        (ap (drop (length prims)) (append_assoc prims (new_object s ∷ []) _) ∙ drop-append_seam prims (made moment (length prims) x)))
+        (ap (drop (length prims)) (append_assoc prims (new_object s ∷ []) _) ∙ drop-append_seam prims (batch moment (length prims) x).prims))
 
 pub exec-long : (prims : List Primitive) (requests moment : ℕ) (g : Bool) (x : List ℕ) → SaysName prims → nat_le (length x) 4096 ≡ false
     → exec prims requests (create_request g x) moment ≡ Err (unknown (bad_query bad_value (codes "name" ∷ [])))

@@ -10,23 +10,17 @@ use Rattle.gd_prim.specs.Builtin.{builtin, name_place}
 use Rattle.gd_prim.specs.Limits.{max_prims, max_batch, Count, limits, first_full}
 use Rattle.gd_prim.specs.declared.What.{What}
 use Rattle.gd_prim.specs.declared.What.TheVariants as what
-use Rattle.gd_prim.specs.History.{prims_of}
+use Rattle.gd_prim.specs.History.{prims_of, is_history}
 use Rattle.gd_prim.specs.Live.{refers}
 use Rattle.gd_prim.specs.WellFormed.{max_moment, refers_below, is_well_placed, first_bad, bad_place, may_follow, all_follow}
-use Rattle.gd_change.proofs.Created.{NoneFrom, batch}
-use Rattle.gd_defs.specs.Write.{Stamp, new_object}
+use Rattle.gd_change.specs.Create.{stamp, batch}
+use Rattle.gd_change.proofs.Bools.{and-front, and-back}
+use Rattle.gd_change.proofs.Created.{NoneFrom}
+use Rattle.gd_defs.specs.Write.Links.{new_object}
 
 -- each left end is below the number
 abbrev LeftsBelow : ℕ → List Primitive → Type 0
 LeftsBelow n prims = list_all (λ p. refers_below n p.left) prims ≡ true
-
-and-front : (a b : Bool) → (a && b) ≡ true → a ≡ true
-and-front true b both = refl
-and-front false b both = both
-
-and-back : (a b : Bool) → (a && b) ≡ true → b ≡ true
-and-back true b both = both
-and-back false b both = cc
 
 refers_below-raise : (m n : ℕ) (reference : Option ℕ) → m ≤ n → refers_below m reference ≡ true → refers_below n reference ≡ true
 refers_below-raise m n None up below = refl
@@ -90,7 +84,8 @@ lefts_of_all prims requests (b ∷ bs) follow below =
     rw (← append_assoc) (lefts_of_all (prims ++ b.prims) (requests + 1) bs (and-back _ _ follow) (LeftsBelow-append _ prims b.prims old new))
 
 -- no primitive of batches that follow one another has the end of their list as its left end
-pub NoneFrom-prims_of : (batches : List Batch) → IsTrue (all_follow builtin 0 batches) → NoneFrom (length (prims_of batches)) (prims_of batches)
+pub NoneFrom-prims_of : (batches : List Batch) → IsTrue (is_history batches) → NoneFrom (length (prims_of batches)) (prims_of batches)
+unfolding prims_of is_history
 NoneFrom-prims_of batches follow = NoneFrom-LeftsBelow (length (prims_of batches)) (prims_of batches) (lefts_of_all builtin 0 batches follow refl)
 
 below : (m n : ℕ) → m < n → nat_lt m n ≡ true
@@ -106,8 +101,7 @@ same_number n = grind (arith, nat_tests)
 pub bad_place-create : (prims : List Primitive) (moment : ℕ) (x : List ℕ) → name_place < length prims → length prims + 2 ≤ max_prims → moment ≤ max_moment
     → bad_place prims (batch moment (length prims) x) ≡ None
 bad_place-create prims moment x some few early =
-    let s : Stamp = record { scope = None; moment = moment } in
-    let longer : length (prims ++ new_object s ∷ []) ≡ length prims + 1 = length-append prims (new_object s ∷ []) in
+    let longer : length (prims ++ new_object (stamp moment) ∷ []) ≡ length prims + 1 = length-append prims (new_object (stamp moment) ∷ []) in
     let room : nat_lt (length prims) max_prims ≡ true = below _ _ (omega arith) in
     let more_room : nat_lt (length prims + 1) max_prims ≡ true = below _ _ (omega arith) in
     let here : nat_lt (length prims) (length prims + 1) ≡ true = below _ _ (omega arith) in

@@ -7,10 +7,10 @@ use Rattle.std.proofs.lemmas.Option.{slice_get_past}
 use Rattle.gd_prim.specs.declared.Primitive.{Primitive}
 use Rattle.gd_prim.specs.Live.{refers, is_object, live_where, value_at}
 use Rattle.gd_prim.specs.Builtin.{name_place, property_place, master_place, expected_place, unique_place, type_link_place}
-use Rattle.gd_defs.specs.Property.{Property, property_object, stated, first_right, links_from, has_type, is_unique, boolean_of}
+use Rattle.gd_defs.specs.Property.{Property, property_object, stated, first_right, links_from, has_type, is_unique, boolean_of, first}
 use Rattle.gd_defs.specs.Asked.{name_property}
 use Rattle.gd_runs.specs.Built.{SaysName}
-use Rattle.gd_change.proofs.Appended.{SucceedsNone, Below, live_where-more, live_where-within, is_object-more, value_at-more, first_end-more, any_passes-more, first_some-same}
+use Rattle.gd_change.proofs.Appended.{SucceedsNone, Below, live_where-more, live_where-within, is_object-more, value_at-more, first_end-more, any_passes-more, filter_map-same}
 
 -- links of a typ, of which none is put behind the list
 links-more : (prims more : List Primitive) (typ left : ℕ) → SucceedsNone more → list_any (λ p. refers p.typ typ && refers p.left left) more ≡ false
@@ -32,7 +32,7 @@ has_type-more prims more o type s none = rw (links-more prims more type_link_pla
 is_unique-more : (prims more : List Primitive) (p : ℕ) → SucceedsNone more → list_any (λ q. refers q.typ unique_place && refers q.left p) more ≡ false
     → is_unique (prims ++ more) p ≡ is_unique prims p
 is_unique-more prims more p s none = rw (links-more prims more unique_place p s none)
-    (ap (λ (b : Option Bool). unwrap_or b false) (first_some-same (λ k. boolean_of (value_at (prims ++ more) k)) (λ k. boolean_of (value_at prims k)) (length prims) (links_from prims unique_place p)
+    (ap (λ (marks : List Bool). unwrap_or (first marks) false) (filter_map-same (λ k. boolean_of (value_at (prims ++ more) k)) (λ k. boolean_of (value_at prims k)) (length prims) (links_from prims unique_place p)
         (λ k within. ap boolean_of (value_at-more prims more k within)) (links-within prims unique_place p)))
 
 -- none of the primitives says anything of the property `name`
@@ -54,10 +54,14 @@ stated-more : (prims more : List Primitive) → SaysNothing more → stated (pri
 stated-more prims more s = rw (first_right-more prims more master_place name_place s.succeeds s.master, first_right-more prims more expected_place name_place s.succeeds s.expected,
     is_unique-more prims more name_place s.succeeds s.unique) refl
 
+-- the property `name` itself is one of the list
+pub name_place-within : (prims : List Primitive) → SaysName prims → name_place < length prims
+name_place-within prims says = is_object-within prims name_place (has_type prims name_place property_place) name_place says.found
+
+-- what is said of it stays
 pub SaysName-more : (prims more : List Primitive) → SaysName prims → SaysNothing more → SaysName (prims ++ more)
 SaysName-more prims more says s = record {
   found =
-      let within : name_place < length prims = is_object-within prims name_place (has_type prims name_place property_place) name_place says.found in
-      rw (is_object-more prims more name_place s.succeeds within, has_type-more prims more name_place property_place s.succeeds s.typed) says.found;
+      rw (is_object-more prims more name_place s.succeeds (name_place-within prims says), has_type-more prims more name_place property_place s.succeeds s.typed) says.found;
   says = stated-more prims more s ∙ says.says;
 }

@@ -1,4 +1,7 @@
+pub mod Bools
 pub mod Appended
 pub mod KeptName
 pub mod Created
 pub mod Followed
+pub mod Evaluated
+pub mod Tested

@@ -1,10 +1,10 @@
 -- Which values are lines.
 use Rattle.std.proofs.Common.{◌≡◌, ℕ, [], ◌∷◌, Bool, true, false, ◌||◌, Option, Some, None, Result, Ok, Err, codes, refl, subst}
-use Rattle.gd_grammar.specs.Chain.{◌>>=◌}
+use Rattle.gd_grammar.specs.Chain.{◌>>=◌, map_err}
 use Rattle.gd_tree.specs.Json.{Json, null, boolean, number, text, list, object, Members}
 use Rattle.gd_tree.specs.Look.{get, only}
 use Rattle.gd_defs.specs.Query.{Fault}
-use Rattle.gd_runs.specs.Request.{Line, LineFault, bad_line, line_of, session_of, form_fault}
+use Rattle.gd_runs.specs.Request.{Line, LineFault, bad_line, bad_form, line_of, session_of}
 use Rattle.gd_mql.specs.Line.{line_session}
 
 -- a line has a session, and what has none is no line
@@ -13,7 +13,7 @@ FitsSession None l = l ≡ Err bad_line
 FitsSession (Some s) l = l ≡ Err bad_line → ⊥
 
 -- the request of a line may be faulty, the line is one
-is_line : {A : Type 0} (r : Result A Fault) (f : A → Line) → (form_fault r >>= λ x. Ok (f x)) ≡ Err bad_line → ⊥
+is_line : {A : Type 0} (r : Result A Fault) (f : A → Line) → (map_err bad_form r >>= λ x. Ok (f x)) ≡ Err bad_line → ⊥
 is_line (Ok x) f is = cc
 is_line (Err e) f is = cc
 

@@ -1,6 +1,6 @@
 //! The store.
-ghost use Rattle.std.specs.Prelude.{◌≡◌, ◌+◌, ◌-◌, ◌<◌, ◌≤◌, [], ◌∷◌, ◌++◌, None, Some, length, take, drop, slice_get, option_map, sum_by, nat_lt, if◌then◌else◌, Ok, Err, IfOk, OnOk, OnErr, MatchResult};
-ghost use Rattle.gd_prim.specs.History.{prims_of, prims_at};
+ghost use Rattle.std.specs.Prelude.{◌≡◌, ◌+◌, ◌-◌, ◌<◌, ◌≤◌, [], ◌∷◌, ◌++◌, None, Some, length, take, drop, slice_get, option_map, sum_by, nat_lt, if◌then◌else◌, Ok, Err, IfOk, OnOk, OnErr, MatchResult, IsTrue};
+ghost use Rattle.gd_prim.specs.History.{prims_of, prims_at, is_history};
 ghost use Rattle.gd_prim.specs.WellFormed.{bad_place};
 ghost use Rattle.gd_prim.specs.Limits.{limits, first_full, text_bytes};
 ghost use Rattle.gd_store.specs.Stored as stored;
@@ -148,10 +148,13 @@ impl Store {
     }
 
     /// All primitives: the built-in ones and then those of each request.
-    #[tactic(auto, using(crate::proofs::Stored::all_of_batches))]
+    #[tactic(auto, using(crate::proofs::Stored::all_of_batches), unfolding(gd_prim::specs::History::is_history))]
     pub fn primitives(&self) -> &[Primitive]
         ensures all { result.now ≡ prims_of self.now }
         ensures few { length result.now ≤ 2_097_151 }
+
+        // Each batch may follow those before it, within the limits.
+        ensures history { IsTrue (is_history self.now) }
     {
         self.prims.as_slice()
     }
