@@ -1,5 +1,5 @@
 //! A count of work.
-ghost use Rattle.std.specs.Prelude.{◌≡◌, ◌+◌, ◌-◌, ◌^◌, min};
+ghost use Rattle.std.specs.Prelude.{◌≡◌, ◌≤◌, ◌+◌, ◌-◌, ◌^◌, min};
 
 use std::marker::{Model, PhantomData};
 
@@ -32,7 +32,8 @@ impl<L> Steps<L> {
 
     /// One step more.
     pub fn tick(&mut self)
-        ensures { self.new ≡ min (self.old + 1) (2 ^ 64 - 1) }
+        ensures count { self.new ≡ min (self.old + 1) (2 ^ 64 - 1) }
+        ensures later { self.old ≤ self.new }
     {
         self.taken = self.taken.saturating_add(1);
     }

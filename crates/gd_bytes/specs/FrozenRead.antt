@@ -55,7 +55,8 @@ lists_if_open lists (c ∷ cs) = if c == 40 then lists (c ∷ cs) else Ok (no_li
 -- reads a tree that is at most so deep; the first number bounds the length of its lists
 abbrev pub tree_at : ℕ → ℕ → List ℕ → Reads Tree
 tree_at n zero bytes = Err bytes
-tree_at n (suc depth) bytes = number_at max_prims bytes >>= λ p. lists_if_open (lists_at n (λ b. as_trees (bracketed_at n (tree_at n depth) b))) p.1 >>= λ ls. Ok (tree p.0 ls.0, ls.1)
+tree_at n (suc depth) bytes = number_at max_prims bytes >>= λ p.
+    lists_if_open (lists_at n (λ b. as_trees (bracketed_at n (tree_at n depth) b))) p.1 >>= λ ls. Ok (tree p.0 ls.0, ls.1)
 
 -- reads trees between brackets; the number bounds their depth and the length of their lists
 abbrev pub trees_at : ℕ → List ℕ → Reads Trees
@@ -63,31 +64,37 @@ trees_at n bytes = as_trees (bracketed_at n (tree_at n n) bytes)
 
 -- reads a frame
 abbrev pub frame_at : ℕ → List ℕ → Reads Frame
-frame_at n bytes = number_at max_prims bytes >>= λ p. text_at (codes ",") p.1 >>= λ c. iter_at c.1 >>= λ i. text_at (codes ",") i.1 >>= λ d. lists_at n (trees_at n) d.1 >>= λ ls.
+frame_at n bytes = number_at max_prims bytes >>= λ p. text_at (codes ",") p.1 >>= λ c. iter_at c.1 >>= λ i. text_at (codes ",") i.1 >>= λ d.
+    lists_at n (trees_at n) d.1 >>= λ ls.
     Ok (record { place = p.0; iter = i.0; lists = ls.0 }, ls.1)
 
 -- reads a scan
 abbrev pub scan_at : ℕ → List ℕ → Reads Scan
-scan_at n bytes = text_at (codes "[") bytes >>= λ o. iter_at o.1 >>= λ i. text_at (codes ",") i.1 >>= λ c. number_at max_number c.1 >>= λ w. more_at n 59 (frame_at n) w.1 >>= λ fs. text_at (codes "]") fs.1 >>= λ d.
+scan_at n bytes = text_at (codes "[") bytes >>= λ o. iter_at o.1 >>= λ i. text_at (codes ",") i.1 >>= λ c. number_at max_number c.1 >>= λ w.
+    more_at n 59 (frame_at n) w.1 >>= λ fs. text_at (codes "]") fs.1 >>= λ d.
     Ok (record { iter = i.0; weight = w.0; frames = fs.0 }, d.1)
 
 -- reads a walk
 abbrev pub walk_at : List ℕ → Reads Walk
 walk_at [] = Err []
-walk_at (c ∷ cs) = if c == 103 then Ok (by_guid, cs) else if c == 47 then Ok (is_root, cs) else (some_at 15 44 (number_at max_prims) (c ∷ cs) >>= λ ks. Ok (by_links ks.0, ks.1))
+walk_at (c ∷ cs) = if c == 103 then Ok (by_guid, cs) else if c == 47 then Ok (is_root, cs)
+    else (some_at 15 44 (number_at max_prims) (c ∷ cs) >>= λ ks. Ok (by_links ks.0, ks.1))
 
 -- reads what a reading does, by its first letter
 abbrev pub body_at : ℕ → List ℕ → Reads Body
 body_at n [] = Err []
 body_at n (c ∷ cs) = if c == 115 then (scan_at n cs >>= λ s. Ok (scanning s.0, s.1))
-    else if c == 98 then (number_at max_number cs >>= λ w. text_at (codes ":") w.1 >>= λ x. trees_at n x.1 >>= λ ts. text_at (codes ":") ts.1 >>= λ y. scan_at n y.1 >>= λ s. Ok (building w.0 ts.0 s.0, s.1))
-    else if c == 112 then (number_at max_number cs >>= λ m. text_at (codes ":") m.1 >>= λ x. trees_at n x.1 >>= λ ts. text_at (codes ":") ts.1 >>= λ y. bracketed_at n walk_at y.1 >>= λ ws. Ok (printing m.0 ts.0 ws.0, ws.1))
+    else if c == 98 then (number_at max_number cs >>= λ w. text_at (codes ":") w.1 >>= λ x. trees_at n x.1 >>= λ ts. text_at (codes ":") ts.1 >>= λ y.
+    scan_at n y.1 >>= λ s. Ok (building w.0 ts.0 s.0, s.1))
+    else if c == 112 then (number_at max_number cs >>= λ m. text_at (codes ":") m.1 >>= λ x. trees_at n x.1 >>= λ ts. text_at (codes ":") ts.1 >>= λ y.
+    bracketed_at n walk_at y.1 >>= λ ws. Ok (printing m.0 ts.0 ws.0, ws.1))
     else Err (c ∷ cs)
 
 -- reads a frozen reading; the number bounds the depth and the length of what is nested
 abbrev pub frozen_at : ℕ → List ℕ → Reads Frozen
-frozen_at n bytes = text_at (codes "f1:") bytes >>= λ o. number_at max_requests o.1 >>= λ d. text_at (codes ":") d.1 >>= λ x. after_at x.1 >>= λ a. text_at (codes ":") a.1 >>= λ y.
-    bracketed_at 1000 row_at y.1 >>= λ rs. text_at (codes ":") rs.1 >>= λ z. body_at n z.1 >>= λ b. Ok (record { dateline = d.0; after = a.0; rows = rs.0; body = b.0 }, b.1)
+frozen_at n bytes = text_at (codes "f1:") bytes >>= λ o. number_at max_requests o.1 >>= λ d. text_at (codes ":") d.1 >>= λ x. after_at x.1 >>= λ a.
+    text_at (codes ":") a.1 >>= λ y. bracketed_at 1000 row_at y.1 >>= λ rs. text_at (codes ":") rs.1 >>= λ z. body_at n z.1 >>= λ b.
+    Ok (record { dateline = d.0; after = a.0; rows = rs.0; body = b.0 }, b.1)
 
 -- the frozen reading that a text spells, or how many of its bytes go with the grammar
 abbrev pub frozen_of : List ℕ → Result Frozen ℕ

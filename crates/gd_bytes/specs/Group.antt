@@ -22,7 +22,8 @@ flag worth set = if set then worth else 0
 
 -- the flag byte of a primitive: which references and whether a name are there, and whether it is live
 abbrev pub flags : Primitive → ℕ
-flags p = flag 1 (is_some p.left) + flag 2 (is_some p.right) + flag 4 (is_some p.typ) + flag 8 (is_some p.scope) + flag 16 (is_some p.previous) + flag 32 (is_some p.name) + flag 64 p.live
+flags p = flag 1 (is_some p.left) + flag 2 (is_some p.right) + flag 4 (is_some p.typ) + flag 8 (is_some p.scope)
+    + flag 16 (is_some p.previous) + flag 32 (is_some p.name) + flag 64 p.live
 
 -- the bytes of a reference: four, where it is there
 abbrev pub reference_bytes : Option ℕ → List ℕ

@@ -64,7 +64,7 @@ abbrev pub own_expects : Own → Expects
 own_expects its_timestamp = a_value of_datetime
 own_expects _ = an_object_of_system
 
--- a computed word takes an operator
+-- a computed word takes this operator
 abbrev pub takes : Own → Operator → Bool
 takes its_link _ = false
 takes its_namespace query.one_of = false
@@ -134,7 +134,8 @@ abbrev mutual
   asked prims context path (query.member n f ms) = option_map_or
       (λ o. own_member (path ++ n.spelled ∷ []) n o f (own_test prims (path ++ n.spelled ∷ []) o n.operator) (asked prims context path ms))
       (own_of n.word)
-      (member_property prims context (path ++ n.spelled ∷ []) n >>= λ p. asked_form prims (path ++ n.spelled ∷ []) n p f >>= λ g. asked prims context path ms >>= λ c. Ok (g c.0, c.1))
+      (member_property prims context (path ++ n.spelled ∷ []) n >>= λ p. asked_form prims (path ++ n.spelled ∷ []) n p f >>= λ g.
+      asked prims context path ms >>= λ c. Ok (g c.0, c.1))
 
   -- a member that asks a property, to be put before the rest
   pub asked_form : List Primitive → List (List ℕ) → Name → Property → Form → Result (Members → Members) Unknown
@@ -157,4 +158,11 @@ pub record Asked : Type 0 where
 -- what a query asks at a dateline, or why it has no meaning there
 abbrev pub asked_query : List Primitive → Query → Result Asked Unknown
 asked_query prims q = context_of prims None (type_text q.members) >>= λ t. asked prims t [] q.members >>= λ c.
-    Ok (record { listed = q.listed; single = asks_single q.listed q.directives; count = q.directives.count; limit = unwrap_or q.directives.limit 100; members = c.0; sort = c.1 })
+    Ok (record {
+      listed = q.listed;
+      single = asks_single q.listed q.directives;
+      count = q.directives.count;
+      limit = unwrap_or q.directives.limit 100;
+      members = c.0;
+      sort = c.1;
+    })

@@ -50,7 +50,8 @@ create_word _ = None
 
 -- the word that the value of `connect` spells
 abbrev pub connect_word : Json → Option ConnectWord
-connect_word (text t) = if bytes_eq t (codes "insert") then Some insert else if bytes_eq t (codes "delete") then Some delete else if bytes_eq t (codes "update") then Some update else None
+connect_word (text t) = if bytes_eq t (codes "insert") then Some insert else if bytes_eq t (codes "delete") then Some delete
+    else if bytes_eq t (codes "update") then Some update else None
 connect_word _ = None
 
 -- the text that the member of a name has, if it is there and a text
@@ -69,7 +70,8 @@ is_fact_form ms = made_of (codes "id" ∷ []) [] ms || made_of (codes "namespace
 
 -- the members have the names of a connect form: with an id, a value, or a key in a namespace; and maybe `previous`
 abbrev pub is_connect_form : JsonMembers → Bool
-is_connect_form ms = made_of (codes "connect" ∷ codes "id" ∷ []) (codes "previous" ∷ []) ms || made_of (codes "connect" ∷ codes "value" ∷ []) (codes "previous" ∷ []) ms
+is_connect_form ms = made_of (codes "connect" ∷ codes "id" ∷ []) (codes "previous" ∷ []) ms
+    || made_of (codes "connect" ∷ codes "value" ∷ []) (codes "previous" ∷ []) ms
     || made_of (codes "connect" ∷ codes "namespace" ∷ codes "value" ∷ []) (codes "previous" ∷ []) ms
 
 -- the word may go with `previous`

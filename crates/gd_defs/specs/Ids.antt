@@ -16,7 +16,7 @@ use Rattle.gd_prim.specs.Live.{refers, is_object, is_live, places_where, value_a
 abbrev pub is_key_byte : ℕ → Bool
 is_key_byte c = is_ascii_alphanumeric c || c == 95 || c == 45 || c == 36
 
--- the text is a key: 1 to 64 such bytes
+-- the text is a key: 1 to 64 bytes of keys
 abbrev pub is_key : List ℕ → Bool
 is_key text = is_in_range 1 64 (length text) && list_all is_key_byte text
 
@@ -58,20 +58,20 @@ is_id text = is_some (id_keys text) || is_some (guid_place text)
 
 -- ---- from a text to an object
 
--- the place, if an object is there
+-- a place, if an object is there
 abbrev pub object_at : List Primitive → ℕ → Option ℕ
 object_at prims place = if is_object prims place then Some place else None
 
--- the primitive is a key link: the namespace holds this key
+-- the primitive is a link of this key into this namespace
 abbrev pub is_key_link : ℕ → List ℕ → Primitive → Bool
 is_key_link namespace key p = refers p.typ key_place && refers p.right namespace && is_text key p.value
 
--- the object that a key in a namespace leads to: the left end of the last such key link, if that is live and its left an object
+-- the object that a key in a namespace leads to: the left end of the last link of that key into that namespace, if the link is live and the end an object
 abbrev pub key_leads : List Primitive → ℕ → List ℕ → Option ℕ
 key_leads prims namespace key = last_or None (places_where (is_key_link namespace key) prims) >>= λ k.
     if is_live prims k then (end_at (λ p. p.left) prims k >>= object_at prims) else None
 
--- the object that keys lead to, each from the one before
+-- the object that keys lead to, one after another, each in the object that the one before leads to
 abbrev pub follow : List Primitive → ℕ → List (List ℕ) → Option ℕ
 follow prims place [] = Some place
 follow prims place (key ∷ keys) = key_leads prims place key >>= λ next. follow prims next keys

@@ -16,26 +16,40 @@ abbrev pub texts : List (List ℕ) → Items
 texts [] = no_items
 texts (t ∷ ts) = item (text t) (texts ts)
 
+-- the compact text of an object of these members
+abbrev pub line_text : List (List ℕ × Json) → List ℕ
+line_text ms = compact (object (object_of ms))
+
+-- the member that begins the reply line of an answer
+abbrev pub ok_code : List ℕ × Json
+ok_code = (codes "code", text (codes "/api/status/ok"))
+
 -- the reply line of an answer: its dateline, the number of its line, its result
 abbrev pub ok_line : ℕ → ℕ → Json → List ℕ
-ok_line dateline line result = compact (object (object_of ((codes "code", text (codes "/api/status/ok")) ∷ (codes "dateline", count_json dateline) ∷ (codes "line", count_json line) ∷ (codes "result", result) ∷ [])))
+ok_line dateline line result = line_text (ok_code ∷ (codes "dateline", count_json dateline) ∷ (codes "line", count_json line) ∷ (codes "result", result) ∷ [])
 
 -- the reply line of an answer with a cursor
 abbrev pub ok_cursor_line : ℕ → ℕ → Json → Json → List ℕ
-ok_cursor_line dateline line cursor result = compact (object (object_of ((codes "code", text (codes "/api/status/ok")) ∷ (codes "cursor", cursor) ∷ (codes "dateline", count_json dateline) ∷ (codes "line", count_json line) ∷ (codes "result", result) ∷ [])))
+ok_cursor_line dateline line cursor result =
+    line_text (ok_code ∷ (codes "cursor", cursor) ∷ (codes "dateline", count_json dateline) ∷ (codes "line", count_json line) ∷ (codes "result", result) ∷ [])
 
 -- a refusal: the name of its error, and what it tells beside
 pub record Refusal : Type 0 where
   pub error : List ℕ
   pub info : Members
 
+-- the member that begins the reply line of a refusal
+abbrev pub err_code : List ℕ × Json
+err_code = (codes "code", text (codes "/api/status/error"))
+
 -- the reply line of a refusal at a dateline
 abbrev pub err_line : ℕ → ℕ → Refusal → List ℕ
-err_line dateline line r = compact (object (object_of ((codes "code", text (codes "/api/status/error")) ∷ (codes "dateline", count_json dateline) ∷ (codes "error", text r.error) ∷ (codes "info", object r.info) ∷ (codes "line", count_json line) ∷ [])))
+err_line dateline line r =
+    line_text (err_code ∷ (codes "dateline", count_json dateline) ∷ (codes "error", text r.error) ∷ (codes "info", object r.info) ∷ (codes "line", count_json line) ∷ [])
 
 -- the reply line of a refusal that has no dateline
 abbrev pub err_line_plain : ℕ → Refusal → List ℕ
-err_line_plain line r = compact (object (object_of ((codes "code", text (codes "/api/status/error")) ∷ (codes "error", text r.error) ∷ (codes "info", object r.info) ∷ (codes "line", count_json line) ∷ [])))
+err_line_plain line r = line_text (err_code ∷ (codes "error", text r.error) ∷ (codes "info", object r.info) ∷ (codes "line", count_json line) ∷ [])
 
 -- the refusal of this error with these members
 abbrev pub refusal : List ℕ → List (List ℕ × Json) → Refusal

@@ -113,12 +113,21 @@ digits_from n (c ∷ cs) = digits_from (10 * n + (c - 48)) cs
 abbrev pub number_within : List ℕ → ℕ → ℕ → ℕ
 number_within text at width = digits_from 0 (take width (drop at text))
 
+-- the beginning of a day
+abbrev pub midnight : ℕ → ℕ → ℕ → Civil
+midnight year month day = record { year = year; month = month; day = day; hour = 0; minute = 0; second = 0; milli = 0 }
+
 -- the civil time whose parts stand at their places in a text of this precision
 abbrev pub read_civil : List ℕ → Precision → Civil
-read_civil text Year = record { year = number_within text 0 4; month = 1; day = 1; hour = 0; minute = 0; second = 0; milli = 0 }
-read_civil text Month = record { year = number_within text 0 4; month = number_within text 5 2; day = 1; hour = 0; minute = 0; second = 0; milli = 0 }
-read_civil text Day = record { year = number_within text 0 4; month = number_within text 5 2; day = number_within text 8 2; hour = 0; minute = 0; second = 0; milli = 0 }
-read_civil text Time = record { year = number_within text 0 4; month = number_within text 5 2; day = number_within text 8 2; hour = number_within text 11 2; minute = number_within text 14 2; second = number_within text 17 2; milli = number_within text 20 3 }
+read_civil text Year = midnight (number_within text 0 4) 1 1
+read_civil text Month = midnight (number_within text 0 4) (number_within text 5 2) 1
+read_civil text Day = midnight (number_within text 0 4) (number_within text 5 2) (number_within text 8 2)
+read_civil text Time = record (midnight (number_within text 0 4) (number_within text 5 2) (number_within text 8 2)) {
+  hour = number_within text 11 2;
+  minute = number_within text 14 2;
+  second = number_within text 17 2;
+  milli = number_within text 20 3;
+}
 
 -- the moment of a civil time, if that exists and the text is one of these spellings of it
 abbrev pub spelled : List ℕ → List (List ℕ) → Civil → Precision → Option (ℤ × Precision)

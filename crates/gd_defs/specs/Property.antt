@@ -59,7 +59,12 @@ is_unique prims p = unwrap_or (first (filter_map (λ k. boolean_of (value_at pri
 
 -- the property that an object states: that of its master backwards, or its own
 abbrev pub stated : List Primitive → ℕ → Property
-stated prims p = record { stored = unwrap_or (first_right prims master_place p) p; reversed = is_some (first_right prims master_place p); expected = first_right prims expected_place p; unique = is_unique prims p }
+stated prims p = record {
+  stored = unwrap_or (first_right prims master_place p) p;
+  reversed = is_some (first_right prims master_place p);
+  expected = first_right prims expected_place p;
+  unique = is_unique prims p;
+}
 
 -- a property in the other direction, of which nothing is known
 abbrev pub turned : Property → Property

@@ -72,7 +72,7 @@ as_one k c = within k c >>= λ d. Ok (one d.0 d.1)
 abbrev pub as_many : List ℕ → Result Clause Fault → Result Form Fault
 as_many k c = within k c >>= λ d. Ok (many d.0 d.1)
 
--- a list that is neither empty nor of one object
+-- the value is a list that is neither empty nor of one object
 abbrev pub is_other_list : Json → Bool
 is_other_list (list no_items) = false
 is_other_list (list (item (object ms) no_items)) = false
@@ -88,7 +88,7 @@ form_or_operand n j form = if has_operator n then (if operand_fits n j then Ok (
 -- ---- clauses
 
 abbrev mutual
-  -- the clause that the members of an object spell, in order; the first says whether it is the root
+  -- the clause that the members of an object spell, in order; a truth value says whether it is the root
   pub clause_of : Bool → JsonMembers → Result Clause Fault
   clause_of root no_json_members = Ok (no_directives, no_members)
   clause_of root (json_member k j ms) =

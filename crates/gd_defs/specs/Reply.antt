@@ -22,7 +22,7 @@ use Rattle.gd_defs.specs.Lines.{Refusal, refusal, refused_at, too_wide, too_larg
 
 -- ---- codes as they print
 
--- the text of a code
+-- a code as it prints
 abbrev pub code_text : Code → List ℕ
 code_text query.envelope = codes "envelope"
 code_text query.list_form = codes "list_form"
@@ -135,7 +135,7 @@ object_json prims (asks name a clause ms) link o =
 
 -- ---- pages
 
--- the key places of a mark for these sort keys: one past the end is missing, too few are missing, too many are ignored
+-- the key places of a mark, one for each sort key: a place past the end counts as missing, and so do those that lack, and those beyond are ignored
 abbrev pub fitted : ℕ → List SortKey → List (Option ℕ) → List (Option ℕ)
 fitted end [] ks = []
 fitted end (s ∷ ss) [] = None ∷ fitted end ss []

@@ -33,7 +33,7 @@ own_datum prims its_namespace link o = object_datum (end_at (λ p. p.right) prim
 abbrev pub far : List Primitive → Property → ℕ → ℕ
 far prims p link = unwrap_or (far_end prims p link) 0
 
--- a mode is met, where an answer is found or not
+-- a mode is met: required where an answer is found, forbidden where none is, optional ever
 abbrev pub meets_mode : Mode → Bool → Bool
 meets_mode required found = found
 meets_mode optional found = true
@@ -77,7 +77,7 @@ key_value prims s place = by s.key
     by by_timestamp = timestamp prims place
     by (by_property p) = value_at prims place
 
--- the order of two keys, where a missing one comes last, also downward
+-- the order of two keys, upward or downward, where a missing one comes last in both
 abbrev pub key_cmp : Bool → Option Datum → Option Datum → Ordering
 key_cmp descending None None = Equal
 key_cmp descending None (Some b) = Greater
@@ -99,19 +99,20 @@ abbrev pub keys_cmp : List Primitive → List SortKey → List (Option ℕ) → 
 keys_cmp prims [] ks ls = Equal
 keys_cmp prims (s ∷ ss) [] ls = Equal
 keys_cmp prims (s ∷ ss) (k ∷ ks) [] = Equal
-keys_cmp prims (s ∷ ss) (k ∷ ks) (l ∷ ls) = ordering_then (key_cmp s.descending (option_map (key_value prims s) k) (option_map (key_value prims s) l)) (keys_cmp prims ss ks ls)
+keys_cmp prims (s ∷ ss) (k ∷ ks) (l ∷ ls) =
+    ordering_then (key_cmp s.descending (option_map (key_value prims s) k) (option_map (key_value prims s) l)) (keys_cmp prims ss ks ls)
 
 -- the order of rows: by their keys, then by their objects
 abbrev pub row_cmp : List Primitive → List SortKey → Row → Row → Ordering
 row_cmp prims sort a b = ordering_then (keys_cmp prims sort a.keys b.keys) (nat_cmp a.object b.object)
 
--- rows with one more, in front of the first that it precedes
-abbrev pub insert_row : (Row → Row → Ordering) → Row → List Row → List Row
+-- rows, or others in an order, with one more in front of the first that it precedes
+abbrev pub insert_row : {A : Type 0} → (A → A → Ordering) → A → List A → List A
 insert_row cmp r [] = r ∷ []
 insert_row cmp r (s ∷ rows) = if is_lt (cmp r s) then r ∷ s ∷ rows else s ∷ insert_row cmp r rows
 
--- rows put in order among others that are; those that tie stay as they stood
-abbrev pub sorted_onto : (Row → Row → Ordering) → List Row → List Row → List Row
+-- rows, or others, put in order among such that are; those that tie stay as they stood
+abbrev pub sorted_onto : {A : Type 0} → (A → A → Ordering) → List A → List A → List A
 sorted_onto cmp done [] = done
 sorted_onto cmp done (r ∷ rows) = sorted_onto cmp (insert_row cmp r done) rows
 

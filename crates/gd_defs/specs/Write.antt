@@ -34,7 +34,8 @@ resolved_root prims c = by c.root
   where
     by : change.Root → Result (Option ℕ × Members) Unknown
     by (change.to_create w) = context_of prims None (type_text c.members) >>= λ t. resolved prims None t [] c.members >>= λ ms. Ok (None, ms)
-    by (change.existing_object t) = place_named prims t >>= λ o. context_of prims None (type_text c.members) >>= λ x. resolved prims (Some o) x [] c.members >>= λ ms. Ok (Some o, ms)
+    by (change.existing_object t) = place_named prims t >>= λ o. context_of prims None (type_text c.members) >>= λ x.
+        resolved prims (Some o) x [] c.members >>= λ ms. Ok (Some o, ms)
 
 -- the object on which the root is carried out
 abbrev pub root_subject : Stamp → List Primitive → change.Root → Option ℕ → Members → Result Subject ChangeFault

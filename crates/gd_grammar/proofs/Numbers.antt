@@ -5,15 +5,12 @@ use Rattle.std.proofs.lemmas.List.{append-nil}
 use Rattle.std.proofs.lemmas.Bool.Decides.{nat_tests}
 use Rattle.std.proofs.lemmas.Fmt.{decimal_step, decimal_digit, decimal_injective, decimal_nonempty}
 use Rattle.gd_grammar.specs.Grammar.{Reads, text_at, digits_at, number_at}
-use Rattle.gd_grammar.proofs.Scans.{Ends, Stops, Found, Scans, ok_of, ok_same}
+use Rattle.gd_grammar.proofs.Scans.{Ends, Stops, Found, Scans, ok_of, ok_same, not_equal, head_same}
 
 -- ---- these very bytes
 
 abbrev pub Word : List ℕ → Unit {0} → List ℕ → Type 0
 Word cs u w = w ≡ cs
-
-pub not_equal : (c d : ℕ) → (c == d) ≡ false → c ≡ d → ⊥
-not_equal c d f e = let t = eq-eqb c d e in cc (t, f)
 
 word_step : (c : ℕ) (cs : List ℕ) (d : ℕ) (ds : List ℕ) → Bool → Reads (Unit {0})
 word_step c cs d ds b = if b then text_at cs ds else Err (d ∷ ds)
@@ -164,9 +161,6 @@ digit_more m c some low high fits =
     let front : (10 * m + (c - 48)) / 10 ≡ m = omega arith in
     let last : 48 + (10 * m + (c - 48)) % 10 ≡ c = omega arith in
     decimal_step (10 * m + (c - 48)) (omega (arith, some)) fits ∙ ap (λ (n : ℕ). decimal n ++ ((48 + (10 * m + (c - 48)) % 10) ∷ [])) front ∙ ap (λ (d : ℕ). decimal m ++ (d ∷ [])) last
-
-pub head_same : {x y : ℕ} {xs ys : List ℕ} → x ∷ xs ≡ y ∷ ys → x ≡ y
-head_same q = cc
 
 tail_same : {x y : ℕ} {xs ys : List ℕ} → x ∷ xs ≡ y ∷ ys → xs ≡ ys
 tail_same q = cc

@@ -13,36 +13,46 @@ use Rattle.gd_prim.specs.History.{prims_of}
 use Rattle.gd_runs.specs.Input.{InputFault}
 use Rattle.gd_runs.specs.Owed.{MembersOf}
 use Rattle.gd_bytes.specs.Frozen.{Frozen, scanning}
-use Rattle.gd_runs.specs.Request.{ReadRequest}
+use Rattle.gd_defs.specs.Query.{no_directives, no_members}
+use Rattle.gd_runs.specs.Request.{ReadRequest, no_cursor}
 use Rattle.gd_runs.specs.Core.{Event, begin, slice, freeze, State, Reading, opened, entered, FreezesAs, owed_line}
 use Rattle.gd_runs.specs.Thawed.{thawed_reply}
 use Rattle.gd_runs.specs.Replay.{event_from, LineStep, Replays}
 
+-- the line that begins a reading
 abbrev begin_bytes : List ℕ
 begin_bytes = codes "{\"begin\":{\"sid\":0,\"read\":{\"query\":[{\"guid\":null,\"name\":\"English\"}]}}}"
 
+-- the line that freezes it
 abbrev freeze_bytes : List ℕ
 freeze_bytes = codes "{\"freeze\":{\"sid\":0}}"
 
+-- the line that finishes it
 abbrev slice_bytes : List ℕ
 slice_bytes = codes "{\"slice\":{\"sid\":0,\"budget\":1000000}}"
 
+-- a read, where there is none
 abbrev no_request : ReadRequest
-no_request = record { cursor = Rattle.gd_runs.specs.Request.no_cursor; query = record { listed = true; directives = Rattle.gd_defs.specs.Query.no_directives; members = Rattle.gd_defs.specs.Query.no_members } }
+no_request = record { cursor = no_cursor; query = record { listed = true; directives = no_directives; members = no_members } }
 
+-- the read of an event that begins one
 abbrev request_of : Result Event InputFault → ReadRequest
 request_of (Ok (begin s r)) = r
 request_of _ = no_request
 
+-- the read of the first line
 abbrev request : ReadRequest
 request = request_of (event_from begin_bytes)
 
+-- the reading that it begins
 abbrev reading : Reading
 reading = record { request = request; dateline = 0; after = None; thawed = None }
 
+-- the state in which the session holds it
 abbrev held : State
 held = entered (opened []) 0 (Some reading)
 
+-- the state in which it is finished
 abbrev ended : State
 ended = entered held 0 None
 
@@ -50,6 +60,7 @@ ended = entered held 0 None
 abbrev members : MembersOf
 members prims hop t = 1
 
+-- the frozen reading in which nothing is scanned yet
 abbrev at_start : Frozen
 at_start = record { dateline = 0; after = None; rows = []; body = scanning (record { iter = record { place = 0; accepted = None }; weight = 0; frames = [] }) }
 

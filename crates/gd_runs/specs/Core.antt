@@ -222,7 +222,8 @@ ThawStep members s k i r bytes line t =
 
 -- opening again: the store has the batches of the history, with the group in doubt or without it
 abbrev pub ReopenStep : State → ℕ → List ℕ → State → Type 0
-ReopenStep s k line t = (line ≡ said (size t.history) k (codes "reopened")) × ((t ≡ opened (batches s.history)) ⊎ ((e : Entry) × (s.doubt ≡ Some e) × (t ≡ opened (batches s.history ++ e.batch ∷ []))))
+ReopenStep s k line t = (line ≡ said (size t.history) k (codes "reopened"))
+    × ((t ≡ opened (batches s.history)) ⊎ ((e : Entry) × (s.doubt ≡ Some e) × (t ≡ opened (batches s.history ++ e.batch ∷ []))))
 
 -- an event of line k, of so many bytes, prints a line and makes a state
 abbrev pub Step : MembersOf → (ℕ → Bool) → State → ℕ → ℕ → Event → List ℕ → State → Type 0

@@ -36,14 +36,19 @@ Explains forms loaded may input output h = (runs : List Run) × IsExplainedBy fo
 abbrev pub ExplainsFront : Forms → List Batch → (ℕ → Bool) → List ℕ → List ℕ → History → Type 0
 ExplainsFront forms loaded may input output h = (rest : List ℕ) × Explains forms loaded may input (output ++ rest) h
 
+-- the lines of the first so many rounds of an input
+abbrev pub lines_within : ℕ → List ℕ → List Numbered
+lines_within rounds input = filter (λ l. nat_lt l.round rounds) (lines_of input)
+
 -- the history explains the output for the first so many rounds of an input
 abbrev pub ExplainsRounds : ℕ → Forms → List Batch → (ℕ → Bool) → List ℕ → List ℕ → History → Type 0
-ExplainsRounds rounds forms loaded may input output h = (runs : List Run) × IsExplainedBy forms loaded may (filter (λ l. nat_lt l.round rounds) (lines_of input)) output h runs
+ExplainsRounds rounds forms loaded may input output h = (runs : List Run) × IsExplainedBy forms loaded may (lines_within rounds input) output h runs
 
 -- the bytes of a file stand for a history, or for it with the entry of one line that is in doubt
 abbrev pub Holds : History → List Run → List ℕ → Type 0
 Holds h runs file = StandsFor file (batches h)
-    ⊎ ((entry : Entry) × (r : Run) × IsLegal (with_entry h entry) × (slice_get runs entry.line ≡ Some r) × DoesLine r.line.bytes entry × (r.outcome ≡ in_doubt) × StandsFor file (batches (with_entry h entry)))
+    ⊎ ((entry : Entry) × (r : Run) × IsLegal (with_entry h entry) × (slice_get runs entry.line ≡ Some r) × DoesLine r.line.bytes entry × (r.outcome ≡ in_doubt)
+    × StandsFor file (batches (with_entry h entry)))
 
 -- the reply to line k tells a failure of the disk
 abbrev pub tells_fault : ℕ → List ℕ → Bool

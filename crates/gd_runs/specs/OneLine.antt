@@ -14,13 +14,17 @@ use Rattle.gd_runs.specs.Input.{max_line, json_refusal}
 use Rattle.gd_runs.specs.Built.{name_asked}
 use Rattle.gd_runs.specs.Explained.{memory_line}
 
--- the bytes without the byte at their end, where it is this one
-abbrev pub without_last : ℕ → List ℕ → List ℕ
-without_last b bytes = if option_eq nat_eq (slice_get bytes (length bytes - 1)) (Some b) then take (length bytes - 1) bytes else bytes
+-- the bytes end with this one
+abbrev pub ends_with : ℕ → List ℕ → Bool
+ends_with b bytes = option_eq nat_eq (slice_get bytes (length bytes - 1)) (Some b)
 
--- the input without a newline at its end, and then without a carriage return before that
+-- the bytes without the last one
+abbrev pub front : List ℕ → List ℕ
+front bytes = take (length bytes - 1) bytes
+
+-- the input without a newline at its end, and without a carriage return before that newline
 abbrev pub sole_line : List ℕ → List ℕ
-sole_line input = without_last 13 (without_last 10 input)
+sole_line input = if ends_with 10 input then (if ends_with 13 (front input) then front (front input) else front input) else input
 
 -- more than a line may hold, or more than one line
 abbrev pub is_no_line : List ℕ → Bool

@@ -95,7 +95,7 @@ first_number d batches r = by r.thawed
 abbrev pub Left : Type 0
 Left = ℕ → ℕ
 
--- the same with one session anew
+-- what the readings of the sessions have left, with one session anew
 abbrev pub with_left : Left → ℕ → ℕ → Left
 with_left a i n j = if j == i then n else a j
 
@@ -125,15 +125,16 @@ abbrev pub FreezePace : MembersOf → DueOf → State → ℕ → List ℕ → O
 FreezePace members d s k reply None left = Unit {0}
 FreezePace members d s k reply (Some r) left = (f : Frozen) → reply ≡ frozen_line k r f → IsDueWithin members d (batches s.history) r f left
 
--- what an event leaves that printed this reply: a slice that was unfinished takes its budget off, which was left
+-- what the readings have left behind an event that printed this reply: a slice that was unfinished takes its budget off, which they had left
 abbrev pub Pace : MembersOf → DueOf → State → ℕ → Event → List ℕ → State → Left → Left → Type 0
 Pace members d s k (begin i r) reply t a b = b ≡ (if says_of (t.sessions i).reading k (codes "begun") reply then renewed d t i a else a)
 Pace members d s k (thaw i r bytes) reply t a b = b ≡ (if says_of (t.sessions i).reading k (codes "thawed") reply then renewed d t i a else a)
-Pace members d s k (slice i budget) reply t a b = MatchBool (says_of (s.sessions i).reading k (codes "unfinished") reply) ((budget ≤ a i) × (b ≡ with_left a i (a i - budget))) (b ≡ a)
+Pace members d s k (slice i budget) reply t a b =
+    MatchBool (says_of (s.sessions i).reading k (codes "unfinished") reply) ((budget ≤ a i) × (b ≡ with_left a i (a i - budget))) (b ≡ a)
 Pace members d s k (freeze i) reply t a b = FreezePace members d s k reply (s.sessions i).reading (a i) × (b ≡ a)
 Pace members d s k e reply t a b = b ≡ a
 
--- what a line leaves that printed this reply: one that is no event all that was left
+-- what the readings have left behind a line that printed this reply; behind one that is no event it is as before
 abbrev pub LinePace : MembersOf → DueOf → State → ℕ → Result Event InputFault → List ℕ → State → Left → Left → Type 0
 LinePace members d s k (Err f) reply t a b = b ≡ a
 LinePace members d s k (Ok e) reply t a b = Pace members d s k e reply t a b

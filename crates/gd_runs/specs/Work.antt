@@ -72,7 +72,8 @@ abbrev pub printed_count : List Primitive → Members → ℕ → ℕ → ℕ
 printed_count prims no_members link o = 0
 printed_count prims (own name w t operand ms) link o = own_ids prims w operand link o + printed_count prims ms link o
 printed_count prims (asks name a clause ms) link o =
-    (if is_some (operand_of a.style) then 0 else sum_by (λ r. 1 + style_ids prims a r.link + (if is_clause a.style then printed_count prims clause r.link r.object else 0)) (printed prims a clause o))
+    (if is_some (operand_of a.style) then 0
+    else sum_by (λ r. 1 + style_ids prims a r.link + (if is_clause a.style then printed_count prims clause r.link r.object else 0)) (printed prims a clause o))
     + printed_count prims ms link o
 
 -- how many rows, nested answers and ids a page prints; a count prints none, nor does a page that is refused as too wide

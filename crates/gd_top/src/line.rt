@@ -18,22 +18,33 @@ use std::alloc::Global;
 /// The greatest number of bytes of a line.
 const LINE_LIMIT: usize = 262144;
 
-/// The bytes without the byte at their end, where it is this one.
-fn without_last(bytes: &[u8], last: u8) -> &[u8]
-    ensures { result.now ≡ one_line.without_last last bytes.now }
+/// Whether the bytes end with this one.
+fn ends_with(bytes: &[u8], last: u8) -> bool
+    ensures { result ≡ one_line.ends_with last bytes.now }
 {
-    if bytes.last().copied() == Some(last) {
-        &bytes[..bytes.len() - 1]
-    } else {
-        bytes
-    }
+    bytes.last().copied() == Some(last)
 }
 
-/// The input without a newline at its end, and then without a carriage return before that.
+/// The bytes without the last one, if there is one.
+fn front(bytes: &[u8]) -> &[u8]
+    ensures { result.now ≡ one_line.front bytes.now }
+{
+    &bytes[..bytes.len().saturating_sub(1)]
+}
+
+/// The input without a newline at its end, and without a carriage return before that newline.
 pub fn sole_line(input: &[u8]) -> &[u8]
     ensures { result.now ≡ one_line.sole_line input.now }
 {
-    without_last(without_last(input, b'\n'), b'\r')
+    if !ends_with(input, b'\n') {
+        return input;
+    }
+    let line = front(input);
+    if ends_with(line, b'\r') {
+        front(line)
+    } else {
+        line
+    }
 }
 
 fn is_no_line(bytes: &[u8]) -> bool

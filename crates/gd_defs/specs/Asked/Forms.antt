@@ -6,17 +6,19 @@ use Rattle.gd_tree.specs.Json.{Json}
 use Rattle.gd_defs.specs.Data.{Test, anything}
 use Rattle.gd_defs.specs.Query.{Mode, required, optional, Directives}
 use Rattle.gd_defs.specs.Property.{Property, Expects, a_value, a_key, an_object_of_system, a_plain_object, expects_of, holds_values}
-use Rattle.gd_defs.specs.Asked.Parts.{Style, as_operand, as_value, as_name, as_id, as_clause, Members, no_members, asks, Clause}
+use Rattle.gd_defs.specs.Asked.Parts.{Style, as_operand, as_value, as_name, as_id, as_clause, Asking, Members, no_members, asks, Clause}
 
 -- the property `name`
 abbrev pub name_property : Property
 name_property = record { stored = name_place; reversed = false; expected = Some text_place; unique = true }
 
+-- what a member asks of a property where nothing else is said: its answers as they stand, up to 100
+abbrev pub bare_asking : Property → Style → Asking
+bare_asking p style = record { property = p; test = anything; mode = optional; given = false; counted = true; style = style; listed = false; single = false; sort = []; limit = 100 }
+
 -- the clause whose one member is the name: in a mode, with a test, as a literal or not
 abbrev pub name_test : Mode → Bool → Test → Members
-name_test mode given t = asks (codes "name")
-    (record { property = name_property; test = t; mode = mode; given = given; counted = true; style = as_value; listed = false; single = false; sort = []; limit = 100 })
-    no_members no_members
+name_test mode given t = asks (codes "name") (record (bare_asking name_property as_value) { test = t; mode = mode; given = given }) no_members no_members
 
 -- the clause that asks for the name alone
 abbrev pub name_clause : Members
@@ -39,19 +41,19 @@ abbrev pub counts : Expects → Bool
 counts a_plain_object = false
 counts _ = true
 
--- null, or [] where a list is asked for
+-- the member that null asks, or [] where a list is asked for
 abbrev pub ask_form : List ℕ → Property → Bool → Members → Members
 ask_form name p listed rest = asks name
-    (record { property = p; test = anything; mode = optional; given = false; counted = counts (expects_of p.expected); style = style_of (expects_of p.expected); listed = listed; single = not listed; sort = []; limit = 100 })
+    (record (bare_asking p (style_of (expects_of p.expected))) { counted = counts (expects_of p.expected); listed = listed; single = not listed })
     (own_clause (expects_of p.expected)) rest
 
--- a literal or an operand with its test; of a plain object it tests the name
+-- the member that a literal or an operand asks, with its test; of a plain object it tests the name
 abbrev pub operand_form : List ℕ → Property → Expects → Bool → Json → Test → Members → Members
 operand_form name p a_plain_object literal j t rest = asks name
-    (record { property = p; test = anything; mode = required; given = literal; counted = literal; style = as_operand j; listed = false; single = false; sort = []; limit = 100 })
+    (record (bare_asking p (as_operand j)) { mode = required; given = literal; counted = literal })
     (name_test required literal t) rest
 operand_form name p e literal j t rest = asks name
-    (record { property = p; test = t; mode = required; given = literal; counted = true; style = as_operand j; listed = false; single = false; sort = []; limit = 100 })
+    (record (bare_asking p (as_operand j)) { test = t; mode = required; given = literal })
     no_members rest
 
 -- the mode of a form {..} or [{..}]: required, unless it says otherwise
@@ -62,8 +64,15 @@ mode_of d = unwrap_or d.mode required
 abbrev pub asks_single : Bool → Directives → Bool
 asks_single listed d = not (listed || option_map_or (λ n. n == 1) d.limit false)
 
--- the form {..}, or [{..}] where a list is asked for
+-- the member that {..} asks, or [{..}] where a list is asked for
 abbrev pub clause_form : List ℕ → Property → Directives → Bool → Clause → Members → Members
 clause_form name p d listed c rest = asks name
-    (record { property = p; test = anything; mode = mode_of d; given = false; counted = holds_values (expects_of p.expected); style = as_clause; listed = listed; single = asks_single listed d; sort = c.1; limit = unwrap_or d.limit 100 })
+    (record (bare_asking p as_clause) {
+      mode = mode_of d;
+      counted = holds_values (expects_of p.expected);
+      listed = listed;
+      single = asks_single listed d;
+      sort = c.1;
+      limit = unwrap_or d.limit 100;
+    })
     c.0 rest

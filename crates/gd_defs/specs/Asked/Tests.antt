@@ -39,7 +39,7 @@ abbrev pub operand_data : List Primitive → Expects → List (List ℕ) → Ite
 operand_data prims e path no_items = Ok []
 operand_data prims e path (item j js) = operand_datum prims e path j >>= λ d. operand_data prims e path js >>= λ ds. Ok (d ∷ ds)
 
--- an operator stands on such answers: `|=` and `!=` on all, comparisons on values that have an order, `~=` on texts and keys
+-- an operator stands on answers of this kind: `|=` and `!=` on all, comparisons on values that have an order, `~=` on texts and keys
 abbrev pub allows : Expects → Operator → Bool
 allows e query.no_operator = true
 allows e query.one_of = true
@@ -73,6 +73,6 @@ abbrev pub tested_as : Expects → Expects
 tested_as a_plain_object = a_value of_text
 tested_as e = e
 
--- the test that an operator makes, if it stands on such answers
+-- the test that an operator makes with its operand, if it stands on answers of this kind
 abbrev pub checked_test : List Primitive → Expects → List (List ℕ) → Operator → Json → Result Test Unknown
 checked_test prims e path operator j = if allows e operator then test_of prims (tested_as e) path operator j else bad bad_operator path

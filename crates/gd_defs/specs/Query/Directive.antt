@@ -23,7 +23,7 @@ pub record Directives : Type 0 where
   pub limit : Option ℕ
   pub count : Bool
 
--- those of a clause in which no directive stands
+-- the directives of a clause in which none stands
 abbrev pub no_directives : Directives
 no_directives = record { mode = None; limit = None; count = false }
 
@@ -66,7 +66,7 @@ sort_of (text t) = option_map (λ w. w ∷ []) (sort_word t)
 sort_of (list js) = if is_in_range 1 4 (items_len js) then sort_words js else None
 sort_of _ = None
 
--- the value of `return` is the one that there is
+-- the value of `return` is `count`, the only one that there is
 abbrev pub is_count : Json → Bool
 is_count (text t) = bytes_eq t (codes "count")
 is_count _ = false

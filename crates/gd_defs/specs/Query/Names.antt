@@ -57,7 +57,7 @@ behind_mark body = if is_marked body then drop 1 body else body
 abbrev pub may_be_word : Bool → List ℕ → Bool
 may_be_word reversed word = is_path word || (not reversed && (is_key word || bytes_eq word (codes "*")))
 
--- the bytes of words: of keys, slashes and stars
+-- the front of a text that has bytes of words alone: of keys, slashes and stars
 abbrev pub word_front : List ℕ → List ℕ
 word_front text = take_while (λ c. is_key_byte c || c == 47 || c == 42) text
 
@@ -84,7 +84,7 @@ has_operator n = by n.operator
 abbrev pub is_left_out : List ℕ → Bool
 is_left_out word = list_any (bytes_eq word) (codes "*" ∷ codes "estimate-count" ∷ codes "count" ∷ codes "index" ∷ codes "unless_connected" ∷ codes "replace" ∷ [])
 
--- the word is this word of every object, by itself or as a path
+-- the word is this word of every object, by itself or as a path below `/type/object`
 abbrev pub is_word : List ℕ → List ℕ → Bool
 is_word own word = bytes_eq word own || bytes_eq word (codes "/type/object/" ++ own)
 

@@ -61,7 +61,7 @@ subject_of s path prims unless_exists ms = by (filter (has_own prims ms) (object
 abbrev pub created_text : Bool → Json
 created_text existed = text (if existed then codes "existed" else codes "created")
 
--- a fact is inserted, unless its object existed
+-- carrying out a fact: it is inserted, unless its object existed
 abbrev pub fact_made : Stamp → List (List ℕ) → List Primitive → Property → Subject → Target → Json → Result (Made Json) ChangeFault
 fact_made s path prims p o t j = if o.existed then Ok (prims, λ final. j) else inserted s path prims p o.object t >>= λ d. Ok (d.0, λ final. j)
 
@@ -70,7 +70,8 @@ abbrev mutual
   pub carried : Stamp → List (List ℕ) → List Primitive → Subject → Members → Result (Made JsonMembers) ChangeFault
   carried s path prims o no_members = Ok (prims, λ final. no_json_members)
   carried s path prims o (created ms) = carried s path prims o ms >>= λ r. Ok (r.0, λ final. json_member (codes "create") (created_text o.existed) (r.1 final))
-  carried s path prims o (member name i ms) = carried_item s (path ++ name ∷ []) prims o i >>= λ m. carried s path m.0 o ms >>= λ r. Ok (r.0, λ final. json_member name (m.1 final) (r.1 final))
+  carried s path prims o (member name i ms) = carried_item s (path ++ name ∷ []) prims o i >>= λ m. carried s path m.0 o ms >>= λ r.
+      Ok (r.0, λ final. json_member name (m.1 final) (r.1 final))
 
   -- carrying out one member
   pub carried_item : Stamp → List (List ℕ) → List Primitive → Subject → Item → Result (Made Json) ChangeFault
@@ -86,4 +87,5 @@ abbrev mutual
   -- carrying out the items of a list, in order
   pub carried_items : Stamp → List (List ℕ) → List Primitive → Subject → ManyItems → Result (Made Items) ChangeFault
   carried_items s path prims o no_more = Ok (prims, λ final. no_items)
-  carried_items s path prims o (and_then i is) = carried_item s path prims o i >>= λ m. carried_items s path m.0 o is >>= λ r. Ok (r.0, λ final. item (m.1 final) (r.1 final))
+  carried_items s path prims o (and_then i is) = carried_item s path prims o i >>= λ m. carried_items s path m.0 o is >>= λ r.
+      Ok (r.0, λ final. item (m.1 final) (r.1 final))

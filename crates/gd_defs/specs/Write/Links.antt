@@ -84,7 +84,8 @@ deleted s prims p o t = if has_fact prims p o t then Ok (prims ++ map (deletion 
 
 -- updating: the one answer of a unique property gives way to the target
 abbrev pub updated : Stamp → List (List ℕ) → List Primitive → Property → ℕ → Target → Result Done ChangeFault
-updated s path prims p o t = if not p.unique then refused bad_connect (path ++ codes "connect" ∷ []) else if has_fact prims p o t then Ok (prims, codes "present") else by (answers prims p o)
+updated s path prims p o t = if not p.unique then refused bad_connect (path ++ codes "connect" ∷ [])
+    else if has_fact prims p o t then Ok (prims, codes "present") else by (answers prims p o)
   where
     by : List ℕ → Result Done ChangeFault
     by [] = Ok (prims ++ new_link s p o t None ∷ [], codes "inserted")

@@ -99,7 +99,7 @@ identity_item n (change.plain j) = as_spelled j
 identity_item n _ = if is_word (codes "id") n.word then its_id else its_guid
 
 abbrev mutual
-  -- the members of a clause with their words looked up, in order; the first option is the existing object whose clause this is
+  -- the members of a clause with their words looked up, in order, on an existing object or in a create
   pub resolved : List Primitive → Option ℕ → Option ℕ → List (List ℕ) → change.Members → Result Members Unknown
   resolved prims on context path change.no_members = Ok no_members
   resolved prims on context path (change.created w ms) = resolved prims on context path ms >>= λ rest. Ok (created rest)

@@ -1,12 +1,11 @@
 -- The answers of a member from the trees of their links, in the member's order.
 use Rattle.std.specs.Prelude.{ℕ, List, [], ◌∷◌, map, take, Bool, true, Option, Some, None, option_map, if◌then◌else◌}
-use Rattle.std.specs.Ordering.{is_lt}
 use Rattle.gd_prim.specs.declared.Primitive.{Primitive}
 use Rattle.gd_tree.specs.Trees.{Tree, tree, TreeLists, no_lists, place_of, lists_of, first_list, rest_lists}
 use Rattle.gd_defs.specs.Property.{Expects, a_value, a_key, first}
 use Rattle.gd_defs.specs.Asked.{Key, by_property, SortKey, Asking, Members, no_members, own, asks}
 use Rattle.gd_defs.specs.Plan.{answers_of}
-use Rattle.gd_defs.specs.Rows.{Row, row_cmp}
+use Rattle.gd_defs.specs.Rows.{Row, row_cmp, sorted_onto}
 
 -- the lists of a member's clauses: where it is no literal, behind one that stays empty
 abbrev pub own_lists : Bool → TreeLists → TreeLists
@@ -61,20 +60,10 @@ Ranked = Row × TreeLists
 abbrev pub ranked : Asking → Members → Answer → Ranked
 ranked a c x = (record { object = x.object; link = x.link; keys = key_places a.sort x.object (sort_lists c x.lists) }, x.lists)
 
--- answers with one more, in front of the first that it precedes
-abbrev pub insert_ranked : (Row → Row → Bool) → Ranked → List Ranked → List Ranked
-insert_ranked precedes r [] = r ∷ []
-insert_ranked precedes r (s ∷ rs) = if precedes r.0 s.0 then r ∷ s ∷ rs else s ∷ insert_ranked precedes r rs
-
--- answers put in order among others that are; those that tie stay as they stood
-abbrev pub sort_onto : (Row → Row → Bool) → List Ranked → List Ranked → List Ranked
-sort_onto precedes done [] = done
-sort_onto precedes done (r ∷ rs) = sort_onto precedes (insert_ranked precedes r done) rs
-
 -- answers in the order of sort keys; without keys as they stand
 abbrev pub in_rank : List Primitive → List SortKey → List Ranked → List Ranked
 in_rank prims [] rs = rs
-in_rank prims (s ∷ ss) rs = sort_onto (λ a b. is_lt (row_cmp prims (s ∷ ss) a b)) [] rs
+in_rank prims (s ∷ ss) rs = sorted_onto (λ a b. row_cmp prims (s ∷ ss) a.0 b.0) [] rs
 
 -- the answers of a member that are printed: those of its list, in its order and up to its limit
 abbrev pub cut : List Primitive → Asking → Members → TreeLists → List Ranked

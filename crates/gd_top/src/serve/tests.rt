@@ -102,6 +102,7 @@ fn prints_replies(rt: HostRuntime) -> Result<(), Fail> {
         ),
         ("{}\n{}", unbuilt),
         ("{", bad),
+        ("\r", bad),
         ("{\"sid\":0,\"read\":{\"query\":[{\"age\":1.5}]}}", float),
         (
             "{\"sid\":0,\"read\":{\"query\":[{\"age\":18446744073709551616}]}}",

@@ -1,0 +1,227 @@
+#!/usr/bin/env python3
+"""The list of definitions, docs/DEFINITIONS.md, from the comments in the specs.
+
+    definitions.py            writes the list
+    definitions.py --check    fails where the list is not what the specs give
+
+Each definition has a comment of one sentence above it, and each file one in its first line; the list has these
+sentences, in the order in which one reads the files.
+"""
+import os
+import re
+import sys
+
+TOP = os.path.dirname(os.path.dirname(os.path.abspath(__file__)))
+LIST = os.path.join(TOP, "docs", "DEFINITIONS.md")
+
+HEAD = """# Definitions
+
+What the program means is written down in definitions, apart from its code: sets, relations and recursions on plain lists, which know no index, no budget and no thread. The contracts of the code speak of them, and so do the promises of [PROMISES.md](PROMISES.md). This page lists each of them with one sentence, crate by crate and file by file, in the order in which one reads them. The sentences are the comments that stand above the definitions; `tools/definitions.py` collects them here.
+
+Some words run through all of them.
+
+- A **primitive** is one record of the store: references to a left, a right, a typ, a scope and a previous one, a value, a name, and whether it is live. The store is one list of primitives, to which batches are appended.
+- A **place** is the position of a primitive in that list, counted from 0; it is the identity of what stands there. A **guid** is its text.
+- An **object** is a live primitive without a typ. A **link** is a primitive with a typ: it leads from its left to its right, or has a value. A **key link** gives an object a key in a namespace.
+- A **batch** is what one write appends. A **dateline** is a number of batches: the state of the store after the first so many. A **snapshot** is the dateline at which a read is answered.
+- A **member** is a name with a value in a JSON object; a **clause** is an object of members that a query asks of something; the **root** is the clause outside.
+- Texts are lists of bytes throughout.
+
+A name in `code` is that of the definition. Behind a type stand the cases or the parts that it has.
+"""
+
+# the crates in the order in which one reads them, what each is about, and its files; of a crate that is listed
+# with `whole` the other files follow
+CRATES = [
+    ("gd_grammar", "Words for grammars of texts, which know nothing of the store.", ["Chain", "Maybe", "Grammar", "Mark"], True),
+    ("gd_tree", "Trees: JSON values as every request and reply has them, and trees of places.",
+     ["Hex", "Json", "Look", "JsonCode", "Trees"], True),
+    ("gd_base", "The order of data.", ["Order"], False),
+    ("gd_prim", "Primitives: the built-in ones, which of them are live, and which batches may follow.",
+     ["Builtin", "Live", "History", "Limits", "WellFormed"], False),
+    ("gd_defs", "The meaning of queries and writes over a list of primitives.",
+     ["History", "Ids", "Moment", "Pattern", "Data", "Property",
+      "Query/Names", "Query/Operands", "Query/Directive", "Query/Faults", "Query",
+      "Asked/Tests", "Asked/Parts", "Asked/Forms", "Asked", "Rows", "Lines", "Reply",
+      "Change", "Write/Parts", "Write/Links", "Write/Carried", "Write",
+      "Template", "Plan", "Cost"], True),
+    ("gd_json", "The JSON that bytes are.", ["Reading"], False),
+    ("gd_bytes", "Bytes: texts of cursors and of frozen readings, groups of batches, files, and what a disk leaves.",
+     ["Cursor", "Group", "File", "Disk", "Frozen", "FrozenRead"], True),
+    ("gd_runs", "Runs: lines and their replies, histories that explain them, suspended readings and how much work they take.",
+     ["Request", "Input", "Legal", "Explained/Lines", "Explained/Outcomes", "Explained/Runs", "Explained", "Explained/Rounds",
+      "RootSets", "Work", "Owed", "Scanned", "Shape/Answers", "Shape/Ids", "Shape", "Thawed", "Fitting",
+      "Core", "Replay", "Pace", "Side"], True),
+]
+
+# comments that lean on the definition above them, said in full
+SENTENCES = {
+    "gd_base/Order": {
+        "variant": "the place of the kind of a datum in the order of kinds: truth values, numbers, moments, texts, objects, nothing",
+        "precision_index": "the place of a precision in their order: year, month, day, time",
+        "contents_cmp": "the order of two data of one kind: texts by their bytes, moments by their number and then by precision",
+    },
+    "gd_prim/Builtin": {
+        "object": "an object: a primitive without typ",
+        "key_link": "a link that gives an object a key in a namespace",
+        "link": "a link of a type from one object to another",
+        "name_link": "a link that gives an object a name",
+        "objects": "the built-in objects, at the places 0 to 18",
+        "keys": "the keys of the built-in objects, each with its namespace",
+        "types": "the types of the built-in objects",
+        "expected_types": "the expected types of the built-in properties",
+        "unique_properties": "the built-in properties that are unique",
+        "names": "the names of the built-in objects that have one",
+        "builtin": "the 70 built-in primitives: objects, their keys, their types, expected types, marks of uniqueness, names",
+    },
+    "gd_prim/Live": {
+        "refers": "a reference is there and names this place",
+        "is_current": "a place is current: no primitive has it as its previous one",
+        "passes_at": "there is a primitive at a place, and it passes a test",
+        "is_live": "a place is live: its primitive is current and marked live",
+        "is_object": "there is an object at a place: a live primitive without typ",
+        "successor": "the primitive that has a place as its previous one, if there is one",
+        "places_where": "the places whose primitive passes a test, in rising order",
+        "live_where": "the live places whose primitive passes a test, in rising order",
+        "objects": "the places of the objects, in rising order",
+        "object_datum": "an object as a datum, Empty where there is none",
+        "is_text": "a value is this text",
+    },
+    "gd_prim/History": {
+        "prims_at": "the primitives at a dateline: the built-in ones and those of the first so many batches, as one list",
+    },
+    "gd_prim/Limits": {
+        "max_prims": "the greatest number of primitives in a store",
+        "max_batch": "the greatest number of primitives in a batch",
+        "max_text": "the greatest number of bytes of all texts in a store",
+        "max_requests": "the greatest number of requests that a store has taken",
+        "text_bytes": "the bytes of the value and the name of a primitive that are texts",
+        "Count": "what is counted, the number that would be reached, and the greatest number",
+        "limits": "the counts that a batch would make of a store and so many requests, in the order in which they are tested",
+        "first_full": "the first limit that counts pass, and the number that would be reached",
+    },
+    "gd_prim/WellFormed": {
+        "max_moment": "the last moment of the year 9999, at which a clock's numbers are cut off",
+        "refers_below": "a reference, if there is one, names a place below this one",
+        "succeeds_current": "a previous primitive, if there is one, is current among those before",
+        "is_moment": "a number of milliseconds is a moment: from the first one of the year 0000 to the last one of 9999",
+        "may_hold": "a primitive may hold this value: any but an object",
+        "refers_back": "each reference of a primitive names a place below this one",
+        "is_well_placed": "a primitive may stand at the end of a list, as the i-th of a batch of this moment",
+        "first_bad": "the first place at which a primitive of a batch breaks a rule, the rest of which is given",
+        "bad_place": "the first place at which a primitive of a batch breaks a rule behind a list",
+        "may_follow": "a batch is well formed behind a list, and passes no limit after so many requests",
+        "all_follow": "each of some batches may follow those before it",
+    },
+}
+
+DEFINITION = re.compile(r"( *)(?:abbrev |unfoldable )?pub (data |record )?([^\s:(]+|◌>>=◌)[ :(]")
+
+
+def code(names):
+    """Names as code."""
+    return ", ".join("`%s`" % name.replace("◌", "") for name in names)
+
+
+def sentence(comment):
+    """A comment as a sentence."""
+    comment = re.sub(r"◌", "", comment)
+    if comment[0].isalpha():
+        comment = comment[0].upper() + comment[1:]
+    return comment if comment[-1] in ".!?" else comment + "."
+
+
+def parts_of(lines, start, indent):
+    """The cases of a type, or the parts of a record, that begins at a line."""
+    names = []
+    for line in lines[start + 1:]:
+        if line.strip().startswith("--"):
+            continue
+        if not line.strip() or len(line) - len(line.lstrip()) <= indent:
+            break
+        found = re.match(r" {%d}(?:pub )?([\w' -]+?) :" % (indent + 2), line)
+        if found:
+            names.extend(found.group(1).split())
+    return names
+
+
+def definitions_of(path, strict):
+    """The header comment of a file, and its definitions: the names, the parts, the comment. A definition without a
+    comment shares that of the one before it, but a strict file has one for each."""
+    with open(path, encoding="utf-8") as file:
+        lines = file.read().split("\n")
+    header = []
+    for line in lines:
+        if not line.startswith("-- "):
+            break
+        header.append(line[3:])
+    found, in_record = [], None
+    for number, line in enumerate(lines):
+        if line.strip() and in_record is not None and len(line) - len(line.lstrip()) <= in_record:
+            in_record = None
+        match = DEFINITION.match(line)
+        if not match or line.startswith(("pub use", "pub mod")) or in_record is not None:
+            continue
+        indent, kind, name = len(match.group(1)), match.group(2), match.group(3)
+        above = number - 1
+        while above >= 0 and lines[above].strip().startswith("infix"):
+            above -= 1
+        comment = lines[above].strip()
+        if not comment.startswith("-- ") and found and not strict:
+            found[-1][0].append(name)
+            continue
+        if not comment.startswith("-- "):
+            sys.exit("definitions.py: %s:%d: `%s` has no comment" % (os.path.relpath(path, TOP), number + 1, name))
+        found.append(([name], parts_of(lines, number, indent) if kind else [], comment[3:]))
+        if kind:
+            in_record = indent
+    return " ".join(header), found
+
+
+def files_of(crate, order, whole):
+    """The spec files of a crate, in order."""
+    specs = os.path.join(TOP, "crates", crate, "specs")
+    there = sorted(os.path.relpath(os.path.join(folder, name), specs)[:-5]
+                   for folder, _, names in os.walk(specs) for name in names if name.endswith(".antt"))
+    there.remove("Lib")
+    listed = [name for name in order if name in there]
+    return [(name, whole) for name in listed] + ([(name, False) for name in there if name not in listed] if whole else [])
+
+
+def the_list():
+    """The whole page."""
+    out = [HEAD]
+    for crate, about, order, whole in CRATES:
+        out.append("## %s\n\n%s\n" % (crate, about))
+        for name, strict in files_of(crate, order, whole):
+            header, found = definitions_of(os.path.join(TOP, "crates", crate, "specs", name + ".antt"), strict)
+            said = SENTENCES.get(crate + "/" + name, {})
+            for stale in set(said) - {names[0] for names, _, _ in found}:
+                sys.exit("definitions.py: %s/%s has no definition `%s`" % (crate, name, stale))
+            if not found:
+                continue
+            out.append("### %s\n\n%s\n" % (name.replace("/", "."), sentence(header)))
+            for names, parts, comment in found:
+                with_parts = " (%s)" % code(parts) if parts else ""
+                out.append("- %s%s: %s" % (code(names), with_parts, sentence(said.get(names[0], comment))))
+            out.append("")
+    return "\n".join(out).rstrip() + "\n"
+
+
+def main():
+    text = the_list()
+    if sys.argv[1:] == ["--check"]:
+        with open(LIST, encoding="utf-8") as file:
+            if file.read() == text:
+                return 0
+        print("docs/DEFINITIONS.md is not what the specs give")
+        return 1
+    if sys.argv[1:]:
+        sys.exit(__doc__)
+    with open(LIST, "w", encoding="utf-8") as file:
+        file.write(text)
+    return 0
+
+
+if __name__ == "__main__":
+    sys.exit(main())
