@@ -1,2 +1,5 @@
 pub mod Returns
 pub mod Buffers
+pub mod Newlines
+pub mod Reading
+pub mod Gathering

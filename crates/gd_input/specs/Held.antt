@@ -1,10 +1,15 @@
 -- What a reader holds of its input.
-use Rattle.std.specs.Prelude.{ℕ, ◌+◌, ◌-◌, ◌^◌, ◌<◌, ◌≤◌, List}
+use Rattle.std.specs.Prelude.{ℕ, ◌+◌, ◌-◌, ◌^◌, ◌<◌, ◌≤◌, List, length}
 
 -- the bytes that are held, and how many bytes of the input stood before them
 pub record Held : Type 0 where
   pub bytes : List ℕ
   pub consumed : ℕ
+
+-- at most one buffer of bytes is held, and the input that was taken is bounded
+pub record IsBounded (held : Held) : Type 0 where
+  pub buffered : length held.bytes ≤ 4096
+  pub taken : held.consumed + length held.bytes < 2 ^ 40 + 4096
 
 -- where the held bytes lie in the buffer
 pub record IsWithin (start end consumed : ℕ) : Type 0 where

@@ -1,2 +1,4 @@
 pub mod Held
 pub mod Line
+pub mod Pieces
+pub mod Rounds

@@ -3,5 +3,8 @@
 
 pub mod fault;
 pub mod line;
+pub mod piece;
 pub mod reader;
-// pub mod round;
+pub mod round;
+#[cfg(test)]
+mod tests;

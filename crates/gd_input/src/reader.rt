@@ -1,5 +1,5 @@
 //! A buffer between a source and its lines.
-ghost use Rattle.std.specs.Prelude.{◌≡◌, ◌≢◌, ◌<◌, ◌≤◌, ◌+◌, ◌^◌, ◌↔◌, ℕ, [], drop, length, IfOk, IsTrue, false};
+ghost use Rattle.std.specs.Prelude.{◌≡◌, ◌≢◌, ◌<◌, ◌≤◌, ◌+◌, ◌^◌, ℕ, [], drop, length, IfOk, true, false};
 ghost use Rattle.std.specs.Io.KnownBytes.{prepend_known, Keeps, IsAtEnd};
 ghost use Rattle.gd_base.specs.Counts.{Rose};
 
@@ -37,6 +37,8 @@ impl Model for Reader {
 }
 
 impl Reader {
+    ghost use Rattle.gd_input.specs.Held.{IsBounded};
+
     /// A reader that has read nothing yet.
     pub fn new(alloc: Global) -> Reader
         ensures { result ≡ record { bytes = []; consumed = 0 } }
@@ -51,13 +53,16 @@ impl Reader {
     }
 
     /// The allocator that lines are read with.
-    pub fn allocator(&self) -> Global {
+    pub fn allocator(&self) -> Global
+        ensures bounded { IsBounded self.now }
+    {
         self.alloc
     }
 
     /// The bytes that are held.
     pub fn bytes(&self) -> &[u8]
-        ensures { result.now ≡ self.now.bytes }
+        ensures bytes { result.now ≡ self.now.bytes }
+        ensures bounded { IsBounded self.now }
     {
         &self.buffer[self.start..self.end]
     }
@@ -76,12 +81,12 @@ impl Reader {
     pub fn fill<S: Source>(&mut self, source: &mut S) -> Result<bool, InputFault>
         ensures kept { Keeps (prepend_known self.old.bytes (S.left source.old)) (prepend_known self.new.bytes (S.left source.new)) }
         ensures same { self.new.consumed ≡ self.old.consumed }
-        ensures some { IfOk result (λ some. IsTrue some ↔ (self.new.bytes ≢ [])) }
-        ensures at_end { result ≡ Ok false → IsAtEnd (S.left source.new) }
+        ensures some { IfOk result (λ some. some ≡ true → self.new.bytes ≢ []) }
+        ensures at_end { IfOk result (λ some. some ≡ false → (self.new.bytes ≡ []) × IsAtEnd (S.left source.new)) }
         ensures failed { result ≡ Err InputFault.Failed → Rose (S.faults source.old) (S.faults source.new) }
         ensures too_much { result ≡ Err InputFault.TooMuch → 2 ^ 40 ≤ self.new.consumed }
         ensures later { S.faults source.old ≤ S.faults source.new }
-        ensures bound { self.new.consumed + length self.new.bytes < 2 ^ 40 + 4096 }
+        ensures bounded { IsBounded self.new }
     {
         if self.start < self.end {
             return Ok(true);

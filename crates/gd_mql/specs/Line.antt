@@ -11,7 +11,7 @@ use Rattle.gd_runs.specs.Input as input
 use Rattle.gd_runs.specs.Input.{InputFault}
 use Rattle.gd_runs.specs.Built.{pair_of, read_asked, create_asked, name_request, create_request}
 use Rattle.gd_mql.specs.declared.fault.Code.{Code}
-use Rattle.gd_mql.specs.declared.fault.Code.TheVariants.{Unbuilt}
+use Rattle.gd_mql.specs.declared.fault.Code.TheVariants.{Unbuilt, BadValue}
 use Rattle.gd_mql.specs.declared.fault.LineFault.{LineFault}
 use Rattle.gd_mql.specs.declared.fault.LineFault.TheVariants as fault
 use Rattle.gd_mql.specs.declared.line.Line.{Line}
@@ -24,6 +24,7 @@ line_view (Write sid w) = request.write sid (create_request w.asks_guid w.name)
 
 abbrev pub code_view : Code → query.Code
 code_view Unbuilt = query.unbuilt
+code_view BadValue = query.bad_value
 
 -- the fault that this is; want of memory stands beside those of JSON
 abbrev pub fault_view : LineFault → InputFault

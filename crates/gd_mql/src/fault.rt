@@ -14,6 +14,8 @@ use std::marker::Model;
 pub enum Code {
     /// The form is not built.
     Unbuilt,
+    /// A literal is no value of its property.
+    BadValue,
 }
 
 /// The names of members that lead from the root of a query down to a place in it. Contracts see the list of these
@@ -43,6 +45,15 @@ impl PartialEq for Path {
 
 impl Eq for Path {
     ghost laws = { lists_equiv nat_list_eq_equiv };
+}
+
+impl From<Vec<JsonText>> for Path {
+    ghost from_gives = { λ names path. path ≡ names.items };
+
+    /// The path of these names from the root down. It takes no memory.
+    fn from(names: Vec<JsonText>) -> Path {
+        Path { names }
+    }
 }
 
 impl Path {

@@ -10,7 +10,8 @@ returns-then-ends_with_return c =
 
 pub returns-else-by_newline : goal.returns-else-by_newline
 returns-else-by_newline c = elim c.else-by_newline.branch [
-    else-by_newline-via-then-by_newline+else-ends_with_return w ↦
-        let has : has_return c.args.piece.items ≡ false = sym (w.if-ends_with_return.ensures ∙ ap has_return w.deref.ensures.value) in
-        rw w.if-by_newline.true (no_return-kept c.args.piece.items has)
-  | else-by_newline-via-else-by_newline w ↦ rw w.if-by_newline.false refl ]
+  | else-by_newline-via-then-by_newline+else-ends_with_return w ↦
+      let has : has_return c.args.piece.items ≡ false = sym (w.if-ends_with_return.ensures ∙ ap has_return w.deref.ensures.value) in
+      rw w.if-by_newline.true (no_return-kept c.args.piece.items has)
+  | else-by_newline-via-else-by_newline w ↦ rw w.if-by_newline.false refl
+]

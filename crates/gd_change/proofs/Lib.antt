@@ -1,0 +1,6 @@
+pub mod Appended
+pub mod KeptName
+pub mod Created
+pub mod Followed
+pub mod Evaluated
+pub mod Tested

@@ -1,0 +1,6 @@
+//! What a write does.
+#![tactic(auto)]
+
+mod create;
+pub mod fault;
+pub mod write;

@@ -1,0 +1,43 @@
+use Rattle.std.proofs.Common.{◌≡◌, ◌<◌, ◌≤◌, length, vec_len, refl, arith}
+use Rattle.std.specs.Io.KnownBytes.{prepend_known}
+use Rattle.gd_input.proofs.Gathering.{advances_on, blank_ends, last, pushed, full}
+use Rattle.gd_input.proofs.reader.Reader.read_round.Goals as goal
+
+pub returns-in_err-line-clause-advances : goal.returns-in_err-line-clause-advances
+returns-in_err-line-clause-advances g c = advances_on _ _ _ _ _ _ c.loop-self.invariant.advances c.read_line.ensures.advances
+
+pub returns-then-is_blank-clause-advances : goal.returns-then-is_blank-clause-advances
+returns-then-is_blank-clause-advances g c = advances_on _ _ _ _ _ _ c.loop-self.invariant.advances c.read_line.ensures.advances
+
+pub returns-in_err-push-clause-advances : goal.returns-in_err-push-clause-advances
+returns-in_err-push-clause-advances g c = advances_on _ _ _ _ _ _ c.loop-self.invariant.advances c.read_line.ensures.advances
+
+pub returns-then-not-by_newline-clause-advances : goal.returns-then-not-by_newline-clause-advances
+returns-then-not-by_newline-clause-advances g c = advances_on _ _ _ _ _ _ c.loop-self.invariant.advances c.read_line.ensures.advances
+
+pub returns-then-is_blank-clause-round : goal.returns-then-is_blank-clause-round
+returns-then-is_blank-clause-round g c =
+    let few : length c.loop-self.lines.items < 256 = omega (arith, c.loop-self.lines.ok) in
+    blank_ends _ _ _ c.loop-self.lines.items _ c.in_ok-line.field-0 c.is_blank.result c.loop-self.invariant.gathering c.in_ok-line.ensures.line few c.is_blank.ensures c.if-is_blank.true refl refl
+
+pub returns-then-not-by_newline-clause-round : goal.returns-then-not-by_newline-clause-round
+returns-then-not-by_newline-clause-round g c =
+    let few : length c.loop-self.lines.items < 256 = omega (arith, c.loop-self.lines.ok) in
+    last _ _ _ c.loop-self.lines.items _ c.in_ok-line.field-0 c.is_blank.result c.loop-self.invariant.gathering c.in_ok-line.ensures.line few c.is_blank.ensures c.if-is_blank.false c.if-not-by_newline.true c.in_ok-push.ensures.items
+
+pub loop-self-preserved : goal.loop-self-preserved
+loop-self-preserved g c =
+    let few : length c.loop-self.lines.items < 256 = omega (arith, c.loop-self.lines.ok) in
+    record {
+      gathering = rw c.in_ok-push.ensures.items (pushed _ _ _ c.loop-self.lines.items c.in_ok-line.field-0 c.is_blank.result c.loop-self.invariant.gathering c.in_ok-line.ensures.line few c.is_blank.ensures c.if-is_blank.false c.if-not-by_newline.false);
+      advances = advances_on _ _ _ _ _ _ c.loop-self.invariant.advances c.read_line.ensures.advances;
+      few = omega (arith, c.in_ok-push.ensures.len);
+      forward = omega (arith, c.in_ok-push.ensures.len, c.loop-self.invariant.forward, c.in_ok-line.ensures.forward c.if-not-by_newline.false);
+      bounded = c.read_line.ensures.bounded;
+      later = omega (arith, c.loop-self.invariant.later, c.read_line.ensures.later);
+    }
+
+pub returns-clause-round : goal.returns-clause-round
+returns-clause-round g c =
+    let count : length c.loop-self.lines.items ≡ 256 = omega (arith, c.loop-self.lines.ok, c.loop-self.invariant.few) in
+    full _ _ c.loop-self.lines.items _ c.loop-self.invariant.gathering count refl refl

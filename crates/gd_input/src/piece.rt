@@ -1,0 +1,94 @@
+//! Pieces of the input, which end at a newline or at the input's end.
+ghost use Rattle.std.specs.Prelude.{◌≡◌, ◌≢◌, ◌<◌, ◌≤◌, ◌+◌, ◌^◌, ℕ, List, [], length, false, true, MatchOption, IfOk, IfSome, OnErr};
+ghost use Rattle.std.specs.Io.KnownBytes.{prepend_known, IsAtEnd};
+ghost use Rattle.gd_base.specs.Counts.{Rose};
+ghost use Rattle.gd_input.specs.Pieces.{IsPlain, IsFirstNewline};
+
+use crate::fault::InputFault;
+use crate::line::RoundLine;
+use crate::reader::Reader;
+use gd_outside::source::Source;
+use memchr::memchr;
+use std::alloc::AllocError;
+
+/// A line, as far as it was read, and whether a newline ended it.
+#[derive(Drop)]
+pub struct Piece {
+    pub line: RoundLine,
+    pub by_newline: bool,
+}
+
+/// How many bytes stand before the first newline, if there is one.
+fn newline_in(bytes: &[u8]) -> Option<usize>
+    ensures within { IfSome result (λ n. n < length bytes.now) }
+    ensures first { MatchOption result (IsPlain bytes.now) (IsFirstNewline bytes.now) }
+{
+    memchr(b'\n', bytes)
+}
+
+impl Reader {
+    ghost use Rattle.gd_input.specs.Held.{IsBounded};
+    ghost use Rattle.gd_input.specs.Pieces.{Known, Advances, TakesChunk, TakesPiece};
+
+    /// Adds the held bytes to a line that has begun, up to a newline, which is then dropped.
+    fn take_chunk(&mut self, begun: RoundLine) -> Result<Piece, AllocError>
+        requires { self.old.bytes ≢ [] }
+        ensures chunk { IfOk result (TakesChunk self.old self.new begun) }
+        ensures forward { IfOk result (λ _. self.old.consumed < self.new.consumed) }
+        ensures bounded { IsBounded self.new }
+        ensures err { OnErr result (self.new ≡ self.old) }
+    {
+        match newline_in(self.bytes()) {
+            Some(count) => {
+                let line = begun.extended(&self.bytes()[..count])?;
+                self.consume(count + 1);
+                Ok(Piece {
+                    line,
+                    by_newline: true,
+                })
+            }
+            None => {
+                let line = begun.extended(self.bytes())?;
+                self.consume(self.bytes().len());
+                Ok(Piece {
+                    line,
+                    by_newline: false,
+                })
+            }
+        }
+    }
+
+    /// Reads the next line of the input: the bytes up to a newline or to the input's end, without a carriage return
+    /// before the newline.
+    pub fn read_line<S: Source>(&mut self, source: &mut S) -> Result<Piece, InputFault>
+        ensures line { IfOk result (λ piece. Known (prepend_known self.old.bytes (S.left source.old))
+            (prepend_known self.new.bytes (S.left source.new)) (TakesPiece piece)) }
+        ensures advances { Advances (prepend_known self.old.bytes (S.left source.old))
+            (prepend_known self.new.bytes (S.left source.new)) self.old.consumed self.new.consumed }
+        ensures bounded { IsBounded self.new }
+        ensures forward { IfOk result (λ piece. piece.by_newline ≡ true → self.old.consumed < self.new.consumed) }
+        ensures at_end { IfOk result (λ piece. piece.by_newline ≡ false
+            → (self.new.bytes ≡ []) × IsAtEnd (S.left source.new)) }
+        ensures failed { result ≡ Err InputFault.Failed → Rose (S.faults source.old) (S.faults source.new) }
+        ensures too_much { result ≡ Err InputFault.TooMuch → 2 ^ 40 ≤ self.new.consumed }
+        ensures later { S.faults source.old ≤ S.faults source.new }
+    {
+        let mut line = RoundLine::new(self.allocator());
+        loop {
+            if !self.fill(source)? {
+                return Ok(Piece {
+                    line: line.ended(false),
+                    by_newline: false,
+                });
+            }
+            let piece = self.take_chunk(line)?;
+            if piece.by_newline {
+                return Ok(Piece {
+                    line: piece.line.ended(true),
+                    by_newline: true,
+                });
+            }
+            line = piece.line;
+        }
+    }
+}
