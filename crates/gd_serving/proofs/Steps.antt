@@ -142,7 +142,7 @@ pub fault_served : (may : ℕ → Bool) (given : List Numbered) (output : List �
     → line_at is_built (prims_at p.batches (length p.batches)) l.bytes ≡ Err f
     → IsServed may (given ++ l ∷ []) (output ++ (input_fault_line p.lines f ++ 10 ∷ [])) (record { batches = p.batches; lines = p.lines + 1; kept = p.kept })
 fault_served may given output p l f s upto = moved (λ bs k kept. line_at is_built (prims_at bs (length bs)) l.bytes ≡ Err f
-        → IsServed may (given ++ l ∷ []) (output ++ (input_fault_line k f ++ 10 ∷ [])) (record { batches = bs; lines = k + 1; kept = kept }))
+    → IsServed may (given ++ l ∷ []) (output ++ (input_fault_line k f ++ 10 ∷ [])) (record { batches = bs; lines = k + 1; kept = kept }))
     may given output p s (λ says. fault_at may given output s.history s.runs s.explained says l upto f)
 
 -- a line without memory
@@ -156,7 +156,7 @@ pub read_served : (may : ℕ → Bool) (given : List Numbered) (output : List �
     → line_at is_built (prims_at p.batches (length p.batches)) l.bytes ≡ Ok (read sid r)
     → IsServed may (given ++ l ∷ []) (output ++ (reply_of p.batches (length p.batches) p.lines r ++ 10 ∷ [])) (record { batches = p.batches; lines = p.lines + 1; kept = p.kept })
 read_served may given output p l sid r s upto = moved (λ bs k kept. line_at is_built (prims_at bs (length bs)) l.bytes ≡ Ok (read sid r)
-        → IsServed may (given ++ l ∷ []) (output ++ (reply_of bs (length bs) k r ++ 10 ∷ [])) (record { batches = bs; lines = k + 1; kept = kept }))
+    → IsServed may (given ++ l ∷ []) (output ++ (reply_of bs (length bs) k r ++ 10 ∷ [])) (record { batches = bs; lines = k + 1; kept = kept }))
     may given output p s (λ says. read_at may given output s.history s.runs s.explained says l upto sid r)
 
 -- a write that is refused by what it asks
@@ -165,10 +165,10 @@ pub refused_served : (may : ℕ → Bool) (given : List Numbered) (output : List
     → exec (prims_at p.batches (length p.batches)) (length p.batches) w moment ≡ Err f
     → IsServed may (given ++ l ∷ []) (output ++ (err_line (length p.batches) p.lines (change_refusal f) ++ 10 ∷ [])) (record { batches = p.batches; lines = p.lines + 1; kept = p.kept })
 refused_served may given output p l sid w moment f s upto = moved (λ bs k kept. line_at is_built (prims_at bs (length bs)) l.bytes ≡ Ok (write sid w)
-        → exec (prims_at bs (length bs)) (length bs) w moment ≡ Err f
-        → IsServed may (given ++ l ∷ []) (output ++ (err_line (length bs) k (change_refusal f) ++ 10 ∷ [])) (record { batches = bs; lines = k + 1; kept = kept }))
+    → exec (prims_at bs (length bs)) (length bs) w moment ≡ Err f
+    → IsServed may (given ++ l ∷ []) (output ++ (err_line (length bs) k (change_refusal f) ++ 10 ∷ [])) (record { batches = bs; lines = k + 1; kept = kept }))
     may given output p s (λ says is does. refused_at may given output s.history s.runs s.explained says l upto sid w moment f is
-        (exec_line_err may given output s.history s.runs s.explained says l upto w moment (length l.bytes) f (exec_here may given output s.history s.runs s.explained says l upto w moment (Err f) does)))
+    (exec_line_err may given output s.history s.runs s.explained says l upto w moment (length l.bytes) f (exec_here may given output s.history s.runs s.explained says l upto w moment (Err f) does)))
 
 -- a write by which the history would grow too long
 pub full_served : (may : ℕ → Bool) (given : List Numbered) (output : List ℕ) (p : Progress) (l : Numbered) (sid : ℕ) (w : WriteRequest) (moment : ℕ) (done : Batch × Json) → IsServed may given output p → AreUpto given l.round
@@ -177,11 +177,11 @@ pub full_served : (may : ℕ → Bool) (given : List Numbered) (output : List �
     → nat_lt max_history (p.kept + kept_bytes (length l.bytes) done.1) ≡ true
     → IsServed may (given ++ l ∷ []) (output ++ (err_line (length p.batches) p.lines (change_refusal (full what.History (p.kept + kept_bytes (length l.bytes) done.1))) ++ 10 ∷ [])) (record { batches = p.batches; lines = p.lines + 1; kept = p.kept })
 full_served may given output p l sid w moment done s upto = moved (λ bs k kept. line_at is_built (prims_at bs (length bs)) l.bytes ≡ Ok (write sid w)
-        → exec (prims_at bs (length bs)) (length bs) w moment ≡ Ok done
-        → nat_lt max_history (kept + kept_bytes (length l.bytes) done.1) ≡ true
-        → IsServed may (given ++ l ∷ []) (output ++ (err_line (length bs) k (change_refusal (full what.History (kept + kept_bytes (length l.bytes) done.1))) ++ 10 ∷ [])) (record { batches = bs; lines = k + 1; kept = kept }))
+    → exec (prims_at bs (length bs)) (length bs) w moment ≡ Ok done
+    → nat_lt max_history (kept + kept_bytes (length l.bytes) done.1) ≡ true
+    → IsServed may (given ++ l ∷ []) (output ++ (err_line (length bs) k (change_refusal (full what.History (kept + kept_bytes (length l.bytes) done.1))) ++ 10 ∷ [])) (record { batches = bs; lines = k + 1; kept = kept }))
     may given output p s (λ says is does above. refused_at may given output s.history s.runs s.explained says l upto sid w moment _ is
-        (exec_line_full may given output s.history s.runs s.explained says l upto w moment (length l.bytes) done (exec_here may given output s.history s.runs s.explained says l upto w moment (Ok done) does) above))
+    (exec_line_full may given output s.history s.runs s.explained says l upto w moment (length l.bytes) done (exec_here may given output s.history s.runs s.explained says l upto w moment (Ok done) does) above))
 
 -- a write that is stored
 pub stored_served : (may : ℕ → Bool) (given : List Numbered) (output : List ℕ) (p : Progress) (l : Numbered) (sid : ℕ) (w : WriteRequest) (moment : ℕ) (done : Batch × Json) → IsServed may given output p → AreUpto given l.round
@@ -192,10 +192,10 @@ pub stored_served : (may : ℕ → Bool) (given : List Numbered) (output : List 
     → IsServed may (given ++ l ∷ []) (output ++ (ok_line (length p.batches + 1) p.lines done.1 ++ 10 ∷ []))
     (record { batches = p.batches ++ done.0 ∷ []; lines = p.lines + 1; kept = p.kept + kept_bytes (length l.bytes) done.1 })
 stored_served may given output p l sid w moment done s upto = moved (λ bs k kept. line_at is_built (prims_at bs (length bs)) l.bytes ≡ Ok (write sid w)
-        → exec (prims_at bs (length bs)) (length bs) w moment ≡ Ok done
-        → nat_lt max_history (kept + kept_bytes (length l.bytes) done.1) ≡ false → MayBe may moment
-        → SaysName (prims_at (bs ++ done.0 ∷ []) (length (bs ++ done.0 ∷ [])))
-        → IsServed may (given ++ l ∷ []) (output ++ (ok_line (length bs + 1) k done.1 ++ 10 ∷ [])) (record { batches = bs ++ done.0 ∷ []; lines = k + 1; kept = kept + kept_bytes (length l.bytes) done.1 }))
+    → exec (prims_at bs (length bs)) (length bs) w moment ≡ Ok done
+    → nat_lt max_history (kept + kept_bytes (length l.bytes) done.1) ≡ false → MayBe may moment
+    → SaysName (prims_at (bs ++ done.0 ∷ []) (length (bs ++ done.0 ∷ [])))
+    → IsServed may (given ++ l ∷ []) (output ++ (ok_line (length bs + 1) k done.1 ++ 10 ∷ [])) (record { batches = bs ++ done.0 ∷ []; lines = k + 1; kept = kept + kept_bytes (length l.bytes) done.1 }))
     may given output p s (λ says. stored_at may given output s.history s.runs s.explained says l upto sid w moment done)
 
 -- ---- any line
