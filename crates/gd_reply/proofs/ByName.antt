@@ -16,9 +16,10 @@ use Rattle.gd_prim.specs.Builtin.{name_place, master_place, expected_place, text
 use Rattle.gd_defs.specs.Property.{Property, answers, first_right, is_unique}
 use Rattle.gd_prim.specs.Live.{refers, passes_at, is_live, is_current, is_text, value_at, objects, is_object}
 use Rattle.gd_defs.specs.Data.{anything, equals, has_kind, of_text}
-use Rattle.gd_defs.specs.Query.{required}
+use Rattle.gd_defs.specs.Query.{required, bad_value}
+use Rattle.gd_defs.specs.Lines.{err_line}
 use Rattle.gd_defs.specs.Asked.{its_guid, as_operand, Asking, Members, no_members, own, asks, Asked, asked_query, name_property}
-use Rattle.gd_defs.specs.Reply.{reply, asked_line, page, has_heavy_candidate, max_candidate_weight, each_row, object_json}
+use Rattle.gd_defs.specs.Reply.{bad_query_refusal, reply, asked_line, page, has_heavy_candidate, max_candidate_weight, each_row, object_json}
 use Rattle.gd_grammar.specs.Chain.{◌>>=◌}
 use Rattle.gd_defs.specs.Rows.{met, meets, answer_meets, is_met, meets_given, candidates, row_weight, Row, row_of, row_cmp, insert_row, sorted_onto, rows}
 use Rattle.gd_reply.specs.ByName.{places, names, name_count, is_named, named, is_heavy, total_count, rows_json, named_line}
@@ -197,3 +198,14 @@ pub reply-named : (prims : List Primitive) (d k : ℕ) (x : List ℕ) → SaysNa
 unfolding named_line
 reply-named prims d k x says short = reply-name_query prims d k x says short
     ∙ rw (heavy-looked_up prims x, page-looked_up prims x, weights-looked_up prims x (take 100 (named prims x)), printed-rows prims x (take 100 (named prims x))) refl
+
+-- a name that is too long for a text is refused at its place
+pub reply-too_long : (prims : List Primitive) (d k : ℕ) (x : List ℕ) → SaysName prims → nat_le (length x) 4096 ≡ false
+    → reply prims d k false None (name_query x) ≡ err_line d k (bad_query_refusal bad_value (codes "name" ∷ []))
+reply-too_long prims d k x says long =
+    let f = says.found in
+    let stored : unwrap_or (first_right prims master_place name_place) name_place ≡ name_place = ap (λ (p : Property). p.stored) says.says in
+    let forward : is_some (first_right prims master_place name_place) ≡ false = ap (λ (p : Property). p.reversed) says.says in
+    let expected : first_right prims expected_place name_place ≡ Some text_place = ap (λ (p : Property). p.expected) says.says in
+    let unique : is_unique prims name_place ≡ true = ap (λ (p : Property). p.unique) says.says in
+    rw (f, forward, stored, expected, unique) (rw long refl)

@@ -1,20 +1,26 @@
 -- What a refusal prints.
-use Rattle.std.specs.Prelude.{[], ◌<◌, ◌^◌}
-use Rattle.gd_defs.specs.Query.{unbuilt}
-use Rattle.gd_defs.specs.Lines.{Refusal as Printed, too_wide, too_large}
+use Rattle.std.specs.Prelude.{ℕ, [], ◌∷◌, ◌<◌, ◌^◌, codes}
+use Rattle.gd_tree.specs.Json.{text}
+use Rattle.gd_defs.specs.Lines.{Refusal as Printed, refusal as printed, count_json, too_wide, too_large}
 use Rattle.gd_defs.specs.Reply.{bad_query_refusal}
+use Rattle.gd_runs.specs.Request.{what_text}
 use Rattle.gd_runs.specs.Input.{json_refusal}
+use Rattle.gd_mql.specs.Line.{code_view}
 use Rattle.gd_reply.specs.declared.refusal.Refusal.{Refusal}
 use Rattle.gd_reply.specs.declared.refusal.Refusal.TheVariants as refusal
 
 -- the error with its information
 abbrev pub refusal_of : Refusal → Printed
+refusal_of refusal.LineTooLong = printed (codes "LineTooLong") []
 refusal_of (refusal.Json f) = json_refusal f
-refusal_of refusal.Unbuilt = bad_query_refusal unbuilt []
+refusal_of refusal.BadLine = printed (codes "BadLine") []
+refusal_of (refusal.BadQuery code path) = bad_query_refusal (code_view code) path
+refusal_of (refusal.Full what count) = printed (codes "Full") ((codes "count", count_json count) ∷ (codes "what", text (what_text what)) ∷ [])
 refusal_of (refusal.TooWideAnswer weight) = too_wide weight
 refusal_of (refusal.ReplyTooLarge bytes) = too_large bytes
 
 -- a number that it tells is one of JSON
 abbrev pub CountsFit : Refusal → Type 0
+CountsFit (refusal.Full what count) = count < 2 ^ 63
 CountsFit (refusal.ReplyTooLarge bytes) = bytes < 2 ^ 63
 CountsFit _ = Unit {0}

@@ -1,10 +1,12 @@
 //! The reply to a read of the objects of a name, over a plain list of primitives.
-ghost use Rattle.std.specs.Prelude.{◌≡◌, ◌<◌, ◌≤◌, ◌^◌, ◌&&◌, false, None, IfOk, length, take, map};
+ghost use Rattle.std.specs.Prelude.{◌≡◌, ◌<◌, ◌≤◌, ◌^◌, ◌&&◌, false, None, IfOk, length, take, map, codes, ◌∷◌, []};
 ghost use Rattle.std.specs.List.{list_any};
 ghost use Rattle.gd_prim.specs.Live as live;
 ghost use Rattle.gd_tree.specs.Json.{list};
 ghost use Rattle.gd_json.specs.View.{view, items_view};
-ghost use Rattle.gd_defs.specs.Reply.{reply as reply_of, within_reply as within_reply_of};
+ghost use Rattle.gd_defs.specs.Query.{bad_value};
+ghost use Rattle.gd_defs.specs.Lines.{err_line as err_line_of};
+ghost use Rattle.gd_defs.specs.Reply.{reply as reply_of, within_reply as within_reply_of, bad_query_refusal};
 ghost use Rattle.gd_runs.specs.Built.{SaysName, name_query};
 ghost use Rattle.gd_reply.specs.ByName as by_name;
 
@@ -14,7 +16,9 @@ use crate::refusal::Refusal;
 use gd_base::datum::Datum;
 use gd_base::id::Id;
 use gd_base::memory::Memory;
-use gd_json::value::Json;
+use gd_base::text::TEXT_LIMIT;
+use gd_json::value::{Json, JsonText};
+use gd_mql::fault::{Code, Path};
 use gd_prim::Primitive;
 use gd_prim::live::live_at;
 use std::alloc::Global;
@@ -150,7 +154,7 @@ fn within_reply(alloc: Global, dateline: u32, line: u64, bytes: Vec<u8>) -> Resu
         return Ok(bytes);
     }
     let bytes = bytes.len() as u64;
-    err_line(alloc, dateline, line, Refusal::ReplyTooLarge { bytes })
+    err_line(alloc, dateline, line, &Refusal::ReplyTooLarge { bytes })
 }
 
 fn page_line(
@@ -168,12 +172,7 @@ fn page_line(
         ≡ by_name.page_line prims.now dateline line name.now page.now) }
 {
     if total_count(prims, name, page) > PAGE_WEIGHT {
-        return err_line(
-            alloc,
-            dateline,
-            line,
-            Refusal::TooWideAnswer { weight: 262145 },
-        );
+        return err_line(alloc, dateline, line, &Refusal::TooWideAnswer { weight: 262145 });
     }
     let rows = Json::List(rows(alloc, name, page)?);
     let bytes = ok_line(alloc, dateline, line, rows)?;
@@ -195,12 +194,7 @@ fn named_line(
 {
     let objects = named(alloc, prims, name)?;
     if has_heavy(prims, name, &objects) {
-        return err_line(
-            alloc,
-            dateline,
-            line,
-            Refusal::TooWideAnswer { weight: 65537 },
-        );
+        return err_line(alloc, dateline, line, &Refusal::TooWideAnswer { weight: 65537 });
     }
     let page = first(&objects, DEFAULT_LIMIT);
     page_line(alloc, prims, dateline, line, name, page)
@@ -211,6 +205,27 @@ fn first(objects: &[Id], limit: usize) -> &[Id]
     ensures bound { length result.now ≤ limit }
 {
     &objects[..objects.len().min(limit)]
+}
+
+/// The path of the member `name`.
+fn name_path(alloc: Global) -> Result<Path, Memory>
+    ensures { IfOk result (λ path. path ≡ codes "name" ∷ []) }
+{
+    let name = JsonText::from_str(alloc, "name")?;
+    Ok(Path::from(vec![in alloc; name]?))
+}
+
+/// The refusal of a name that is too long for a text.
+fn too_long(alloc: Global, dateline: u32, line: u64) -> Result<Vec<u8>, Memory>
+    requires { line < 2 ^ 63 }
+    ensures { IfOk result (λ bytes. bytes.items
+        ≡ err_line_of dateline line (bad_query_refusal bad_value (codes "name" ∷ []))) }
+{
+    let refusal = Refusal::BadQuery {
+        code: Code::BadValue,
+        path: name_path(alloc)?,
+    };
+    err_line(alloc, dateline, line, &refusal)
 }
 
 /// The reply line, without its newline, to a read that asks in a list for the objects of a name and their guids, over
@@ -225,11 +240,13 @@ pub fn reply_to_name(
 ) -> Result<Vec<u8>, Memory>
     requires prims { length prims.now ≤ 2097151 }
     requires says { SaysName prims.now }
-    requires name { length name.now ≤ 4096 }
     requires line { line < 2 ^ 63 }
     ensures { IfOk result (λ bytes. bytes.items
         ≡ reply_of prims.now dateline line false None (name_query name.now)) }
 {
+    if name.len() > TEXT_LIMIT {
+        return too_long(alloc, dateline, line);
+    }
     named_line(alloc, prims, dateline, line, name)
 }
 

@@ -54,12 +54,12 @@ pub fn err_line(
     alloc: Global,
     dateline: u32,
     line: u64,
-    refusal: Refusal,
+    refusal: &Refusal,
 ) -> Result<Vec<u8>, Memory>
     requires line { line < 2 ^ 63 }
-    requires counts { CountsFit refusal }
+    requires counts { CountsFit refusal.now }
     ensures { IfOk result (λ bytes. bytes.items
-        ≡ printed.err_line dateline line (refusal_of refusal)) }
+        ≡ printed.err_line dateline line (refusal_of refusal.now)) }
 {
     let code = member(alloc, "code", text(alloc, "/api/status/error")?)?;
     let dateline = member(alloc, "dateline", count(u64::from(dateline)))?;
@@ -73,11 +73,11 @@ pub fn err_line(
 }
 
 /// The reply line of a refusal that names no dateline.
-pub fn err_line_plain(alloc: Global, line: u64, refusal: Refusal) -> Result<Vec<u8>, Memory>
+pub fn err_line_plain(alloc: Global, line: u64, refusal: &Refusal) -> Result<Vec<u8>, Memory>
     requires line { line < 2 ^ 63 }
-    requires counts { CountsFit refusal }
+    requires counts { CountsFit refusal.now }
     ensures { IfOk result (λ bytes. bytes.items
-        ≡ printed.err_line_plain line (refusal_of refusal)) }
+        ≡ printed.err_line_plain line (refusal_of refusal.now)) }
 {
     let code = member(alloc, "code", text(alloc, "/api/status/error")?)?;
     let error = member(alloc, "error", text(alloc, error_name(refusal))?)?;

@@ -1,51 +1,123 @@
 //! Why a line is refused.
-ghost use Rattle.std.specs.Prelude.{◌≡◌, ◌<◌, ◌^◌, ◌∷◌, [], IfOk};
-ghost use Rattle.gd_tree.specs.Json.{object};
+ghost use Rattle.std.specs.Prelude.{◌≡◌, ◌<◌, ◌^◌, ◌∷◌, [], IfOk, codes, map};
+ghost use Rattle.gd_tree.specs.Json.{object, list, text as text_of};
 ghost use Rattle.gd_json.specs.View.{view};
+ghost use Rattle.gd_defs.specs.Lines.{object_of, count_json, texts};
+ghost use Rattle.gd_defs.specs.Reply.{code_text};
+ghost use Rattle.gd_runs.specs.Request.{what_text};
+ghost use Rattle.gd_mql.specs.Line.{code_view};
 ghost use Rattle.gd_reply.specs.Refusals.{refusal_of, CountsFit};
-ghost use Rattle.gd_defs.specs.Lines.{object_of, count_json};
 
 use crate::lines::{count, member, text};
 use gd_base::memory::Memory;
 use gd_json::from::JsonFault;
-use gd_json::value::Json;
+use gd_json::value::{Json, JsonText};
+use gd_mql::fault::{Code, Path};
+use gd_prim::What;
 use std::alloc::Global;
 
 /// Why a line is refused, with what its reply tells of it.
-#[derive(Clone, Copy, Debug, PartialEq, Eq)]
+#[derive(Debug, Drop)]
 pub enum Refusal {
+    /// The line has more than 262,144 bytes.
+    LineTooLong,
     /// The line is no JSON of this profile, or there was no memory to read it.
     Json(JsonFault),
-    /// The line asks what is not built.
-    Unbuilt,
+    /// The line is no object of just `sid`, a number from 0 to 63, and one of `read` and `write`.
+    BadLine,
+    /// The query is refused at this place.
+    BadQuery { code: Code, path: Path },
+    /// A limit would be passed; `count` is the number that would be reached.
+    Full { what: What, count: u64 },
     /// An answer or a page weighs at least so much.
     TooWideAnswer { weight: u32 },
     /// The reply line would have so many bytes.
     ReplyTooLarge { bytes: u64 },
 }
 
+fn json_name(fault: JsonFault) -> &'static str
+    ensures { result.now ≡ (refusal_of (Refusal.Json fault)).error }
+{
+    match fault {
+        JsonFault::BadJson => "BadJson",
+        JsonFault::TooDeep => "TooDeep",
+        JsonFault::TooWide => "TooWide",
+        JsonFault::FloatValue => "FloatValue",
+        JsonFault::Memory => "Memory",
+    }
+}
+
 /// The name of the refusal.
-pub fn error_name(refusal: Refusal) -> &'static str
-    ensures { result.now ≡ (refusal_of refusal).error }
+pub fn error_name(refusal: &Refusal) -> &'static str
+    ensures { result.now ≡ (refusal_of refusal.now).error }
 {
     match refusal {
-        Refusal::Json(JsonFault::BadJson) => "BadJson",
-        Refusal::Json(JsonFault::TooDeep) => "TooDeep",
-        Refusal::Json(JsonFault::TooWide) => "TooWide",
-        Refusal::Json(JsonFault::FloatValue) => "FloatValue",
-        Refusal::Json(JsonFault::Memory) => "Memory",
-        Refusal::Unbuilt => "BadQuery",
+        Refusal::LineTooLong => "LineTooLong",
+        Refusal::Json(fault) => json_name(*fault),
+        Refusal::BadLine => "BadLine",
+        Refusal::BadQuery { .. } => "BadQuery",
+        Refusal::Full { .. } => "Full",
         Refusal::TooWideAnswer { .. } => "TooWideAnswer",
         Refusal::ReplyTooLarge { .. } => "ReplyTooLarge",
     }
 }
 
-fn unbuilt_info(alloc: Global) -> Result<Json, Memory>
-    ensures { IfOk result (λ json. view json ≡ object (refusal_of Refusal.Unbuilt).info) }
+fn code_name(code: Code) -> &'static str
+    ensures { result.now ≡ code_text (code_view code) }
 {
-    let code = member(alloc, "code", text(alloc, "unbuilt")?)?;
-    let path = member(alloc, "path", Json::List(Vec::new(alloc)))?;
+    match code {
+        Code::Unbuilt => "unbuilt",
+        Code::BadValue => "bad_value",
+    }
+}
+
+fn what_name(what: What) -> &'static str
+    ensures { result.now ≡ what_text what }
+{
+    match what {
+        What::Batch => "batch",
+        What::Primitives => "primitives",
+        What::Text => "text",
+        What::Requests => "requests",
+        What::History => "history",
+    }
+}
+
+fn names(alloc: Global, path: &[JsonText]) -> Result<Vec<Json>, Memory>
+    ensures { IfOk result (λ names. map view names.items ≡ map text_of path.now) }
+{
+    let mut names = Vec::new(alloc);
+    for name in path {
+        names.push(text(alloc, name.as_str())?)?;
+    }
+    Ok(names)
+}
+
+/// The names of a path as a list.
+fn path_list(alloc: Global, path: &Path) -> Result<Json, Memory>
+    ensures { IfOk result (λ json. view json ≡ list (texts path.now)) }
+{
+    let names = names(alloc, path.names())?;
+    Ok(Json::List(names))
+}
+
+fn query_info(alloc: Global, code: Code, path: &Path) -> Result<Json, Memory>
+    ensures { IfOk result (λ json. view json ≡ object (object_of ((codes "code", text_of (code_text (code_view code)))
+        ∷ (codes "path", list (texts path.now)) ∷ []))) }
+{
+    let code = member(alloc, "code", text(alloc, code_name(code))?)?;
+    let path = member(alloc, "path", path_list(alloc, path)?)?;
     Ok(Json::Object(vec![in alloc; code, path]?))
+}
+
+fn full_info(alloc: Global, what: What, reached: u64) -> Result<Json, Memory>
+    requires { reached < 2 ^ 63 }
+    ensures { IfOk result (λ json. view json ≡ object (object_of ((codes "count", count_json reached)
+        ∷ (codes "what", text_of (what_text what)) ∷ []))) }
+{
+    let reached = member(alloc, "count", count(reached))?;
+    let what = member(alloc, "what", text(alloc, what_name(what))?)?;
+    Ok(Json::Object(vec![in alloc; reached, what]?))
 }
 
 fn count_info(alloc: Global, name: &str, n: u64) -> Result<Json, Memory>
@@ -57,14 +129,17 @@ fn count_info(alloc: Global, name: &str, n: u64) -> Result<Json, Memory>
 }
 
 /// What the reply tells of the refusal.
-pub fn info(alloc: Global, refusal: Refusal) -> Result<Json, Memory>
-    requires { CountsFit refusal }
-    ensures { IfOk result (λ json. view json ≡ object (refusal_of refusal).info) }
+pub fn info(alloc: Global, refusal: &Refusal) -> Result<Json, Memory>
+    requires { CountsFit refusal.now }
+    ensures { IfOk result (λ json. view json ≡ object (refusal_of refusal.now).info) }
 {
     match refusal {
-        Refusal::Json(_) => Ok(Json::Object(Vec::new(alloc))),
-        Refusal::Unbuilt => unbuilt_info(alloc),
-        Refusal::TooWideAnswer { weight } => count_info(alloc, "weight", u64::from(weight)),
-        Refusal::ReplyTooLarge { bytes } => count_info(alloc, "bytes", bytes),
+        Refusal::LineTooLong | Refusal::Json(_) | Refusal::BadLine => {
+            Ok(Json::Object(Vec::new(alloc)))
+        }
+        Refusal::BadQuery { code, path } => query_info(alloc, *code, path),
+        Refusal::Full { what, count } => full_info(alloc, *what, *count),
+        Refusal::TooWideAnswer { weight } => count_info(alloc, "weight", u64::from(*weight)),
+        Refusal::ReplyTooLarge { bytes } => count_info(alloc, "bytes", *bytes),
     }
 }

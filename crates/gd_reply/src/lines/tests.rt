@@ -1,6 +1,7 @@
 use super::*;
 use gd_base::id::Id;
 use gd_json::from::JsonFault;
+use gd_mql::fault::{Code, Path};
 use std::test::Fail;
 
 /// Each refusal with what its line prints between `error` and `line`.
@@ -15,7 +16,10 @@ fn prints_refusals(rt: HostRuntime) -> Result<(), Fail> {
             "\"FloatValue\",\"info\":{}",
         ),
         (
-            Refusal::Unbuilt,
+            Refusal::BadQuery {
+                code: Code::Unbuilt,
+                path: Path::root(rt.alloc()),
+            },
             "\"BadQuery\",\"info\":{\"code\":\"unbuilt\",\"path\":[]}",
         ),
         (
@@ -28,12 +32,12 @@ fn prints_refusals(rt: HostRuntime) -> Result<(), Fail> {
         ),
     ];
     for (refusal, middle) in rows {
-        let plain = err_line_plain(rt.alloc(), 2, refusal)?;
+        let plain = err_line_plain(rt.alloc(), 2, &refusal)?;
         let want = format!(in rt.alloc();
             "{{\"code\":\"/api/status/error\",\"error\":{middle},\"line\":2}}"
         )?;
         assert_eq!(rt; plain.as_slice(), want.as_bytes());
-        let dated = err_line(rt.alloc(), 9, 2, refusal)?;
+        let dated = err_line(rt.alloc(), 9, 2, &refusal)?;
         let want = format!(in rt.alloc();
             "{{\"code\":\"/api/status/error\",\"dateline\":9,\"error\":{middle},\"line\":2}}"
         )?;
