@@ -8,6 +8,7 @@ ghost use Rattle.gd_runs.specs.OneLine as one_line;
 use gd_base::memory::Memory;
 use gd_json::from::{JsonFault, json_from};
 use gd_json::value::Json;
+use gd_mql::fault::{Code, Path};
 use gd_mql::request::name_asked;
 use gd_prim::Primitive;
 use gd_reply::by_name::reply_to_name;
@@ -53,6 +54,17 @@ fn is_no_line(bytes: &[u8]) -> bool
     bytes.len() > LINE_LIMIT || bytes.contains(&b'\n')
 }
 
+/// The reply line of a refusal of what is not built.
+fn unbuilt_line(alloc: Global) -> Result<Vec<u8>, Memory>
+    ensures { IfOk result (λ reply. reply.items ≡ one_line.unbuilt_line 0) }
+{
+    let refusal = Refusal::BadQuery {
+        code: Code::Unbuilt,
+        path: Path::root(alloc),
+    };
+    err_line_plain(alloc, 0, &refusal)
+}
+
 /// The reply line to a JSON value over the built-in primitives.
 fn value_reply(alloc: Global, prims: &[Primitive], value: &Json) -> Result<Vec<u8>, Memory>
     requires { prims.now ≡ the_builtin }
@@ -61,7 +73,7 @@ fn value_reply(alloc: Global, prims: &[Primitive], value: &Json) -> Result<Vec<u
 {
     match name_asked(value) {
         Some(name) => reply_to_name(alloc, prims, 0, 0, name.as_str()),
-        None => err_line_plain(alloc, 0, Refusal::Unbuilt),
+        None => unbuilt_line(alloc),
     }
 }
 
@@ -72,12 +84,12 @@ fn line_reply(alloc: Global, prims: &[Primitive], line: &[u8]) -> Result<Vec<u8>
     ensures { IfOk result (λ reply. reply.items ≡ one_line.line_reply line.now) }
 {
     if is_no_line(line) {
-        return err_line_plain(alloc, 0, Refusal::Unbuilt);
+        return unbuilt_line(alloc);
     }
     match json_from(alloc, line) {
         Ok(value) => value_reply(alloc, prims, &value),
         Err(JsonFault::Memory) => Err(Memory),
-        Err(fault) => err_line_plain(alloc, 0, Refusal::Json(fault)),
+        Err(fault) => err_line_plain(alloc, 0, &Refusal::Json(fault)),
     }
 }
 
