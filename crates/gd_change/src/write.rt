@@ -1,11 +1,11 @@
 //! What a write does.
-ghost use Rattle.std.specs.Prelude.{◌≡◌, ◌≤◌, None, [], ◌∷◌, ◌++◌, IfOk, length, codes};
+ghost use Rattle.std.specs.Prelude.{◌≡◌, ◌≤◌, None, [], ◌∷◌, ◌++◌, IfOk, IfErr, length, codes};
 ghost use Rattle.gd_prim.specs.History.{prims_of};
 ghost use Rattle.gd_prim.specs.WellFormed.{bad_place};
 ghost use Rattle.gd_prim.specs.Limits.{limits, first_full};
 ghost use Rattle.gd_runs.specs.Request.{exec_after};
 ghost use Rattle.gd_runs.specs.Built.{SaysName, create_request};
-ghost use Rattle.gd_change.specs.Fault.{GivesChange};
+ghost use Rattle.gd_change.specs.Fault.{GivesChange, IsSmall};
 
 use crate::create;
 use crate::fault::ChangeFault;
@@ -43,6 +43,7 @@ pub fn evaluate(
     requires moment { moment ≤ 253_402_300_799_999 }
     ensures exec { GivesChange (exec_after store.now
         (create_request request.now.asks_guid request.now.name) moment) result }
+    ensures small { IfErr result (IsSmall) }
 
     // The store may absorb the batch.
     ensures well_formed { IfOk result (λ done. bad_place (prims_of store.now) done.0 ≡ None) }

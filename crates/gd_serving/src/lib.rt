@@ -1,2 +1,4 @@
-//! What a line of input comes to, on one thread.
+//! A run that is served line by line, on one thread.
 #![tactic(auto)]
+
+pub mod serving;

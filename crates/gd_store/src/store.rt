@@ -1,5 +1,5 @@
 //! The store.
-ghost use Rattle.std.specs.Prelude.{◌≡◌, ◌+◌, ◌-◌, ◌<◌, ◌≤◌, [], ◌∷◌, ◌++◌, None, Some, length, take, drop, slice_get, option_map, sum_by, nat_lt, if◌then◌else◌, Ok, Err, IsTrue, IfOk, OnOk, OnErr, MatchResult};
+ghost use Rattle.std.specs.Prelude.{◌≡◌, ◌^◌, ◌+◌, ◌-◌, ◌<◌, ◌≤◌, [], ◌∷◌, ◌++◌, None, Some, length, take, drop, slice_get, option_map, sum_by, nat_lt, if◌then◌else◌, Ok, Err, IsTrue, IfOk, IfErr, OnOk, OnErr, MatchResult};
 ghost use Rattle.gd_prim.specs.History.{prims_of, prims_at, is_history};
 ghost use Rattle.gd_prim.specs.WellFormed.{bad_place};
 ghost use Rattle.gd_prim.specs.Limits.{limits, first_full, text_bytes};
@@ -75,8 +75,9 @@ fn fits_behind(
     requires text { text ≡ sum_by text_bytes prims.now }
     requires little { text ≤ 134_217_728 }
     requires requests { requests ≤ 4_194_303 }
-    ensures { MatchResult result (λ _. first_full (limits prims.now requests batch.now) ≡ None)
+    ensures full { MatchResult result (λ _. first_full (limits prims.now requests batch.now) ≡ None)
         (λ full. first_full (limits prims.now requests batch.now) ≡ Some (full.what, full.count)) }
+    ensures small { IfErr result (λ full. full.count < 2 ^ 63) }
 {
     within(What::Batch, batch.len() as u64, MAX_BATCH as u64)?;
     let count = prims.len() + batch.len();
@@ -181,8 +182,9 @@ impl Store {
     /// Whether no limit is passed with the batch. `Full`: one is, with the number that would be reached. The limits are
     /// tested in the order primitives of the batch, all primitives, bytes of texts, requests. It takes no memory.
     pub fn fits(&self, batch: &Batch) -> Result<(), Full>
-        ensures { MatchResult result (λ _. first_full (limits (prims_of self.now) (length self.now) batch.now.prims) ≡ None)
+        ensures full { MatchResult result (λ _. first_full (limits (prims_of self.now) (length self.now) batch.now.prims) ≡ None)
             (λ full. first_full (limits (prims_of self.now) (length self.now) batch.now.prims) ≡ Some (full.what, full.count)) }
+        ensures small { IfErr result (λ full. full.count < 2 ^ 63) }
     {
         fits_behind(
             self.primitives(),

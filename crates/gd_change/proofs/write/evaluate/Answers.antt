@@ -16,7 +16,7 @@ made c = batch_is c.args.store.now c.args.moment c.args.request.now.name c.in_ok
     c.in_ok-batch.ensures c.primitives.ensures.all c.in_ok-of.ensures c.as_str-name.ensures
 
 fits : (c : goal.In_ok-answer) → first_full (limits (prims_of c.args.store.now) (length c.args.store.now) (batch_after c.args.store.now c.args.moment c.args.request.now.name).prims) ≡ None
-fits c = ap (λ (b : Batch). first_full (limits (prims_of c.args.store.now) (length c.args.store.now) b.prims)) (sym (made c)) ∙ c.in_ok-fits.ensures
+fits c = ap (λ (b : Batch). first_full (limits (prims_of c.args.store.now) (length c.args.store.now) b.prims)) (sym (made c)) ∙ c.in_ok-fits.ensures.full
 
 pub returns-clause-well_formed : goal.returns-clause-well_formed
 returns-clause-well_formed c = ap (bad_place (prims_of c.args.store.now)) (made c)
@@ -41,6 +41,6 @@ returns-in_err-fits-clause-exec c =
     let made : c.in_ok-batch.batch ≡ batch_after c.args.store.now c.args.moment c.args.request.now.name = batch_is c.args.store.now c.args.moment c.args.request.now.name c.in_ok-of.field-0 c.as_str-name.result.now c.primitives.result.now c.in_ok-batch.batch
     c.in_ok-batch.ensures c.primitives.ensures.all c.in_ok-of.ensures c.as_str-name.ensures in
     let passed : first_full (limits (prims_of c.args.store.now) (length c.args.store.now) (batch_after c.args.store.now c.args.moment c.args.request.now.name).prims) ≡ Some (c.in_err-fits.field-0.0.what, c.in_err-fits.field-0.0.count) =
-    ap (λ (b : Batch). first_full (limits (prims_of c.args.store.now) (length c.args.store.now) b.prims)) (sym made) ∙ c.in_err-fits.ensures in
+    ap (λ (b : Batch). first_full (limits (prims_of c.args.store.now) (length c.args.store.now) b.prims)) (sym made) ∙ c.in_err-fits.ensures.full in
     gives_full _ c.from_residual-in_err-fits.result _ _ c.from_residual-in_err-fits.ensures.1
     (full_after c.args.store.now c.args.moment c.args.request.now.asks_guid c.args.request.now.name _ _ c.requires.says c.primitives.ensures.history short passed)
