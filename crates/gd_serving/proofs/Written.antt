@@ -32,7 +32,7 @@ done_is expected r done is gives = subst (λ (s : Result (Batch × Value) Fault)
 pub fault_is : (expected : Result (Batch × Json) ChangeFault) (r : Result (Batch × Value) Fault) (f : Fault) → r ≡ Err f → GivesChange expected r → IfSome (fault_of f) (λ refusal. expected ≡ Err refusal)
 fault_is expected r f is gives = subst (λ (s : Result (Batch × Value) Fault). GivesChange expected s) is gives
 
-above : (limit n : ℕ) → limit < n → nat_lt limit n ≡ true
+pub above : (limit n : ℕ) → limit < n → nat_lt limit n ≡ true
 above limit n h = grind (arith, nat_tests)
 
 within : (limit n : ℕ) → n ≤ limit → nat_lt limit n ≡ false

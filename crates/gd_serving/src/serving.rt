@@ -7,12 +7,13 @@ ghost use Rattle.gd_prim.specs.History.{prims_of, prims_at};
 ghost use Rattle.gd_defs.specs.Lines.{err_line as err_line_of};
 ghost use Rattle.gd_defs.specs.Write.{full};
 ghost use Rattle.gd_runs.specs.Request.{reply_of, change_refusal, write as a_write};
-ghost use Rattle.gd_runs.specs.Input.{input_fault_line};
+ghost use Rattle.gd_runs.specs.Input.{input_fault_line, line_too_long};
 ghost use Rattle.gd_runs.specs.Explained.{MayBe};
 ghost use Rattle.gd_runs.specs.Built.{SaysName, name_request, create_request};
 ghost use Rattle.gd_mql.specs.Line.{fault_view};
 ghost use Rattle.gd_change.specs.Fault.{fault_of, IsSmall};
 ghost use Rattle.gd_input.specs.Line.{IsKept};
+ghost use Rattle.gd_serving.specs.Lines.{IsShort};
 ghost use Rattle.gd_serving.specs.Step.{ComesTo, line_now};
 
 use gd_base::memory::Memory;
@@ -82,11 +83,58 @@ impl Serving {
         })
     }
 
+    /// The reply to the next line: to one that is refused by its form, to a read at the dateline of the store, or to a
+    /// write that is carried out at the moment of the clock and stored, or refused. The number of the next line stays
+    /// as it is: `next_line` moves it on. `Memory`: nothing was stored.
+    pub fn reply<C: Clock>(
+        &mut self,
+        alloc: Global,
+        clock: &mut C,
+        line: &RoundLine,
+    ) -> Result<Vec<u8>, Memory>
+        requires lines { self.old.lines < 2 ^ 63 }
+        requires says { SaysName (prims_of self.old.batches) }
+        requires short { IsShort line.now }
+        ensures comes { (bytes : List ℕ) → IsKept 262_144 line.now bytes
+            → IfOk result (λ reply. ComesTo (C.may clock.old) self.old bytes reply.items self.new) }
+        ensures err { OnErr result (self.new ≡ self.old) }
+        ensures line { self.new.lines ≡ self.old.lines }
+        ensures says { SaysName (prims_of self.new.batches) }
+        ensures same { C.may clock.new ≡ C.may clock.old }
+    {
+        let bytes = match line {
+            RoundLine::TooLong => return self.too_long_reply(alloc),
+            RoundLine::Bytes(bytes) => bytes.as_slice(),
+        };
+        match line_from(alloc, bytes) {
+            Ok(Line::Read { request, .. }) => self.read(alloc, &request),
+            Ok(Line::Write { request, .. }) => self.write(alloc, clock, &request, bytes.len()),
+            Err(fault) => self.fault_reply(alloc, fault),
+        }
+    }
+
+    /// Goes on to the next line.
+    pub fn next_line(&mut self)
+        requires { self.old.lines < 2 ^ 63 }
+        ensures { self.new ≡ record { batches = self.old.batches; lines = self.old.lines + 1; kept = self.old.kept } }
+    {
+        self.lines += 1;
+    }
+
+    /// The reply to a line that has too many bytes.
+    fn too_long_reply(&self, alloc: Global) -> Result<Vec<u8>, Memory>
+        requires { self.now.lines < 2 ^ 63 }
+        ensures { IfOk result (λ reply. reply.items ≡ input_fault_line self.now.lines line_too_long) }
+    {
+        err_line_plain(alloc, self.lines, &Refusal::LineTooLong)
+    }
+
     /// The reply to a line that is refused by its form.
     fn fault_reply(&self, alloc: Global, fault: LineFault) -> Result<Vec<u8>, Memory>
         requires { self.now.lines < 2 ^ 63 }
-        ensures { fault ≢ LineFault.Memory
+        ensures refusal { fault ≢ LineFault.Memory
             → IfOk result (λ reply. reply.items ≡ input_fault_line self.now.lines (fault_view fault)) }
+        ensures memory { fault ≡ LineFault.Memory → IsErr result }
     {
         match fault {
             LineFault::Json(fault) => err_line_plain(alloc, self.lines, &Refusal::Json(fault)),
@@ -146,6 +194,7 @@ impl Serving {
             → line_now self.old line ≡ Ok (a_write sid (create_request request.now.asks_guid request.now.name))
             → IfOk result (λ reply. ComesTo (C.may clock.old) self.old line reply.items self.new) }
         ensures err { OnErr result (self.new ≡ self.old) }
+        ensures line { self.new.lines ≡ self.old.lines }
         ensures says { SaysName (prims_of self.new.batches) }
         ensures same { C.may clock.new ≡ C.may clock.old }
     {
@@ -190,3 +239,6 @@ fn text_len(alloc: Global, value: &Json) -> Result<u64, Memory>
     }
     Ok(len)
 }
+
+#[cfg(test)]
+mod tests;

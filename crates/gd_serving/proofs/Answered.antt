@@ -1,0 +1,71 @@
+-- What a line comes to, by what its bytes spell.
+use Rattle.std.proofs.Common.{◌≡◌, ◌≢◌, ◌≤◌, ◌<◌, ℕ, List, length, Bool, true, false, nat_lt, nat_eq, ◌&&◌, Option, Some, None, if◌then◌else◌, Result, Ok, Err, IsErr, IfOk, Vec, Global, refl, ap, sym, subst, ◌∙◌, arith}
+use Rattle.std.specs.Option.{option_eq}
+use Rattle.gd_prim.specs.declared.Primitive.{Primitive}
+use Rattle.gd_prim.specs.Builtin.{name_place}
+use Rattle.gd_defs.specs.Property.{Property, property_object, stated}
+use Rattle.gd_prim.specs.History.{prims_of, prims_at}
+use Rattle.gd_mql.specs.declared.line.Line.{Line}
+use Rattle.gd_mql.specs.declared.line.Line.TheVariants.{Read, Write}
+use Rattle.gd_mql.specs.declared.fault.LineFault.{LineFault}
+use Rattle.gd_mql.specs.declared.fault.LineFault.TheVariants as fault
+use Rattle.gd_mql.specs.Line.{line_view, fault_view, GivesLine}
+use Rattle.gd_runs.specs.Request as request
+use Rattle.gd_runs.specs.Request.{reply_of}
+use Rattle.gd_runs.specs.Input.{InputFault, line_at, line_too_long, input_fault_line, value_line, as_built, max_line}
+use Rattle.gd_json.specs.Reading.{json_from}
+use Rattle.gd_runs.specs.Built.{SaysName, says_name, is_name_property, is_built, name_request, create_request}
+use Rattle.gd_input.specs.declared.line.RoundLine.{RoundLine}
+use Rattle.gd_input.specs.declared.line.RoundLine.TheVariants.{Bytes, TooLong}
+use Rattle.gd_input.specs.Line.{IsKept}
+use Rattle.gd_base.specs.declared.memory.Memory.{Memory}
+use Rattle.gd_serving.specs.Served.{Progress}
+use Rattle.gd_serving.specs.Step.{ComesTo, faulty, answered, line_now}
+use Rattle.gd_serving.proofs.Replies.{prims_at-all}
+use Rattle.gd_serving.proofs.Written.{above}
+
+-- a list that says so passes the test
+says_is : (prims : List Primitive) → SaysName prims → says_name prims ≡ true
+unfolding says_name
+says_is prims s = ap (λ (o : Option ℕ). option_eq nat_eq o (Some name_place) && is_name_property (stated prims name_place)) s.found
+    ∙ ap (λ (p : Property). option_eq nat_eq (Some name_place) (Some name_place) && is_name_property p) s.says
+
+says_here : (p : Progress) → SaysName (prims_of p.batches) → says_name (prims_at p.batches (length p.batches)) ≡ true
+says_here p says = ap says_name (prims_at-all p.batches) ∙ says_is (prims_of p.batches) says
+
+-- what reading the kept bytes gives is what the line is
+pub line_is : (p : Progress) (line : RoundLine) (v : Vec ℕ Global) (items bytes : List ℕ) (r : Result Line LineFault) → SaysName (prims_of p.batches) → line ≡ Bytes v → items ≡ v.items → IsKept 262_144 line bytes
+    → ((prims : List Primitive) → says_name prims ≡ true → GivesLine (line_at is_built prims items) r) → GivesLine (line_now p bytes) r
+line_is p line v items bytes r says is same kept gives =
+    subst (λ (bs : List ℕ). GivesLine (line_now p bs) r) (same ∙ (subst (λ (l : RoundLine). IsKept 262_144 l bytes) is kept).0) (gives (prims_at p.batches (length p.batches)) (says_here p says))
+
+-- a line that has too many bytes
+pub too_long_comes : (may : ℕ → Bool) (p : Progress) (line : RoundLine) (bytes : List ℕ) (r : Result (Vec ℕ Global) Memory) → line ≡ TooLong → IsKept 262_144 line bytes
+    → IfOk r (λ reply. reply.items ≡ input_fault_line p.lines line_too_long) → IfOk r (λ reply. ComesTo may p bytes reply.items p)
+too_long_comes may p line bytes (Err e) is kept prints = tt
+too_long_comes may p line bytes (Ok reply) is kept prints = faulty line_too_long line_is_long prints refl
+  where
+    long : max_line < length bytes
+    long = subst (λ (l : RoundLine). IsKept 262_144 l bytes) is kept
+
+    line_is_long : line_now p bytes ≡ Err line_too_long
+    line_is_long = ap (λ (b : Bool). if b then Err line_too_long else value_line (λ j. as_built (is_built (prims_at p.batches (length p.batches)) j) (request.line_of j)) (json_from bytes)) (above max_line (length bytes) long)
+
+-- a line that is refused by its form
+pub fault_comes : (may : ℕ → Bool) (p : Progress) (bytes : List ℕ) (f : LineFault) (r : Result (Vec ℕ Global) Memory) → GivesLine (line_now p bytes) (Err f)
+    → (f ≡ fault.Memory → IsErr r) → (f ≢ fault.Memory → IfOk r (λ reply. reply.items ≡ input_fault_line p.lines (fault_view f))) → IfOk r (λ reply. ComesTo may p bytes reply.items p)
+fault_comes may p bytes f (Err e) gives none prints = tt
+fault_comes may p bytes fault.Memory (Ok reply) gives none prints = cc (none refl)
+fault_comes may p bytes (fault.Json f) (Ok reply) gives none prints = faulty (fault_view (fault.Json f)) (gives (λ is. cc is)) (prints (λ is. cc is)) refl
+fault_comes may p bytes fault.BadLine (Ok reply) gives none prints = faulty (fault_view fault.BadLine) (gives (λ is. cc is)) (prints (λ is. cc is)) refl
+fault_comes may p bytes (fault.BadQuery code path) (Ok reply) gives none prints = faulty (fault_view (fault.BadQuery code path)) (gives (λ is. cc is)) (prints (λ is. cc is)) refl
+
+-- a read
+pub read_comes : (may : ℕ → Bool) (p : Progress) (bytes : List ℕ) (sid : ℕ) (name : List ℕ) (r : Result (Vec ℕ Global) Memory) → line_now p bytes ≡ Ok (request.read sid (name_request name))
+    → IfOk r (λ reply. reply.items ≡ reply_of p.batches (length p.batches) p.lines (name_request name)) → IfOk r (λ reply. ComesTo may p bytes reply.items p)
+read_comes may p bytes sid name (Err e) is prints = tt
+read_comes may p bytes sid name (Ok reply) is prints = answered sid (name_request name) is prints refl
+
+-- the kept bytes are as many as the line has
+pub kept_length : (line : RoundLine) (v : Vec ℕ Global) (items bytes : List ℕ) (n : ℕ) → line ≡ Bytes v → items ≡ v.items → n ≡ length items → IsKept 262_144 line bytes → length bytes ≡ n
+kept_length line v items bytes n is same counted kept = sym (counted ∙ ap length (same ∙ (subst (λ (l : RoundLine). IsKept 262_144 l bytes) is kept).0))
