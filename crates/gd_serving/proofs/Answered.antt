@@ -1,37 +1,28 @@
 -- What a line comes to, by what its bytes spell.
-use Rattle.std.proofs.Common.{◌≡◌, ◌≢◌, ◌≤◌, ◌<◌, ℕ, List, length, Bool, true, false, nat_lt, nat_eq, ◌&&◌, Option, Some, None, if◌then◌else◌, Result, Ok, Err, IsErr, IfOk, Vec, Global, refl, ap, sym, subst, ◌∙◌, arith}
-use Rattle.std.specs.Option.{option_eq}
+use Rattle.std.proofs.Common.{◌≡◌, ◌≢◌, ◌<◌, ℕ, List, length, Bool, true, if◌then◌else◌, Result, Ok, Err, IsErr, IfOk, Vec, Global, refl, ap, sym, subst, ◌∙◌}
 use Rattle.gd_prim.specs.declared.Primitive.{Primitive}
-use Rattle.gd_prim.specs.Builtin.{name_place}
-use Rattle.gd_defs.specs.Property.{Property, property_object, stated}
 use Rattle.gd_prim.specs.History.{prims_of, prims_at}
 use Rattle.gd_mql.specs.declared.line.Line.{Line}
-use Rattle.gd_mql.specs.declared.line.Line.TheVariants.{Read, Write}
 use Rattle.gd_mql.specs.declared.fault.LineFault.{LineFault}
 use Rattle.gd_mql.specs.declared.fault.LineFault.TheVariants as fault
-use Rattle.gd_mql.specs.Line.{line_view, fault_view, GivesLine}
+use Rattle.gd_mql.specs.Line.{fault_view, GivesLine}
 use Rattle.gd_runs.specs.Request as request
 use Rattle.gd_runs.specs.Request.{reply_of}
-use Rattle.gd_runs.specs.Input.{InputFault, line_at, line_too_long, input_fault_line, value_line, as_built, max_line}
+use Rattle.gd_runs.specs.Input.{line_at, line_too_long, input_fault_line, value_line, as_built, max_line}
 use Rattle.gd_json.specs.Reading.{json_from}
-use Rattle.gd_runs.specs.Built.{SaysName, says_name, is_name_property, is_built, name_request, create_request}
+use Rattle.gd_runs.specs.Built.{SaysName, says_name, is_built, name_request}
 use Rattle.gd_input.specs.declared.line.RoundLine.{RoundLine}
 use Rattle.gd_input.specs.declared.line.RoundLine.TheVariants.{Bytes, TooLong}
 use Rattle.gd_input.specs.Line.{IsKept}
 use Rattle.gd_base.specs.declared.memory.Memory.{Memory}
+use Rattle.gd_change.proofs.Tested.{tested_if_says}
 use Rattle.gd_serving.specs.Served.{Progress}
 use Rattle.gd_serving.specs.Step.{ComesTo, faulty, answered, line_now}
 use Rattle.gd_serving.proofs.Replies.{prims_at-all}
 use Rattle.gd_serving.proofs.Written.{above}
 
--- a list that says so passes the test
-says_is : (prims : List Primitive) → SaysName prims → says_name prims ≡ true
-unfolding says_name
-says_is prims s = ap (λ (o : Option ℕ). option_eq nat_eq o (Some name_place) && is_name_property (stated prims name_place)) s.found
-    ∙ ap (λ (p : Property). option_eq nat_eq (Some name_place) (Some name_place) && is_name_property p) s.says
-
 says_here : (p : Progress) → SaysName (prims_of p.batches) → says_name (prims_at p.batches (length p.batches)) ≡ true
-says_here p says = ap says_name (prims_at-all p.batches) ∙ says_is (prims_of p.batches) says
+says_here p says = ap says_name (prims_at-all p.batches) ∙ tested_if_says (prims_of p.batches) says
 
 -- what reading the kept bytes gives is what the line is
 pub line_is : (p : Progress) (line : RoundLine) (v : Vec ℕ Global) (items bytes : List ℕ) (r : Result Line LineFault) → SaysName (prims_of p.batches) → line ≡ Bytes v → items ≡ v.items → IsKept 262_144 line bytes

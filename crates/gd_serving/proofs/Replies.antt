@@ -1,5 +1,5 @@
 -- The reply to a read over all batches.
-use Rattle.std.proofs.Common.{◌≡◌, ℕ, List, length, take, None, false, refl, ap, sym, ◌∙◌, arith}
+use Rattle.std.proofs.Common.{◌≡◌, ℕ, List, length, take, None, false, ap, sym, arith}
 use Rattle.std.proofs.lemmas.Grind.{common_steps}
 use Rattle.gd_prim.specs.declared.Primitive.{Primitive}
 use Rattle.gd_prim.specs.declared.Batch.{Batch}

@@ -1,5 +1,5 @@
 -- A served run and one line more.
-use Rattle.std.proofs.Common.{◌≡◌, refl, ℕ, zero, suc, ◌+◌, ◌≤◌, Bool, true, false, List, [], ◌∷◌, ◌++◌, length, map, Option, Some, None, Result, Ok, Err, slice_get, subst, sym, ap, ◌∙◌, arith, nat_lt, length-append, append_assoc, option_map}
+use Rattle.std.proofs.Common.{◌≡◌, refl, ℕ, zero, suc, ◌+◌, Bool, true, false, List, [], ◌∷◌, ◌++◌, length, map, Some, Result, Ok, Err, slice_get, subst, sym, ap, ◌∙◌, nat_lt, length-append, append_assoc, option_map}
 use Rattle.std.proofs.lemmas.List.{append-nil, length-map, map-append}
 use Rattle.std.proofs.lemmas.Grind.{fold-append}
 use Rattle.gd_prim.specs.declared.Batch.{Batch}
@@ -15,7 +15,7 @@ use Rattle.gd_runs.specs.Legal.{Entry, History, size, batches, with_entries, his
 use Rattle.gd_runs.specs.Explained.{Numbered, Run, MayBe, IsExplainedBy, memory_line}
 use Rattle.gd_runs.specs.Explained.{stored as stored_outcome}
 use Rattle.gd_runs.specs.Built.{is_built, SaysName}
-use Rattle.gd_runs.proofs.Rounds.{some_same, no_some, length_batches}
+use Rattle.gd_runs.proofs.Rounds.{no_some, length_batches}
 use Rattle.gd_runs.proofs.LineMore.{UptoRound, fault_more, memory_more, read_more, refused_more, stored_more, entry_of, run_of}
 use Rattle.gd_serving.specs.Served.{Progress, IsServed, AreUpto}
 use Rattle.gd_serving.specs.Step.{ComesTo, faulty, answered, refused, too_long, stored}

@@ -1,10 +1,6 @@
-use Rattle.std.proofs.Common.{◌≡◌, ℕ, List, ap, refl, ◌∙◌, length, Ok, Err}
+use Rattle.std.proofs.Common.{ap, refl, ◌∙◌, length, Ok, Err}
 use Rattle.gd_mql.specs.declared.line.Line.{Line}
 use Rattle.gd_mql.specs.Line.{line_view}
-use Rattle.gd_runs.specs.Built.{create_request}
-use Rattle.gd_input.specs.declared.line.RoundLine.{RoundLine}
-use Rattle.gd_input.specs.Line.{IsKept}
-use Rattle.gd_serving.specs.Step.{line_now}
 use Rattle.gd_serving.proofs.Answered.{line_is, kept_length, too_long_comes, fault_comes, read_comes}
 use Rattle.gd_serving.proofs.serving.Serving.reply.Goals as goal
 

@@ -1,4 +1,4 @@
-use Rattle.std.proofs.Common.{◌≡◌, ◌≤◌, ◌<◌, ◌+◌, ℕ, List, length, Ok, Global, Vec, ap, ◌∙◌, arith}
+use Rattle.std.proofs.Common.{◌+◌, ℕ, Global, Vec, ap, ◌∙◌, arith}
 use Rattle.gd_defs.specs.Lines.{ok_line}
 use Rattle.gd_json.specs.View.{view}
 use Rattle.gd_runs.specs.Built.{create_request}
