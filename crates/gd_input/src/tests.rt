@@ -116,7 +116,7 @@ fn reads_lines_and_rounds(rt: HostRuntime) -> Result<(), Fail> {
 fn ends_a_round_at_256_lines(rt: HostRuntime) -> Result<(), Fail> {
     let alloc = rt.alloc();
     let rows = [
-        (255, "a\n", ";"),
+        (255, "a\n", ";;"),
         (255, "a", ";"),
         (255, "a\nb", ";b,;"),
         (255, "a\n\nb", ";;b,;"),

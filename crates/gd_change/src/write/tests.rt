@@ -6,9 +6,7 @@ use std::alloc::AllocError;
 use std::test::Fail;
 
 /// A request for an object of this name.
-fn create(alloc: Global, asks_guid: bool, name: &str) -> Result<WriteRequest, Fail>
-    ensures { IfOk result (λ request. request.name ≡ name.now) }
-{
+fn create(alloc: Global, asks_guid: bool, name: &str) -> Result<WriteRequest, Fail> {
     let name = JsonText::from_str(alloc, name)?;
     Ok(WriteRequest { asks_guid, name })
 }
