@@ -172,7 +172,12 @@ fn page_line(
         ≡ by_name.page_line prims.now dateline line name.now page.now) }
 {
     if total_count(prims, name, page) > PAGE_WEIGHT {
-        return err_line(alloc, dateline, line, &Refusal::TooWideAnswer { weight: 262145 });
+        return err_line(
+            alloc,
+            dateline,
+            line,
+            &Refusal::TooWideAnswer { weight: 262145 },
+        );
     }
     let rows = Json::List(rows(alloc, name, page)?);
     let bytes = ok_line(alloc, dateline, line, rows)?;
@@ -194,7 +199,12 @@ fn named_line(
 {
     let objects = named(alloc, prims, name)?;
     if has_heavy(prims, name, &objects) {
-        return err_line(alloc, dateline, line, &Refusal::TooWideAnswer { weight: 65537 });
+        return err_line(
+            alloc,
+            dateline,
+            line,
+            &Refusal::TooWideAnswer { weight: 65537 },
+        );
     }
     let page = first(&objects, DEFAULT_LIMIT);
     page_line(alloc, prims, dateline, line, name, page)

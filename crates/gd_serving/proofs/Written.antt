@@ -50,7 +50,7 @@ full_comes bytes_of may p line sid w moment bytes n done (Err e) is does long su
 full_comes bytes_of may p line sid w moment bytes n done (Ok reply) is does long sum over prints =
     let same = kept_is p line done.1 bytes n long sum in
     too_long sid w moment done is does (ap (nat_lt 134_217_728) same ∙ above 134_217_728 n over)
-        (prints ∙ ap (λ k. err_line (length p.batches) p.lines (change_refusal (full what.History k))) (sym same)) refl
+    (prints ∙ ap (λ k. err_line (length p.batches) p.lines (change_refusal (full what.History k))) (sym same)) refl
 
 -- a write that is stored
 pub stored_comes : (may : ℕ → Bool) (p : Progress) (line : List ℕ) (sid : ℕ) (w : WriteRequest) (moment bytes n : ℕ) (done : Batch × Json) (reply : List ℕ) (after : List Batch)
@@ -60,7 +60,7 @@ pub stored_comes : (may : ℕ → Bool) (p : Progress) (line : List ℕ) (sid : 
 stored_comes may p line sid w moment bytes n done reply after is does long sum under may_be prints longer =
     let same = kept_is p line done.1 bytes n long sum in
     stored sid w moment done is does (ap (nat_lt 134_217_728) same ∙ within 134_217_728 n under) may_be prints
-        (rw (longer, same) refl)
+    (rw (longer, same) refl)
 
 -- the same with the progress as its fields tell it
 pub refused_here : {V E : Type 0} (bytes_of : V → List ℕ) (may : ℕ → Bool) (s p : Progress) (line : List ℕ) (sid : ℕ) (w : WriteRequest) (moment : ℕ) (r : Result V E) (fault : Option ChangeFault)
@@ -69,7 +69,7 @@ pub refused_here : {V E : Type 0} (bytes_of : V → List ℕ) (may : ℕ → Boo
     → IfOk r (λ reply. ComesTo may p line (bytes_of reply) p)
 refused_here bytes_of may s p line sid w moment r fault same is does prints none =
     refused_comes bytes_of may p line sid w moment r fault is
-        (subst (λ (q : Progress). IfSome fault (λ f. exec_now q w moment ≡ Err f)) same does) prints none
+    (subst (λ (q : Progress). IfSome fault (λ f. exec_now q w moment ≡ Err f)) same does) prints none
 
 pub full_here : {V E : Type 0} (bytes_of : V → List ℕ) (may : ℕ → Bool) (s p : Progress) (line : List ℕ) (sid : ℕ) (w : WriteRequest) (moment bytes n : ℕ) (done : Batch × Json) (r : Result V E)
     → s ≡ p → line_now p line ≡ Ok (write sid w) → exec_now s w moment ≡ Ok done → length line ≡ bytes → n ≡ s.kept + bytes + length (compact done.1) → 134_217_728 < n
@@ -77,8 +77,8 @@ pub full_here : {V E : Type 0} (bytes_of : V → List ℕ) (may : ℕ → Bool) 
     → IfOk r (λ reply. ComesTo may p line (bytes_of reply) p)
 full_here bytes_of may s p line sid w moment bytes n done r same is does long sum over prints =
     full_comes bytes_of may p line sid w moment bytes n done r is
-        (subst (λ (q : Progress). exec_now q w moment ≡ Ok done) same does) long
-        (subst (λ (q : Progress). n ≡ q.kept + bytes + length (compact done.1)) same sum) over prints
+    (subst (λ (q : Progress). exec_now q w moment ≡ Ok done) same does) long
+    (subst (λ (q : Progress). n ≡ q.kept + bytes + length (compact done.1)) same sum) over prints
 
 pub stored_here : (may : ℕ → Bool) (s p : Progress) (line : List ℕ) (sid : ℕ) (w : WriteRequest) (moment bytes n : ℕ) (done : Batch × Json) (reply : List ℕ) (after : List Batch)
     → s ≡ p → line_now p line ≡ Ok (write sid w) → exec_now s w moment ≡ Ok done → length line ≡ bytes → n ≡ s.kept + bytes + length (compact done.1) → n ≤ 134_217_728
@@ -86,4 +86,4 @@ pub stored_here : (may : ℕ → Bool) (s p : Progress) (line : List ℕ) (sid :
     → ComesTo may p line reply (record { batches = after; lines = s.lines; kept = n })
 stored_here may s p line sid w moment bytes n done reply after same is does long sum under may_be prints longer =
     subst (λ (q : Progress). line_now q line ≡ Ok (write sid w) → ComesTo may q line reply (record { batches = after; lines = s.lines; kept = n })) same
-        (λ is. stored_comes may s line sid w moment bytes n done reply after is does long sum under may_be prints longer) is
+    (λ is. stored_comes may s line sid w moment bytes n done reply after is does long sum under may_be prints longer) is

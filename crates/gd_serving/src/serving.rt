@@ -157,7 +157,12 @@ impl Serving {
         let dateline = self.store.requests();
         match fault {
             ChangeFault::BadQuery { code, path } => {
-                err_line(alloc, dateline, self.lines, &Refusal::BadQuery { code, path })
+                err_line(
+                    alloc,
+                    dateline,
+                    self.lines,
+                    &Refusal::BadQuery { code, path },
+                )
             }
             ChangeFault::Full { what, count } => {
                 err_line(alloc, dateline, self.lines, &Refusal::Full { what, count })

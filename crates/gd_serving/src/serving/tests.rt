@@ -10,14 +10,20 @@ fn answers_lines(rt: HostRuntime) -> Result<(), Fail> {
     let alloc = rt.alloc();
     let mut clock = FixedClock::new(1_700_000_000_000);
     let mut serving = Serving::new(alloc)?;
-    let create = RoundLine::Bytes(b"{\"sid\":0,\"write\":{\"query\":{\"create\":\"unconditional\",\"guid\":null,\"name\":\"Ann\"}}}".to_vec(alloc)?);
+    let create = RoundLine::Bytes(
+        b"{\"sid\":0,\"write\":{\"query\":{\"create\":\"unconditional\",\"guid\":null,\"name\":\"Ann\"}}}".to_vec(
+            alloc,
+        )?,
+    );
     let reply = serving.reply(alloc, &mut clock, &create)?;
     assert_eq!(rt;
         reply.as_slice(),
         b"{\"code\":\"/api/status/ok\",\"dateline\":1,\"line\":0,\"result\":{\"create\":\"created\",\"guid\":\"#00000000000000010000000000000046\",\"name\":\"Ann\"}}".as_slice()
     );
     serving.next_line();
-    let read = RoundLine::Bytes(b"{\"sid\":0,\"read\":{\"query\":[{\"guid\":null,\"name\":\"Ann\"}]}}".to_vec(alloc)?);
+    let read = RoundLine::Bytes(
+        b"{\"sid\":0,\"read\":{\"query\":[{\"guid\":null,\"name\":\"Ann\"}]}}".to_vec(alloc)?,
+    );
     let reply = serving.reply(alloc, &mut clock, &read)?;
     assert_eq!(rt;
         reply.as_slice(),
