@@ -1,15 +1,16 @@
 -- Gathering the lines of a round.
-use Rattle.std.proofs.Common.{◌≡◌, ℕ, ◌+◌, ◌<◌, ◌≤◌, List, [], ◌∷◌, ◌++◌, length, map, Bool, true, false, not, Option, Some, None, refl, sym, ap, ◌∙◌, arith, append-nil, append_assoc, length-append, bytes_eq}
+use Rattle.std.proofs.Common.{◌≡◌, ℕ, zero, suc, ◌+◌, ◌<◌, List, [], ◌∷◌, ◌++◌, length, Bool, true, false, not, Option, Some, None, refl, sym, ap, ◌∙◌, arith, append_assoc, length-append, bytes_eq, subst}
 use Rattle.std.specs.Prelude.{if◌then◌else◌, ◌==◌}
 use Rattle.std.proofs.lemmas.Bool.Decides.{nat_tests}
 use Rattle.std.proofs.lemmas.List.{map-append}
-use Rattle.std.specs.Io.KnownBytes.{Consumes}
+use Rattle.std.specs.List.{All}
+use Rattle.std.proofs.lemmas.List.Elements.{All-append}
 use Rattle.std.proofs.KnownBytes.{Consumes-nil, Consumes-trans}
 use Rattle.gd_runs.specs.Explained.{Numbered, pieces, numbered}
 use Rattle.gd_input.specs.declared.line.RoundLine.{RoundLine}
 use Rattle.gd_input.specs.declared.piece.Piece.{Piece}
 use Rattle.gd_input.specs.declared.round.Round.{Round}
-use Rattle.gd_input.specs.Line.{IsKept}
+use Rattle.gd_input.specs.Line.{IsKept, IsShort}
 use Rattle.gd_input.specs.Pieces.{Known, Advances, TakesPiece, later_pieces}
 use Rattle.gd_input.specs.Rounds.{AreKept, in_round, TakesRound}
 
@@ -177,3 +178,11 @@ blank_ends a b c lines round piece blank g taken few tells none is ends =
 
 pub full : (a b : Option (List ℕ)) (lines : List RoundLine) (round : Round) → Known a b (Gathering lines) → length lines ≡ 256 → round.lines.items ≡ lines → round.ended ≡ false → Known a b (TakesRound round)
 full a b lines round g count is ends = weaken a b (Gathering lines) (TakesRound round) (λ x y h. full_round lines round x y h count is ends) g
+
+one_short : (l : RoundLine) → IsShort l → All IsShort (l ∷ [])
+one_short l short zero d within = short
+one_short l short (suc k) d within = absurd (omega (arith, within))
+
+-- the lines stay short
+pub one_more_short : (ls : List RoundLine) (l : RoundLine) (more : List RoundLine) → All IsShort ls → IsShort l → more ≡ ls ++ l ∷ [] → All IsShort more
+one_more_short ls l more all short is = subst (All IsShort) (sym is) (All-append IsShort ls (l ∷ []) all (one_short l short))

@@ -1,10 +1,8 @@
 -- The carriage return at the end of a piece of input.
-use Rattle.std.proofs.Common.{◌≡◌, ℕ, zero, suc, ◌+◌, ◌-◌, ◌<◌, ◌≤◌, List, [], ◌∷◌, length, take, Bool, true, false, Some, nat_eq, refl, sym, ap, ◌∙◌, arith}
+use Rattle.std.proofs.Common.{◌≡◌, ℕ, suc, ◌+◌, ◌-◌, ◌<◌, ◌≤◌, List, [], ◌∷◌, length, take, Bool, true, false, Some, nat_eq, refl, sym, ap, ◌∙◌, arith}
 use Rattle.std.specs.Prelude.{slice_get, if◌then◌else◌, ◌==◌}
 use Rattle.std.specs.Option.{option_eq}
 use Rattle.gd_runs.specs.Explained.{without_return}
-use Rattle.gd_input.specs.Line.{IsKept}
-use Rattle.gd_input.specs.declared.line.RoundLine.TheVariants.{TooLong}
 
 one_less : (n : ℕ) → suc n - 1 ≡ n
 one_less n = omega arith

@@ -2,7 +2,7 @@
 ghost use Rattle.std.specs.Prelude.{◌≡◌, ◌++◌, ◌-◌, ℕ, List, [], length, nat_eq, slice_get, Some, IfOk, bytes_eq, if◌then◌else◌};
 ghost use Rattle.std.specs.Option.{option_eq};
 ghost use Rattle.gd_runs.specs.Explained.{without_return as line_of};
-ghost use Rattle.gd_input.specs.Line.{IsKept};
+ghost use Rattle.gd_input.specs.Line.{IsKept, IsShort};
 
 use std::alloc::{AllocError, Global};
 
@@ -58,8 +58,9 @@ impl RoundLine {
 
     /// The line that ends here, by a newline or by the end of input. Before a newline a carriage return is dropped.
     pub fn ended(self, by_newline: bool) -> RoundLine
-        ensures { (begun : List ℕ) → IsKept PIECE_LIMIT self begun
+        ensures kept { (begun : List ℕ) → IsKept PIECE_LIMIT self begun
             → IsKept LINE_LIMIT result (if by_newline then line_of begun else begun) }
+        ensures short { IsShort result }
     {
         match self {
             RoundLine::Bytes(bytes) => within_limit(line_bytes(bytes, by_newline)),
@@ -86,7 +87,8 @@ fn line_bytes(mut piece: Vec<u8>, by_newline: bool) -> Vec<u8>
 
 /// The line of these bytes, as far as lines may be.
 fn within_limit(bytes: Vec<u8>) -> RoundLine
-    ensures { IsKept LINE_LIMIT result bytes.items }
+    ensures kept { IsKept LINE_LIMIT result bytes.items }
+    ensures short { IsShort result }
 {
     if bytes.len() > LINE_LIMIT {
         RoundLine::TooLong

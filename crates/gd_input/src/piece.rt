@@ -2,6 +2,7 @@
 ghost use Rattle.std.specs.Prelude.{◌≡◌, ◌≢◌, ◌<◌, ◌≤◌, ◌+◌, ◌^◌, ℕ, List, [], length, false, true, MatchOption, IfOk, IfSome, OnErr};
 ghost use Rattle.std.specs.Io.KnownBytes.{prepend_known, IsAtEnd};
 ghost use Rattle.gd_base.specs.Counts.{Rose};
+ghost use Rattle.gd_input.specs.Line.{IsShort};
 ghost use Rattle.gd_input.specs.Pieces.{IsPlain, IsFirstNewline};
 
 use crate::fault::InputFault;
@@ -63,6 +64,7 @@ impl Reader {
     pub fn read_line<S: Source>(&mut self, source: &mut S) -> Result<Piece, InputFault>
         ensures line { IfOk result (λ piece. Known (prepend_known self.old.bytes (S.left source.old))
             (prepend_known self.new.bytes (S.left source.new)) (TakesPiece piece)) }
+        ensures short { IfOk result (λ piece. IsShort piece.line) }
         ensures advances { Advances (prepend_known self.old.bytes (S.left source.old))
             (prepend_known self.new.bytes (S.left source.new)) self.old.consumed self.new.consumed }
         ensures bounded { IsBounded self.new }

@@ -1,7 +1,9 @@
 //! Rounds of the input.
 ghost use Rattle.std.specs.Prelude.{◌≡◌, ◌<◌, ◌≤◌, ◌^◌, [], IfOk, true, false, vec_len};
 ghost use Rattle.std.specs.Io.KnownBytes.{prepend_known, IsAtEnd};
+ghost use Rattle.std.specs.List.{All};
 ghost use Rattle.gd_base.specs.Counts.{Rose};
+ghost use Rattle.gd_input.specs.Line.{IsShort};
 
 use crate::fault::InputFault;
 use crate::line::RoundLine;
@@ -32,6 +34,7 @@ impl Reader {
         // What is left begins with the lines of this round, and goes on with the rounds of what is left now.
         ensures round { IfOk result (λ round. Known (prepend_known self.old.bytes (S.left source.old))
             (prepend_known self.new.bytes (S.left source.new)) (TakesRound round)) }
+        ensures short { IfOk result (λ round. All IsShort round.lines.items) }
         ensures few { IfOk result (λ round. vec_len round.lines ≤ ROUND_LIMIT) }
         ensures at_end { IfOk result (λ round. round.ended ≡ true
             → (self.new.bytes ≡ []) × IsAtEnd (S.left source.new)) }

@@ -18,6 +18,7 @@ refusal_of (refusal.BadQuery code path) = bad_query_refusal (code_view code) pat
 refusal_of (refusal.Full what count) = printed (codes "Full") ((codes "count", count_json count) ∷ (codes "what", text (what_text what)) ∷ [])
 refusal_of (refusal.TooWideAnswer weight) = too_wide weight
 refusal_of (refusal.ReplyTooLarge bytes) = too_large bytes
+refusal_of refusal.Memory = printed (codes "Memory") []
 
 -- a number that it tells is one of JSON
 abbrev pub CountsFit : Refusal → Type 0

@@ -89,11 +89,12 @@ pub fn err_line_plain(alloc: Global, line: u64, refusal: &Refusal) -> Result<Vec
     )
 }
 
-/// What is printed for line 0 where no memory was left, with its newline. It takes none itself.
-pub fn memory_line() -> &'static str
-    ensures { result.now ≡ explained.memory_line 0 ++ 10 ∷ [] }
+/// The reply line to a line for which no memory is found. It is made before it may be needed.
+pub fn memory_line(alloc: Global, line: u64) -> Result<Vec<u8>, Memory>
+    requires { line < 2 ^ 63 }
+    ensures { IfOk result (λ bytes. bytes.items ≡ explained.memory_line line) }
 {
-    "{\"code\":\"/api/status/error\",\"error\":\"Memory\",\"info\":{},\"line\":0}\n"
+    err_line_plain(alloc, line, &Refusal::Memory)
 }
 
 #[cfg(test)]

@@ -33,6 +33,8 @@ pub enum Refusal {
     TooWideAnswer { weight: u32 },
     /// The reply line would have so many bytes.
     ReplyTooLarge { bytes: u64 },
+    /// There was no memory for the request or its reply.
+    Memory,
 }
 
 fn json_name(fault: JsonFault) -> &'static str
@@ -59,6 +61,7 @@ pub fn error_name(refusal: &Refusal) -> &'static str
         Refusal::Full { .. } => "Full",
         Refusal::TooWideAnswer { .. } => "TooWideAnswer",
         Refusal::ReplyTooLarge { .. } => "ReplyTooLarge",
+        Refusal::Memory => "Memory",
     }
 }
 
@@ -134,7 +137,7 @@ pub fn info(alloc: Global, refusal: &Refusal) -> Result<Json, Memory>
     ensures { IfOk result (λ json. view json ≡ object (refusal_of refusal.now).info) }
 {
     match refusal {
-        Refusal::LineTooLong | Refusal::Json(_) | Refusal::BadLine => {
+        Refusal::LineTooLong | Refusal::Json(_) | Refusal::BadLine | Refusal::Memory => {
             Ok(Json::Object(Vec::new(alloc)))
         }
         Refusal::BadQuery { code, path } => query_info(alloc, *code, path),

@@ -1,5 +1,5 @@
 //! What a line of input comes to.
-ghost use Rattle.std.specs.Prelude.{◌≡◌, ◌≢◌, ◌≤◌, ◌<◌, ◌+◌, ◌^◌, ℕ, List, length, Ok, Err, IfOk, IfSome, IsErr, None, OnErr, min, []};
+ghost use Rattle.std.specs.Prelude.{◌≡◌, ◌≢◌, ◌≤◌, ◌<◌, ◌+◌, ◌++◌, ◌∷◌, ◌^◌, ℕ, Bool, List, length, Ok, Err, IfOk, IfSome, IsErr, None, OnErr, min, []};
 ghost use Rattle.gd_prim.specs.declared.What.TheVariants as what;
 ghost use Rattle.gd_tree.specs.Json.{compact};
 ghost use Rattle.gd_json.specs.View.{view};
@@ -8,12 +8,12 @@ ghost use Rattle.gd_defs.specs.Lines.{err_line as err_line_of};
 ghost use Rattle.gd_defs.specs.Write.{full};
 ghost use Rattle.gd_runs.specs.Request.{reply_of, change_refusal, write as a_write};
 ghost use Rattle.gd_runs.specs.Input.{input_fault_line, line_too_long};
-ghost use Rattle.gd_runs.specs.Explained.{MayBe};
+ghost use Rattle.gd_runs.specs.Explained.{MayBe, memory_line as memory_line_of};
 ghost use Rattle.gd_runs.specs.Built.{SaysName, name_request, create_request};
 ghost use Rattle.gd_mql.specs.Line.{fault_view};
 ghost use Rattle.gd_change.specs.Fault.{fault_of, IsSmall};
-ghost use Rattle.gd_input.specs.Line.{IsKept};
-ghost use Rattle.gd_serving.specs.Lines.{IsShort};
+ghost use Rattle.gd_input.specs.Line.{IsKept, IsShort};
+ghost use Rattle.gd_serving.specs.Served.{GoesOn, IsServed};
 ghost use Rattle.gd_serving.specs.Step.{ComesTo, line_now};
 
 use gd_base::memory::Memory;
@@ -28,7 +28,7 @@ use gd_mql::line::{Line, ReadRequest, WriteRequest, line_from};
 use gd_outside::clock::Clock;
 use gd_prim::{Batch, What};
 use gd_reply::by_name::reply_to_name;
-use gd_reply::lines::{err_line, err_line_plain, ok_line};
+use gd_reply::lines::{err_line, err_line_plain, memory_line, ok_line};
 use gd_reply::refusal::Refusal;
 use gd_store::store::Store;
 use std::alloc::Global;
@@ -74,13 +74,40 @@ fn moment<C: Clock>(clock: &mut C) -> u64
 impl Serving {
     /// A run that begins with the empty store.
     pub fn new(alloc: Global) -> Result<Serving, Memory>
-        ensures { IfOk result (λ s. s ≡ record { batches = []; lines = 0; kept = 0 }) }
+        ensures empty { IfOk result (λ s. s ≡ record { batches = []; lines = 0; kept = 0 }) }
+        ensures says { IfOk result (λ s. SaysName (prims_of s.batches)) }
+        ensures served { IfOk result (λ s. (may : ℕ → Bool) → IsServed may [] [] s) }
     {
         Ok(Serving {
             store: Store::new(alloc)?,
             lines: 0,
             kept: 0,
         })
+    }
+
+    /// Answers the next line, and goes on to the one after it: gives its reply, or, where no memory is found for that,
+    /// the reply line that says so, and then nothing was stored. `Memory`: none was found for that line either, and
+    /// nothing has changed.
+    pub fn answer<C: Clock>(
+        &mut self,
+        alloc: Global,
+        clock: &mut C,
+        line: &RoundLine,
+    ) -> Result<Vec<u8>, Memory>
+        requires lines { self.old.lines < 2 ^ 63 }
+        requires says { SaysName (prims_of self.old.batches) }
+        requires short { IsShort line.now }
+        ensures served { (bytes : List ℕ) → IsKept 262_144 line.now bytes
+            → IfOk result (λ reply. GoesOn (C.may clock.old) self.old self.new (bytes ∷ []) (reply.items ++ 10 ∷ [])) }
+        ensures next { IfOk result (λ _. self.new.lines ≡ self.old.lines + 1) }
+        ensures err { OnErr result (self.new ≡ self.old) }
+        ensures says { SaysName (prims_of self.new.batches) }
+        ensures same { C.may clock.new ≡ C.may clock.old }
+    {
+        let fallback = self.memory_reply(alloc)?;
+        let reply = self.reply(alloc, clock, line).unwrap_or(fallback);
+        self.next_line();
+        Ok(reply)
     }
 
     /// The reply to the next line: to one that is refused by its form, to a read at the dateline of the store, or to a
@@ -119,6 +146,14 @@ impl Serving {
         ensures { self.new ≡ record { batches = self.old.batches; lines = self.old.lines + 1; kept = self.old.kept } }
     {
         self.lines += 1;
+    }
+
+    /// The reply to a line for which no memory is found.
+    fn memory_reply(&self, alloc: Global) -> Result<Vec<u8>, Memory>
+        requires { self.now.lines < 2 ^ 63 }
+        ensures { IfOk result (λ reply. reply.items ≡ memory_line_of self.now.lines) }
+    {
+        memory_line(alloc, self.lines)
     }
 
     /// The reply to a line that has too many bytes.

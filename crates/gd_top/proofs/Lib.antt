@@ -1,1 +1,3 @@
-pub mod Requests
+pub mod Printed
+pub mod Served
+pub mod Known

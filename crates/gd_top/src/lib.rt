@@ -1,8 +1,9 @@
 //! The program as a function of its words, its input and its output.
 #![tactic(auto)]
 
-pub mod line;
+pub mod printing;
+pub mod rounds;
 pub mod serve;
 pub mod status;
-pub mod streams;
+pub mod stop;
 pub mod words;

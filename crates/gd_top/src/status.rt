@@ -1,4 +1,8 @@
 //! How a run ends.
+ghost use Rattle.std.specs.Prelude.{◌≡◌};
+ghost use Rattle.gd_top.specs.Stops.{status_of};
+
+use crate::stop::Stop;
 
 /// How a run ended.
 #[derive(Clone, Copy, Debug, PartialEq, Eq)]
@@ -7,17 +11,30 @@ pub enum Status {
     Done,
     /// The words are not in the grammar. Nothing was read or printed.
     Usage,
-    /// The source failed. Nothing was printed.
+    /// The source failed. The lines of whole rounds before that were answered, and no other.
     ReadFault,
     /// The sink failed. What was printed is a front of what was due.
     SinkFault,
-    /// There was no memory to read the input. Nothing was printed.
+    /// There was no memory to read a round, or even for the reply that says so. What was printed is a front of what
+    /// was due.
     Memory,
-    /// 2^40 bytes of input were taken. Nothing was printed.
+    /// 2^40 bytes of input were taken. The lines of whole rounds before that were answered, and no other.
     TooMuch,
 }
 
 impl Status {
+    /// The status of a run that stopped before the end of its input.
+    pub fn of_stop(stop: Stop) -> Status
+        ensures { result ≡ status_of stop }
+    {
+        match stop {
+            Stop::ReadFault => Status::ReadFault,
+            Stop::SinkFault => Status::SinkFault,
+            Stop::Memory => Status::Memory,
+            Stop::TooMuch => Status::TooMuch,
+        }
+    }
+
     /// The exit status of the program.
     pub fn code(self) -> u8 {
         match self {

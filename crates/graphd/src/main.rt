@@ -1,14 +1,16 @@
-//! The program: the words of the command line, standard input and standard output.
+//! The program: the words of the command line, standard input and output, and the clock of the system.
 #![tactic(auto)]
 
 use gd_base::memory::Memory;
 use gd_base::text::{Text, TextFault};
+use gd_outside::clock::StdClock;
 use gd_outside::stream::{StdSink, StdSource};
 use gd_top::serve::graphd;
 use gd_top::status::Status;
 use std::alloc::Global;
 use std::process::ExitCode;
 use std::rt::Env;
+use std::time::Clock;
 use std::{env, io};
 
 /// A word as a text. One that is no text is handed in as the empty text, which is no word of the grammar.
@@ -31,12 +33,18 @@ fn words(rt: &(impl Env + AllocGlobal)) -> Result<Vec<Text>, Status> {
     Ok(words)
 }
 
-fn run(rt: &(impl Env + Input + Print + AllocGlobal)) -> Status {
+fn run(rt: &(impl Env + Input + Print + Clock + AllocGlobal)) -> Status {
     match words(rt) {
         Ok(words) => {
             let mut source = StdSource::new(rt.reader());
             let mut sink = StdSink::new(io::writer(rt));
-            graphd(rt.alloc(), &words, &mut source, &mut sink)
+            graphd(
+                rt.alloc(),
+                &words,
+                &mut source,
+                &mut sink,
+                StdClock::new(rt),
+            )
         }
         Err(status) => status,
     }

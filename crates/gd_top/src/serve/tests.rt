@@ -1,6 +1,8 @@
 ghost use Rattle.std.specs.Prelude.{None};
 
 use super::*;
+use gd_outside::Failed;
+use gd_outside::clock::FixedClock;
 use gd_outside::memory::{MemorySink, MemorySource};
 use std::test::Fail;
 
@@ -37,6 +39,28 @@ impl Sink for SlowSink {
     }
 }
 
+/// A source that gives one byte per call and tells nothing of them to proofs.
+#[derive(Drop)]
+struct SlowSource {
+    bytes: Vec<u8>,
+    taken: usize,
+}
+
+impl Source for SlowSource {
+    ghost left = { λ _. None };
+
+    ghost faults = { λ _. 0 };
+
+    fn read(&mut self, buf: &mut [u8]) -> Result<usize, Failed> {
+        if buf.is_empty() || self.taken >= self.bytes.len() {
+            return Ok(0);
+        }
+        buf[0] = self.bytes[self.taken];
+        self.taken += 1;
+        Ok(1)
+    }
+}
+
 #[derive(Drop)]
 struct Ended {
     status: Status,
@@ -51,18 +75,19 @@ fn texts(alloc: Global, words: &[&str]) -> Result<Vec<Text>, Fail> {
     Ok(texts)
 }
 
-/// A run whose reads and writes of these numbers fail.
+/// A run whose reads and writes of these numbers fail. The clock stands still.
 fn run(
     alloc: Global,
     words: &[&str],
-    input: &str,
+    input: &[u8],
     reads: &[u64],
     writes: &[u64],
 ) -> Result<Ended, Fail> {
     let words = texts(alloc, words)?;
-    let mut source = MemorySource::new(alloc, input.as_bytes(), reads)?;
+    let mut source = MemorySource::new(alloc, input, reads)?;
     let mut sink = MemorySink::new(alloc, writes)?;
-    let status = graphd(alloc, &words, &mut source, &mut sink);
+    let clock = FixedClock::new(1_700_000_000_000);
+    let status = graphd(alloc, &words, &mut source, &mut sink, clock);
     let output = sink.bytes().to_vec(alloc)?;
     Ok(Ended { status, output })
 }
@@ -70,55 +95,99 @@ fn run(
 /// Each input with what it is to print.
 #[test]
 fn prints_replies(rt: HostRuntime) -> Result<(), Fail> {
-    let unbuilt =
-        "{\"code\":\"/api/status/error\",\"error\":\"BadQuery\",\"info\":{\"code\":\"unbuilt\",\"path\":[]},\"line\":0}\n";
-    let float =
-        "{\"code\":\"/api/status/error\",\"error\":\"FloatValue\",\"info\":{},\"line\":0}\n";
-    let bad = "{\"code\":\"/api/status/error\",\"error\":\"BadJson\",\"info\":{},\"line\":0}\n";
-    let types =
-        "{\"code\":\"/api/status/ok\",\"dateline\":0,\"line\":0,\"result\":[{\"guid\":\"#00000000000000010000000000000001\",\"name\":\"Type\"},{\"guid\":\"#00000000000000010000000000000005\",\"name\":\"Type\"}]}\n";
-    let nobody = "{\"code\":\"/api/status/ok\",\"dateline\":0,\"line\":0,\"result\":[]}\n";
     let rows = [
         ("", ""),
-        ("\n", ""),
-        ("\r\n", ""),
+        ("\n\r\n\n", ""),
         (READ, REPLY),
         (
-            "{\"read\":{\"query\":[{\"name\":\"English\",\"guid\":null}]},\"sid\":0}\r\n",
+            "{\"read\":{\"query\":[{\"name\":\"English\",\"guid\":null}]},\"sid\":63}\r\n",
             REPLY,
         ),
         (
-            "{\"sid\":0,\"read\":{\"query\":[{\"guid\":null,\"name\":\"Type\"}]}}",
-            types,
-        ),
-        (
             "{\"sid\":0,\"read\":{\"query\":[{\"guid\":null,\"name\":\"Nobody\"}]}}",
-            nobody,
-        ),
-        ("{\"sid\":0,\"read\":{\"query\":{\"guid\":null}}}", unbuilt),
-        (
-            "{\"sid\":1,\"read\":{\"query\":[{\"guid\":null,\"name\":\"Type\"}]}}",
-            unbuilt,
-        ),
-        ("{}\n{}", unbuilt),
-        ("{", bad),
-        ("\r", bad),
-        ("{\"sid\":0,\"read\":{\"query\":[{\"age\":1.5}]}}", float),
-        (
-            "{\"sid\":0,\"read\":{\"query\":[{\"age\":18446744073709551616}]}}",
-            float,
+            "{\"code\":\"/api/status/ok\",\"dateline\":0,\"line\":0,\"result\":[]}\n",
         ),
         (
-            "{\"sid\":0,\"read\":{\"query\":[{\"age\":9223372036854775808}]}}",
-            float,
+            "{\"sid\":0,\"read\":{\"query\":{\"guid\":null}}}",
+            "{\"code\":\"/api/status/error\",\"error\":\"BadQuery\",\"info\":{\"code\":\"unbuilt\",\"path\":[]},\"line\":0}\n",
         ),
-        ("{\"sid\":0,\"read\":{\"query\":[{\"age\":1e2}]}}", float),
+        (
+            "{\n\n{\"sid\":64,\"read\":{\"query\":[{}]}}\n\r",
+            "{\"code\":\"/api/status/error\",\"error\":\"BadJson\",\"info\":{},\"line\":0}\n{\"code\":\"/api/status/error\",\"error\":\"BadLine\",\"info\":{},\"line\":1}\n{\"code\":\"/api/status/error\",\"error\":\"BadJson\",\"info\":{},\"line\":2}\n",
+        ),
     ];
     for (input, want) in rows {
-        let ended = run(rt.alloc(), &["serve"], input, &[], &[])?;
+        let ended = run(rt.alloc(), &["serve"], input.as_bytes(), &[], &[])?;
         assert_eq!(rt; ended.status, Status::Done, "{input}");
         assert_eq!(rt; ended.output.as_slice(), want.as_bytes(), "{input}");
     }
+    Ok(())
+}
+
+/// What was created is read in the same round and in later ones, at the number of creates before it.
+#[test]
+fn creates_and_reads(rt: HostRuntime) -> Result<(), Fail> {
+    let create =
+        "{\"sid\":0,\"write\":{\"query\":{\"create\":\"unconditional\",\"guid\":null,\"name\":\"Ann\"}}}";
+    let plain = "{\"sid\":9,\"write\":{\"query\":{\"create\":\"unconditional\",\"name\":\"Ann\"}}}";
+    let read = "{\"sid\":0,\"read\":{\"query\":[{\"guid\":null,\"name\":\"Ann\"}]}}";
+    let input = format!(in rt.alloc(); "{create}\n{read}\n\n\n{plain}\n\n{read}\n")?;
+    let want =
+        "{\"code\":\"/api/status/ok\",\"dateline\":1,\"line\":0,\"result\":{\"create\":\"created\",\"guid\":\"#00000000000000010000000000000046\",\"name\":\"Ann\"}}\n{\"code\":\"/api/status/ok\",\"dateline\":1,\"line\":1,\"result\":[{\"guid\":\"#00000000000000010000000000000046\",\"name\":\"Ann\"}]}\n{\"code\":\"/api/status/ok\",\"dateline\":2,\"line\":2,\"result\":{\"create\":\"created\",\"name\":\"Ann\"}}\n{\"code\":\"/api/status/ok\",\"dateline\":2,\"line\":3,\"result\":[{\"guid\":\"#00000000000000010000000000000046\",\"name\":\"Ann\"},{\"guid\":\"#00000000000000010000000000000048\",\"name\":\"Ann\"}]}\n";
+    let ended = run(rt.alloc(), &["serve"], input.as_bytes(), &[], &[])?;
+    assert_eq!(rt; ended.status, Status::Done);
+    assert_eq!(rt; ended.output.as_slice(), want.as_bytes());
+    let again = run(rt.alloc(), &["serve"], input.as_bytes(), &[], &[])?;
+    assert_eq!(rt;
+        again.output.as_slice(),
+        want.as_bytes(),
+        "the same input again"
+    );
+    Ok(())
+}
+
+/// A line that is too long is dropped, and the lines round it are answered as ever.
+#[test]
+fn drops_a_line_that_is_too_long(rt: HostRuntime) -> Result<(), Fail> {
+    let alloc = rt.alloc();
+    let mut input = String::from_str(alloc, READ)?;
+    for _ in 0..262_145 {
+        input.push('a')?;
+    }
+    input.push_str("\n{")?;
+    let want = format!(in alloc;
+        "{REPLY}{{\"code\":\"/api/status/error\",\"error\":\"LineTooLong\",\"info\":{{}},\"line\":1}}\n{{\"code\":\"/api/status/error\",\"error\":\"BadJson\",\"info\":{{}},\"line\":2}}\n"
+    )?;
+    let ended = run(alloc, &["serve"], input.as_bytes(), &[], &[])?;
+    assert_eq!(rt; ended.status, Status::Done);
+    assert_eq!(rt; ended.output.as_slice(), want.as_bytes());
+    Ok(())
+}
+
+/// A hundred objects whose name prints as 24,576 bytes each are too much for one reply.
+#[test]
+fn refuses_a_reply_that_is_too_large(rt: HostRuntime) -> Result<(), Fail> {
+    let alloc = rt.alloc();
+    let mut name = String::new(alloc);
+    for _ in 0..4_096 {
+        name.push_str("\\u0001")?;
+    }
+    let mut input = String::new(alloc);
+    for _ in 0..100 {
+        input.push_str(
+            "{\"sid\":0,\"write\":{\"query\":{\"create\":\"unconditional\",\"name\":\"",
+        )?;
+        input.push_str(&name)?;
+        input.push_str("\"}}}\n")?;
+    }
+    input.push_str("{\"sid\":0,\"read\":{\"query\":[{\"guid\":null,\"name\":\"")?;
+    input.push_str(&name)?;
+    input.push_str("\"}]}}\n")?;
+    let ended = run(alloc, &["serve"], input.as_bytes(), &[], &[])?;
+    assert_eq!(rt; ended.status, Status::Done);
+    let want =
+        "\n{\"code\":\"/api/status/error\",\"dateline\":100,\"error\":\"ReplyTooLarge\",\"info\":{\"bytes\":2463162},\"line\":100}\n";
+    assert!(rt; ended.output.as_slice().ends_with(want.as_bytes()));
     Ok(())
 }
 
@@ -126,33 +195,49 @@ fn prints_replies(rt: HostRuntime) -> Result<(), Fail> {
 #[test]
 fn ends_with_its_status(rt: HostRuntime) -> Result<(), Fail> {
     let serve = ["serve"];
-    let none = run(rt.alloc(), &[], READ, &[], &[])?;
+    let read = READ.as_bytes();
+    let none = run(rt.alloc(), &[], read, &[], &[])?;
     assert_eq!(rt; none.status, Status::Usage);
-    let extra = run(rt.alloc(), &["serve", "extra"], READ, &[], &[])?;
+    let extra = run(rt.alloc(), &["serve", "extra"], read, &[], &[])?;
     assert_eq!(rt; extra.status, Status::Usage);
-    let unread = run(rt.alloc(), &serve, READ, &[0], &[])?;
+    let unread = run(rt.alloc(), &serve, read, &[0], &[])?;
     assert_eq!(rt; unread.status, Status::ReadFault);
     assert_eq!(rt; unread.output.len(), 0);
-    let later = run(rt.alloc(), &serve, READ, &[1], &[])?;
+    let later = run(rt.alloc(), &serve, read, &[1], &[])?;
     assert_eq!(rt; later.status, Status::ReadFault);
-    let unwritten = run(rt.alloc(), &serve, READ, &[], &[0])?;
+    assert_eq!(rt; later.output.len(), 0);
+    let rounds = format!(in rt.alloc(); "{READ}\n{READ}")?;
+    let halfway = run(rt.alloc(), &serve, rounds.as_bytes(), &[1], &[])?;
+    assert_eq!(rt; halfway.status, Status::ReadFault);
+    assert_eq!(rt; halfway.output.as_slice(), REPLY.as_bytes());
+    let unwritten = run(rt.alloc(), &serve, read, &[], &[0])?;
     assert_eq!(rt; unwritten.status, Status::SinkFault);
     assert_eq!(rt; unwritten.output.len(), 0);
-    let unflushed = run(rt.alloc(), &serve, READ, &[], &[1])?;
+    let unflushed = run(rt.alloc(), &serve, read, &[], &[2])?;
     assert_eq!(rt; unflushed.status, Status::SinkFault);
     assert_eq!(rt; unflushed.output.as_slice(), REPLY.as_bytes());
     Ok(())
 }
 
+/// One byte per read and one per write.
 #[test]
-fn prints_to_a_sink_that_takes_one_byte_per_call(rt: HostRuntime) -> Result<(), Fail> {
+fn reads_and_prints_byte_by_byte(rt: HostRuntime) -> Result<(), Fail> {
     let words = texts(rt.alloc(), &["serve"])?;
-    let mut source = MemorySource::new(rt.alloc(), READ.as_bytes(), &[])?;
+    let mut source = SlowSource {
+        bytes: READ.as_bytes().to_vec(rt.alloc())?,
+        taken: 0,
+    };
     let mut sink = SlowSink {
         bytes: Vec::new(rt.alloc()),
         faults: 0,
     };
-    let status = graphd(rt.alloc(), &words, &mut source, &mut sink);
+    let status = graphd(
+        rt.alloc(),
+        &words,
+        &mut source,
+        &mut sink,
+        FixedClock::new(0),
+    );
     assert_eq!(rt; status, Status::Done);
     assert_eq!(rt; sink.bytes.as_slice(), REPLY.as_bytes());
     Ok(())

@@ -1,6 +1,6 @@
-use Rattle.std.proofs.Common.{◌≤◌, arith}
+use Rattle.std.proofs.Common.{arith}
 use Rattle.std.specs.Io.KnownBytes.{prepend_known}
-use Rattle.gd_input.proofs.Reading.{Reading, filled, longer, by_newline, advanced_past, at_end}
+use Rattle.gd_input.proofs.Reading.{filled, longer, by_newline, advanced_past, at_end}
 use Rattle.gd_input.proofs.reader.Reader.read_line.Goals as goal
 
 pub returns-then-not-branch-clause-line : goal.returns-then-not-branch-clause-line
@@ -11,7 +11,7 @@ returns-then-not-branch-clause-line g c =
     let source = g.S.Source.left c.fill.new.source in
     let end = c.in_ok-fill.ensures.at_end c.if-not-branch.true in
     let reading = filled start now (prepend_known held.bytes source) c.args.self.now.consumed c.loop-line.self.consumed held.consumed c.loop-line.line c.loop-line.invariant.reading c.fill.ensures.kept c.fill.ensures.same in
-    at_end start source held.bytes c.args.self.now.consumed held.consumed c.loop-line.line c.ended.result reading end.0 end.1 c.ended.ensures
+    at_end start source held.bytes c.args.self.now.consumed held.consumed c.loop-line.line c.ended.result reading end.0 end.1 c.ended.ensures.kept
 
 pub returns-then-piece-clause-line : goal.returns-then-piece-clause-line
 returns-then-piece-clause-line g c =
@@ -21,7 +21,7 @@ returns-then-piece-clause-line g c =
     let source = g.S.Source.left c.fill.new.source in
     let m = c.args.self.now.consumed in
     let reading = filled start now (prepend_known held.bytes source) m c.loop-line.self.consumed held.consumed c.loop-line.line c.loop-line.invariant.reading c.fill.ensures.kept c.fill.ensures.same in
-    by_newline start source held c.take_chunk.new.self m c.loop-line.line c.in_ok-piece.piece c.ended-then-piece.result reading c.in_ok-piece.ensures.chunk c.if-piece.true c.ended-then-piece.ensures
+    by_newline start source held c.take_chunk.new.self m c.loop-line.line c.in_ok-piece.piece c.ended-then-piece.result reading c.in_ok-piece.ensures.chunk c.if-piece.true c.ended-then-piece.ensures.kept
 
 pub returns-then-piece-clause-advances : goal.returns-then-piece-clause-advances
 returns-then-piece-clause-advances g c =

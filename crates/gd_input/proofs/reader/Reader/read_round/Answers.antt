@@ -1,6 +1,5 @@
-use Rattle.std.proofs.Common.{◌≡◌, ◌<◌, ◌≤◌, length, vec_len, refl, arith}
-use Rattle.std.specs.Io.KnownBytes.{prepend_known}
-use Rattle.gd_input.proofs.Gathering.{advances_on, blank_ends, last, pushed, full}
+use Rattle.std.proofs.Common.{◌≡◌, ◌<◌, length, refl, arith}
+use Rattle.gd_input.proofs.Gathering.{advances_on, blank_ends, last, pushed, full, one_more_short}
 use Rattle.gd_input.proofs.reader.Reader.read_round.Goals as goal
 
 pub returns-in_err-line-clause-advances : goal.returns-in_err-line-clause-advances
@@ -31,6 +30,7 @@ loop-self-preserved g c =
     record {
       gathering = rw c.in_ok-push.ensures.items (pushed _ _ _ c.loop-self.lines.items c.in_ok-line.field-0 c.is_blank.result c.loop-self.invariant.gathering c.in_ok-line.ensures.line few c.is_blank.ensures c.if-is_blank.false c.if-not-by_newline.false);
       advances = advances_on _ _ _ _ _ _ c.loop-self.invariant.advances c.read_line.ensures.advances;
+      short = one_more_short c.loop-self.lines.items c.in_ok-line.field-0.line _ c.loop-self.invariant.short c.in_ok-line.ensures.short c.in_ok-push.ensures.items;
       few = omega (arith, c.in_ok-push.ensures.len);
       forward = omega (arith, c.in_ok-push.ensures.len, c.loop-self.invariant.forward, c.in_ok-line.ensures.forward c.if-not-by_newline.false);
       bounded = c.read_line.ensures.bounded;

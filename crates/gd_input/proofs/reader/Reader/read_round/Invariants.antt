@@ -1,5 +1,7 @@
 use Rattle.std.proofs.Common.{◌+◌, ◌-◌, ◌≤◌, vec_len}
 use Rattle.std.specs.Io.KnownBytes.{prepend_known}
+use Rattle.std.specs.List.{All}
+use Rattle.gd_input.specs.Line.{IsShort}
 use Rattle.gd_input.specs.Held.{IsBounded}
 use Rattle.gd_input.specs.Pieces.{Known, Advances}
 use Rattle.gd_input.proofs.Gathering.{Gathering}
@@ -9,6 +11,7 @@ abbrev pub invariant-loop-self : goal.invariant-loop-self
 invariant-loop-self g l = record {
   gathering : Known (prepend_known l.fn.self.bytes (g.S.Source.left l.fn.source)) (prepend_known l.self.bytes (g.S.Source.left l.source)) (Gathering l.lines.items);
   advances : Advances (prepend_known l.fn.self.bytes (g.S.Source.left l.fn.source)) (prepend_known l.self.bytes (g.S.Source.left l.source)) l.fn.self.consumed l.self.consumed;
+  short : All IsShort l.lines.items;
   few : vec_len l.lines ≤ 256;
   forward : l.fn.self.consumed + vec_len l.lines ≤ l.self.consumed;
   bounded : IsBounded l.self;

@@ -1,0 +1,49 @@
+//! Why a run stops before the end of its input.
+ghost use Rattle.std.specs.Prelude.{◌≡◌};
+ghost use Rattle.gd_top.specs.Stops.{stop_of};
+ghost use Rattle.gd_top.specs.declared.stop.Stop.TheVariants.{SinkFault as sink_failed, Memory as no_memory};
+
+use gd_base::memory::Memory;
+use gd_input::fault::InputFault;
+use gd_outside::Failed;
+
+/// Why a run stopped before the end of its input.
+#[derive(Clone, Copy, Debug, PartialEq, Eq)]
+pub enum Stop {
+    /// The source failed.
+    ReadFault,
+    /// The sink failed.
+    SinkFault,
+    /// An allocation was refused, so that a round could not be read, or a line not be answered at all.
+    Memory,
+    /// 2^40 bytes of the input were taken, and it had not ended.
+    TooMuch,
+}
+
+impl From<InputFault> for Stop {
+    ghost from_gives = { λ fault stop. stop ≡ stop_of fault };
+
+    fn from(fault: InputFault) -> Stop {
+        match fault {
+            InputFault::Failed => Stop::ReadFault,
+            InputFault::TooMuch => Stop::TooMuch,
+            InputFault::Memory => Stop::Memory,
+        }
+    }
+}
+
+impl From<Failed> for Stop {
+    ghost from_gives = { λ _ stop. stop ≡ sink_failed };
+
+    fn from(_failed: Failed) -> Stop {
+        Stop::SinkFault
+    }
+}
+
+impl From<Memory> for Stop {
+    ghost from_gives = { λ _ stop. stop ≡ no_memory };
+
+    fn from(_refused: Memory) -> Stop {
+        Stop::Memory
+    }
+}
