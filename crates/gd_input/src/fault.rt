@@ -4,15 +4,19 @@ ghost use Rattle.gd_input.specs.declared.fault.InputFault.TheVariants.{Failed as
 
 use gd_outside::Failed;
 use std::alloc::{AllocError, AllocFailed};
+use thiserror::Error;
 
 /// Why a round was not read.
-#[derive(Clone, Copy, Debug, PartialEq, Eq)]
+#[derive(Clone, Copy, Debug, PartialEq, Eq, Error)]
 pub enum InputFault {
     /// The source failed.
+    #[error("the input failed")]
     Failed,
     /// 2^40 bytes of the input were taken, and it had not ended.
+    #[error("too much input")]
     TooMuch,
     /// An allocation was refused.
+    #[error("out of memory")]
     Memory,
 }
 

@@ -8,13 +8,16 @@ use gd_json::from::JsonFault;
 use gd_json::value::JsonText;
 use std::alloc::Global;
 use std::marker::Model;
+use thiserror::Error;
 
 /// What is wrong with the form of a query.
-#[derive(Clone, Copy, Debug, PartialEq, Eq)]
+#[derive(Clone, Copy, Debug, PartialEq, Eq, Error)]
 pub enum Code {
     /// The form is not built.
+    #[error("the form is not built")]
     Unbuilt,
     /// A literal is no value of its property.
+    #[error("the literal is no value of its property")]
     BadValue,
 }
 
@@ -75,15 +78,19 @@ impl Path {
 }
 
 /// Why the bytes of a line ask nothing.
-#[derive(Debug, PartialEq, Eq, Drop)]
+#[derive(Debug, PartialEq, Eq, Drop, Error)]
 pub enum LineFault {
     /// They are no JSON of this profile.
+    #[error("the line is no JSON of this profile: {0:?}")]
     Json(JsonFault),
     /// They are no object of just `sid`, a number from 0 to 63, and one of `read` and `write`.
+    #[error("the line is no object of a session and one request")]
     BadLine,
     /// The query has not the form that it should, at this place.
+    #[error("the query is refused at {path:?}: {code}")]
     BadQuery { code: Code, path: Path },
     /// An allocation was refused.
+    #[error("out of memory")]
     Memory,
 }
 

@@ -5,6 +5,5 @@ pub mod fault;
 pub mod forms;
 pub mod line;
 pub mod parts;
-pub mod request;
 #[cfg(test)]
 mod tests;

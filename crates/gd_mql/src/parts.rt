@@ -8,9 +8,6 @@ ghost use Rattle.gd_runs.specs.Built as form;
 
 use gd_json::value::{Json, JsonText};
 
-/// The greatest number of bytes of a name.
-const NAME_LIMIT: usize = 4096;
-
 /// The values of an object's only two members, which have these names in byte order.
 pub fn pair<'a>(value: &'a Json, first: &str, second: &str) -> Option<(&'a Json, &'a Json)>
     ensures { option_map (λ parts. (view parts.0.now, view parts.1.now)) result
@@ -78,13 +75,6 @@ pub fn sole_item(value: &Json) -> Option<&Json>
     }
 }
 
-/// Whether the value is the number 0.
-pub fn is_zero(value: &Json) -> bool
-    ensures { result ≡ form.is_zero (view value.now) }
-{
-    value.as_int() == Some(0)
-}
-
 /// Whether the value is this text.
 pub fn is_the_text(value: &Json, text: &str) -> bool
     ensures { result ≡ form.is_the_text text.now (view value.now) }
@@ -109,17 +99,5 @@ pub fn has_only(value: &Json, first: &str, second: &str) -> bool
     match value.as_object() {
         Some(members) => all_named(members, first, second),
         None => false,
-    }
-}
-
-/// A text of at most `NAME_LIMIT` bytes.
-pub fn short_text(value: &Json) -> Option<&JsonText>
-    ensures { option_map (λ text. text.now) result ≡ form.short_text (view value.now) }
-{
-    let text = value.as_text()?;
-    if text.as_str().len() <= NAME_LIMIT {
-        Some(text)
-    } else {
-        None
     }
 }

@@ -168,3 +168,35 @@ fn names_may_be_long(rt: HostRuntime) -> Result<(), Fail> {
     );
     Ok(())
 }
+
+#[test]
+fn prints(rt: HostRuntime) -> Result<(), Fail> {
+    let alloc = rt.alloc();
+    let refused = LineFault::BadQuery {
+        code: Code::BadValue,
+        path: Path::root(alloc),
+    };
+    let rows = [
+        (
+            LineFault::Json(JsonFault::TooDeep),
+            "the line is no JSON of this profile: TooDeep",
+        ),
+        (
+            LineFault::BadLine,
+            "the line is no object of a session and one request",
+        ),
+        (
+            unbuilt(alloc),
+            "the query is refused at Path { names: [] }: the form is not built",
+        ),
+        (
+            refused,
+            "the query is refused at Path { names: [] }: the literal is no value of its property",
+        ),
+        (LineFault::Memory, "out of memory"),
+    ];
+    for (fault, text) in rows {
+        assert_eq!(rt; format!(in alloc; "{fault}")?.as_str(), text);
+    }
+    Ok(())
+}

@@ -1,12 +1,11 @@
 -- Which lines are built so far. Every other line that is JSON of this profile is refused as not built; the file goes once all are.
-use Rattle.std.specs.Prelude.{◌≡◌, ℕ, List, Bool, true, false, ◌&&◌, length, nat_le, Option, Some, None, bytes_eq, ◌==◌, if◌then◌else◌, codes, pos, not, ◌||◌, is_some, nat_eq, [], Result}
-use Rattle.std.specs.Ordering.{int_eq}
+use Rattle.std.specs.Prelude.{◌≡◌, ℕ, List, Bool, true, false, ◌&&◌, Option, Some, None, bytes_eq, ◌==◌, if◌then◌else◌, codes, not, ◌||◌, is_some, nat_eq, [], Result}
 use Rattle.std.specs.Option.{option_eq}
 use Rattle.gd_grammar.specs.Maybe.{◌>>=◌}
 use Rattle.gd_prim.specs.declared.Primitive.{Primitive}
 use Rattle.gd_prim.specs.Builtin.{name_place, text_place}
 use Rattle.gd_tree.specs.Json.{Json, text}
-use Rattle.gd_tree.specs.Look.{member_count, nth_member_of, item_count, item_of, text_of, int_of, is_null}
+use Rattle.gd_tree.specs.Look.{member_count, nth_member_of, item_count, item_of, text_of, is_null}
 use Rattle.gd_defs.specs.Query as query
 use Rattle.gd_defs.specs.Query.{Query, Name, no_directives}
 use Rattle.gd_defs.specs.Property.{Property, property_object, stated}
@@ -33,21 +32,6 @@ sole_member k j = if member_count j == 1 then (nth_member_of 0 j >>= λ a. if by
 -- the only item of a list
 abbrev pub sole_item : Json → Option Json
 sole_item j = if item_count j == 1 then item_of 0 j else None
-
--- the number 0
-abbrev pub is_zero : Json → Bool
-is_zero j = option_eq int_eq (int_of j) (Some (pos 0))
-
--- a text of at most 4,096 bytes
-abbrev pub short_text : Json → Option (List ℕ)
-short_text j = text_of j >>= λ t. if nat_le (length t) 4096 then Some t else None
-
--- the name, where the line asks in session 0 for the objects of a name and their guids: {"read":{"query":[{"guid":null,"name":NAME}]},"sid":0}
-unfoldable pub name_asked : Json → Option (List ℕ)
-name_asked j = pair_of (codes "read") (codes "sid") j >>= λ line.
-    if is_zero line.1 then (sole_member (codes "query") line.0 >>= λ query. sole_item query >>= λ clause.
-    pair_of (codes "guid") (codes "name") clause >>= λ members.
-    if is_null members.0 then short_text members.1 else None) else None
 
 -- a member's name that is this word
 abbrev pub plain_name : List ℕ → Name

@@ -14,4 +14,3 @@ pub mod Work
 pub mod Pace
 pub mod Side
 pub mod Built
-pub mod OneLine

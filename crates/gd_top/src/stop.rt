@@ -6,17 +6,22 @@ ghost use Rattle.gd_top.specs.declared.stop.Stop.TheVariants.{SinkFault as sink_
 use gd_base::memory::Memory;
 use gd_input::fault::InputFault;
 use gd_outside::Failed;
+use thiserror::Error;
 
 /// Why a run stopped before the end of its input.
-#[derive(Clone, Copy, Debug, PartialEq, Eq)]
+#[derive(Clone, Copy, Debug, PartialEq, Eq, Error)]
 pub enum Stop {
     /// The source failed.
+    #[error("the input failed")]
     ReadFault,
     /// The sink failed.
+    #[error("the output failed")]
     SinkFault,
     /// An allocation was refused, so that a round could not be read, or a line not be answered at all.
+    #[error("out of memory")]
     Memory,
     /// 2^40 bytes of the input were taken, and it had not ended.
+    #[error("too much input")]
     TooMuch,
 }
 
