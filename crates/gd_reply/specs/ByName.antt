@@ -30,6 +30,22 @@ is_named prims name place = is_object prims place && nat_lt 0 (name_count prims 
 abbrev pub named : List Primitive → List ℕ → List ℕ
 named prims name = filter (is_named prims name) (places prims)
 
+-- the place is a live link that gives this name
+abbrev pub is_link : List Primitive → List ℕ → ℕ → Bool
+is_link prims name place = passes_at (λ p. refers p.typ name_place && is_text name p.value) prims place && is_live prims place
+
+-- the links that do, in rising order
+abbrev pub links : List Primitive → List ℕ → List ℕ
+links prims name = filter (is_link prims name) (places prims)
+
+-- the primitive at the place leads from the object
+abbrev pub leads_from : List Primitive → ℕ → ℕ → Bool
+leads_from prims o place = passes_at (λ p. refers p.left o) prims place
+
+-- one of these links leads from the object
+abbrev pub is_linked : List Primitive → List ℕ → ℕ → Bool
+is_linked prims links o = list_any (leads_from prims o) links
+
 -- what is printed of an object of this name
 abbrev pub row_json : List ℕ → ℕ → Json
 row_json name place = object (member (codes "guid") (text (guid place)) (member (codes "name") (text name) no_members))

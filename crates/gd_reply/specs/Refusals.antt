@@ -1,5 +1,5 @@
 -- What a refusal prints.
-use Rattle.std.specs.Prelude.{ℕ, [], ◌∷◌, ◌<◌, ◌^◌, codes}
+use Rattle.std.specs.Prelude.{[], ◌∷◌, ◌<◌, ◌^◌, codes}
 use Rattle.gd_tree.specs.Json.{text}
 use Rattle.gd_defs.specs.Lines.{Refusal as Printed, refusal as printed, count_json, too_wide, too_large}
 use Rattle.gd_defs.specs.Reply.{bad_query_refusal}

@@ -20,7 +20,7 @@ use gd_base::text::TEXT_LIMIT;
 use gd_json::value::{Json, JsonText};
 use gd_mql::fault::{Code, Path};
 use gd_prim::Primitive;
-use gd_prim::live::live_at;
+use gd_prim::live::{live_at, refers};
 use std::alloc::Global;
 
 /// The typ of links to names.
@@ -47,16 +47,20 @@ fn is_object(prims: &[Primitive], place: Id) -> bool
     }
 }
 
+fn is_text(value: &Datum, name: &str) -> bool
+    ensures { result ≡ live.is_text name.now value.now }
+{
+    match value {
+        Datum::Text(text) => text.as_str() == name,
+        _ => false,
+    }
+}
+
 fn is_name_link(prim: &Primitive, name: &str, object: Id) -> bool
     ensures { result ≡ (live.refers prim.now.typ 13 && live.refers prim.now.left object
         && live.is_text name.now prim.now.value) }
 {
-    prim.typ == Some(Id(NAME))
-        && prim.left == Some(object)
-        && match &prim.value {
-            Datum::Text(text) => text.as_str() == name,
-            _ => false,
-        }
+    prim.typ == Some(Id(NAME)) && prim.left == Some(object) && is_text(&prim.value, name)
 }
 
 fn names(prims: &[Primitive], name: &str, object: Id, place: Id) -> bool
@@ -79,11 +83,57 @@ fn name_count(prims: &[Primitive], name: &str, object: Id) -> usize
         .count()
 }
 
-fn is_named(prims: &[Primitive], name: &str, place: Id) -> bool
-    requires { length prims.now ≤ 2097151 }
-    ensures { result ≡ by_name.is_named prims.now name.now place }
+fn gives_name(prim: &Primitive, name: &str) -> bool
+    ensures { result ≡ (live.refers prim.now.typ 13 && live.is_text name.now prim.now.value) }
 {
-    is_object(prims, place) && name_count(prims, name, place) > 0
+    prim.typ == Some(Id(NAME)) && is_text(&prim.value, name)
+}
+
+fn is_link(prims: &[Primitive], name: &str, place: Id) -> bool
+    ensures { result ≡ by_name.is_link prims.now name.now place }
+{
+    match prims.get(place.place() as usize) {
+        Some(prim) => gives_name(prim, name) && live_at(prims, place),
+        None => false,
+    }
+}
+
+/// The live links that give the name, in rising order.
+fn links(alloc: Global, prims: &[Primitive], name: &str) -> Result<Vec<Id>, Memory>
+    requires { length prims.now ≤ 2097151 }
+    ensures { IfOk result (λ links. links.items ≡ by_name.links prims.now name.now) }
+{
+    let count = prims.len() as u32;
+    let mut links = Vec::new(alloc);
+    for link in 0..count {
+        if is_link(prims, name, Id(link)) {
+            links.push(Id(link))?;
+        }
+    }
+    Ok(links)
+}
+
+fn leads_from(prims: &[Primitive], object: Id, place: Id) -> bool
+    ensures { result ≡ by_name.leads_from prims.now object place }
+{
+    match prims.get(place.place() as usize) {
+        Some(prim) => refers(prim.left, object),
+        None => false,
+    }
+}
+
+fn is_linked(prims: &[Primitive], links: &[Id], object: Id) -> bool
+    ensures { result ≡ by_name.is_linked prims.now links.now object }
+{
+    links.iter().any(|link| leads_from(prims, object, *link))
+}
+
+/// Whether it is an object that one of the links leads from. The links are asked first, since liveness takes a pass over
+/// the list.
+fn is_named(prims: &[Primitive], links: &[Id], place: Id) -> bool
+    ensures { result ≡ (by_name.is_linked prims.now links.now place && live.is_object prims.now place) }
+{
+    is_linked(prims, links, place) && is_object(prims, place)
 }
 
 fn is_heavy(prims: &[Primitive], name: &str, place: Id) -> bool
@@ -106,9 +156,10 @@ fn named(alloc: Global, prims: &[Primitive], name: &str) -> Result<Vec<Id>, Memo
     ensures { IfOk result (λ objects. objects.items ≡ by_name.named prims.now name.now) }
 {
     let count = prims.len() as u32;
+    let links = links(alloc, prims, name)?;
     let mut objects = Vec::new(alloc);
     for place in 0..count {
-        if is_named(prims, name, Id(place)) {
+        if is_named(prims, &links, Id(place)) {
             objects.push(Id(place))?;
         }
     }
@@ -239,8 +290,9 @@ fn too_long(alloc: Global, dateline: u32, line: u64) -> Result<Vec<u8>, Memory>
 }
 
 /// The reply line, without its newline, to a read that asks in a list for the objects of a name and their guids, over
-/// a list of primitives at a dateline. `line` is the number of the read's line. It looks at every primitive for every
-/// object: it is the plain form of a read.
+/// a list of primitives at a dateline. `line` is the number of the read's line. One pass over
+/// the list finds the links that give the name, and a second one the places that they lead from. The list is gone over
+/// again only for each link and each object of the name: where they are few, the time grows as the list does.
 pub fn reply_to_name(
     alloc: Global,
     prims: &[Primitive],
