@@ -1,0 +1,4 @@
+pub mod Meaning
+pub mod Shape
+pub mod State
+pub mod Causes

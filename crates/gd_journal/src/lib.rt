@@ -1,0 +1,5 @@
+//! Payloads in a file, each of them there in full or not at all, whenever a stop comes.
+#![tactic(auto)]
+
+pub mod fault;
+pub mod record;
