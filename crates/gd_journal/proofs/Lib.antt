@@ -1,3 +1,5 @@
 mod Told
 mod Gates
+mod Means
 mod Runs
+mod Kept

@@ -1,9 +1,14 @@
 -- What one step more leaves of a file with a gate.
 use Rattle.std.proofs.Common.{◌≡◌, ℕ, ◌+◌, ◌≤◌, List, length}
-use Rattle.gd_bytes.specs.Disk.{LeavesOnly, Follows, Elapses, Torn, Cut}
-use Rattle.gd_disk.specs.Runs.{leaves_step, leaves_on}
-use Rattle.gd_journal.specs.Shape.{front, IsClosed, IsStaged, IsDoubtful}
-use Rattle.gd_journal.proofs.Gates.{closed_torn, closed_cut, gate_torn}
+use Rattle.std.specs.Prelude.{Option}
+use Rattle.std.specs.List.{AllByRecursion}
+use Rattle.gd_bytes.specs.Disk.{LeavesOnly, Follows, Stays, Elapses, Torn, Cut}
+use Rattle.gd_disk.specs.Runs.{leaves_start, leaves_stays, leaves_join, leaves_weaken, leaves_step, leaves_on}
+use Rattle.gd_journal.specs.Meaning.{MayStandFor}
+use Rattle.gd_journal.specs.Shape.{front, IsPayload, IsClosed, IsStaged, IsDoubtful}
+use Rattle.gd_journal.specs.State.{IsSettled, IsInDoubt}
+use Rattle.gd_journal.proofs.Gates.{at_rest_closed, closed_doubtful, closed_torn, closed_cut, gate_torn}
+use Rattle.gd_journal.proofs.Means.{doubtful_stands}
 
 module _ {D : Type 0} (moment : D → ℕ) (images : D → List ℕ → Type 0) (images_since : D → ℕ → List ℕ → Type 0) where
   -- a write behind the gate
@@ -21,3 +26,16 @@ module _ {D : Type 0} (moment : D → ℕ) (images : D → List ℕ → Type 0) 
       → Follows (Torn gate 1) (images mid) (images new) → Elapses (moment mid) (moment new) (images_since mid) (images_since new) (images new) → LeavesOnly moment images images_since old new (IsDoubtful ps p)
   doubtful_write old mid new ps p gate run has place follows time =
       leaves_on moment images images_since old mid new (IsDoubtful ps p) run time (λ c now. let from = follows c now in gate_torn ps p from.0 c gate place (has from.0 from.1) from.2)
+
+  -- room is made, and then a record is written
+  pub append_leaves : (old mid new : D) (co : Option (List ℕ)) (gate : ℕ) (ps : List (List ℕ)) (p : List ℕ) {a b : Option (List ℕ)} → ((c : List ℕ) → images_since old (moment old) c → images old c) → Stays a b (images old) (images mid)
+      → Elapses (moment old) (moment mid) (images_since old) (images_since mid) (images mid) → IsSettled co (images old) gate ps → IsPayload p → LeavesOnly moment images images_since mid new (IsDoubtful ps p)
+      → LeavesOnly moment images images_since old new (MayStandFor ps p)
+  append_leaves old mid new co gate ps p only stays time s fits run =
+      let begun = leaves_start moment images images_since old (IsDoubtful ps p) only (λ c now. closed_doubtful ps p c (at_rest_closed ps c (s.rests.left c now))) in
+      let roomy = leaves_stays moment images images_since old old mid (IsDoubtful ps p) begun stays time in
+      leaves_weaken moment images images_since old new (IsDoubtful ps p) (MayStandFor ps p) (λ c there. doubtful_stands ps p c s.each fits there) (leaves_join moment images images_since old mid new (IsDoubtful ps p) roomy run)
+
+  pub settle_leaves : (old new : D) (co : Option (List ℕ)) (gate next : ℕ) (ps : List (List ℕ)) (p : List ℕ) → IsInDoubt co (images old) gate next ps p → LeavesOnly moment images images_since old new (IsDoubtful ps p)
+      → LeavesOnly moment images images_since old new (MayStandFor ps p)
+  settle_leaves old new co gate next ps p s run = leaves_weaken moment images images_since old new (IsDoubtful ps p) (MayStandFor ps p) (λ c there. doubtful_stands ps p c s.each s.last there) run

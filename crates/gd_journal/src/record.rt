@@ -1,11 +1,13 @@
 //! Writing a record behind the closed gate that ends a file, and cutting the file there.
-ghost use Rattle.std.specs.Prelude.{◌≡◌, ◌+◌, ◌-◌, ◌^◌, ◌<◌, ◌≤◌, ◌++◌, ◌∷◌, [], List, ℕ, length, OnOk};
+ghost use Rattle.std.specs.Prelude.{◌≡◌, ◌+◌, ◌-◌, ◌^◌, ◌<◌, ◌≤◌, ◌++◌, ◌∷◌, ◌==◌, [], List, ℕ, length, slice_index, OnOk, IfOk, IfErr, IsErrOf, MatchBool};
 ghost use Rattle.std.specs.Option.{ForSome, is_some};
 ghost use Rattle.gd_base.specs.Counts.{HasCause};
-ghost use Rattle.gd_bytes.specs.Disk.{LeavesOnly};
+ghost use Rattle.gd_bytes.specs.Disk.{LeavesOnly, IsUntouched, Only};
+ghost use Rattle.gd_journal.specs.Causes.{HasReason};
 ghost use Rattle.gd_journal.specs.Shape.{IsClosed, IsAtRest, IsStaged, IsDoubtful};
 ghost use Rattle.gd_journal.specs.State.{AtGate};
 
+use crate::fault::JournalFault;
 use gd_disk::Failed;
 use gd_disk::disk::Disk;
 
@@ -87,4 +89,43 @@ pub(crate) fn clear<D: Disk>(disk: &mut D, gate: u64) -> Result<(), Failed>
     disk.cut(gate.saturating_add(1))?;
     disk.sync()?;
     Ok(())
+}
+
+/// Whether the gate is open, once that is certain: syncs, and reads the gate.
+fn is_open<D: Disk>(disk: &mut D, gate: u64) -> Result<bool, JournalFault>
+    ensures untouched { IsUntouched D.content D.moment D.images D.images_since disk.old disk.new }
+    ensures only { OnOk result (ForSome (D.content disk.new) (λ file. Only file (D.images disk.new))) }
+    ensures value { IfOk result (λ counts. ForSome (D.content disk.new) (λ file. counts ≡ (slice_index file gate == 1))) }
+    ensures calls { OnOk result (2 ≤ D.calls_left disk.new) }
+    ensures later { D.faults disk.old ≤ D.faults disk.new }
+    ensures cause { IfErr result (HasReason (D.faults disk.old) (D.faults disk.new)) }
+{
+    disk.reserve(3, 0)?;
+    disk.sync()?;
+    let mut byte = [0];
+    let count = disk.read_at(gate, &mut byte)?;
+    Ok(count == 1 && byte[0] == 1)
+}
+
+/// Ends a doubt: where the gate is open the payload behind it counts, and else the file is cut behind the gate.
+pub(crate) fn settle_record<D: Disk>(disk: &mut D, gate: u64) -> Result<bool, JournalFault>
+    requires reach { ForSome (D.content disk.old) (λ file. gate < length file) }
+    requires near { ForSome (D.content disk.old) (λ file. gate < 2 ^ 64 - 1) }
+    ensures told { is_some (D.content disk.new) ≡ is_some (D.content disk.old) }
+    ensures doubtful { (ps : List (List ℕ)) (p : List ℕ)
+        → AtGate (D.content disk.old) (D.images disk.old) gate ps (IsDoubtful ps p)
+        → LeavesOnly D.moment D.images D.images_since disk.old disk.new (IsDoubtful ps p) }
+    ensures settled { IfOk result (λ counts. (ps : List (List ℕ)) (p : List ℕ)
+        → AtGate (D.content disk.old) (D.images disk.old) gate ps (IsDoubtful ps p)
+        → (c : List ℕ) → D.images disk.new c → MatchBool counts (IsAtRest (ps ++ p ∷ []) c) (IsAtRest ps c)) }
+    ensures memory { IsErrOf result JournalFault.Memory
+        → IsUntouched D.content D.moment D.images D.images_since disk.old disk.new }
+    ensures later { D.faults disk.old ≤ D.faults disk.new }
+    ensures cause { IfErr result (HasReason (D.faults disk.old) (D.faults disk.new)) }
+{
+    if is_open(disk, gate)? {
+        return Ok(true);
+    }
+    clear(disk, gate)?;
+    Ok(false)
 }
