@@ -3,3 +3,4 @@ mod Gates
 mod Means
 mod Runs
 mod Kept
+mod Heads

@@ -100,10 +100,12 @@ held_front ps gate rest file each long is =
     let enough : length ps ≤ length (flat_map open_record ps) = records_long ps in
     let more = length file - length ps - 1 in
     let fuel : length file ≡ length ps + suc more = omega (arith, enough, ap length split, length-append (flat_map open_record ps) (gate ∷ rest)) in
-    let place : 8 + length (flat_map open_record ps) ≡ length (front ps) = omega arith in
-    (more, held_long file long head ∙ ap (λ (r : Payloads). Some r)
-      (ap (λ (l : List ℕ). payloads_from (length file) 8 l) back ∙ walk ps (length file) (suc more) 8 (gate ∷ rest) fuel (omega arith) each
-        ∙ ap (λ (a : ℕ). after (located 8 ps) (payloads_from (suc more) a (gate ∷ rest))) place))
+    let place : 8 + length (flat_map open_record ps) ≡ length (front ps) = omega arith in (
+      more,
+      held_long file long head ∙ ap (λ (r : Payloads). Some r)
+          (ap (λ (l : List ℕ). payloads_from (length file) 8 l) back ∙ walk ps (length file) (suc more) 8 (gate ∷ rest) fuel (omega arith) each
+          ∙ ap (λ (a : ℕ). after (located 8 ps) (payloads_from (suc more) a (gate ∷ rest))) place),
+    )
 
 short_none : (ps : List (List ℕ)) (gate : ℕ) (rest : List ℕ) → length (front ps ++ gate ∷ rest) ≤ 9 → ps ≡ []
 unfolding front
@@ -115,11 +117,11 @@ short_none (p ∷ ps) gate rest short =
 pub closed_stands : (ps : List (List ℕ)) (file : List ℕ) → AllByRecursion IsPayload ps → IsClosed ps file → StandsFor ps file
 closed_stands ps file each closed = elim (cases_lt 9 (length file)) [
   | inr short ↦
-    let none : ps ≡ [] = short_none ps closed.gate closed.rest (omega (arith, short, ap length closed.is)) in
-    held_short file short ∙ ap (λ (l : List (List ℕ)). Some (whole l)) (sym none)
+      let none : ps ≡ [] = short_none ps closed.gate closed.rest (omega (arith, short, ap length closed.is)) in
+      held_short file short ∙ ap (λ (l : List (List ℕ)). Some (whole l)) (sym none)
   | inl long ↦
-    let held = held_front ps closed.gate closed.rest file each long closed.is in
-    held.1 ∙ ap (λ (r : Payloads). Some (after (located 8 ps) r)) (payloads_end held.0 (length (front ps)) closed.gate closed.rest closed.shut) ∙ ap (λ (l : List (ℕ × List ℕ)). Some (record { list = l; damaged = None })) (append-nil (located 8 ps))
+      let held = held_front ps closed.gate closed.rest file each long closed.is in
+      held.1 ∙ ap (λ (r : Payloads). Some (after (located 8 ps) r)) (payloads_end held.0 (length (front ps)) closed.gate closed.rest closed.shut) ∙ ap (λ (l : List (ℕ × List ℕ)). Some (record { list = l; damaged = None })) (append-nil (located 8 ps))
 ]
 
 -- one that may be in doubt stands for them, or for one more

@@ -10,3 +10,10 @@ HasReason before now DiskFault = Rose before now
 HasReason before now NotStore = ⊥
 HasReason before now (Damaged offset) = ⊥
 HasReason before now Memory = ⊤
+
+-- A fault of a journal that is being opened: damage is no such fault, and it may also be no store.
+abbrev pub MayRefuse : ℕ → ℕ → JournalFault → Type 0
+MayRefuse before now DiskFault = Rose before now
+MayRefuse before now NotStore = ⊤
+MayRefuse before now (Damaged offset) = ⊥
+MayRefuse before now Memory = ⊤

@@ -2,3 +2,4 @@ pub mod Meaning
 pub mod Shape
 pub mod State
 pub mod Causes
+pub mod Heads

@@ -1,5 +1,6 @@
 -- How the file of a journal is built up from its gates.
-use Rattle.std.specs.Prelude.{◌≡◌, ◌≢◌, ℕ, ◌≤◌, List, [], ◌∷◌, ◌++◌, length, flat_map, None}
+use Rattle.std.specs.Prelude.{◌≡◌, ◌≢◌, ℕ, ◌≤◌, List, [], ◌∷◌, ◌++◌, length, take, drop, slice_index, flat_map, Option, None, Some}
+use Rattle.std.specs.List.{AllByRecursion}
 use Rattle.std.specs.Int.{to_be_bytes, w32}
 use Rattle.gd_bytes.specs.File.{header, open_record, payload as payload_of}
 
@@ -53,3 +54,14 @@ pub record IsTorn (tail : List ℕ) : Type 0 where
   pub rest : List ℕ
   pub is : tail ≡ 1 ∷ rest
   pub none : payload_of rest ≡ None
+
+-- The records of these payloads end at this gate.
+pub record IsWalked (ps : List (List ℕ)) (gate : ℕ) (file : List ℕ) : Type 0 where
+  pub each : AllByRecursion IsPayload ps
+  pub place : gate ≡ length (front ps)
+  pub is : take gate file ≡ front ps
+
+-- At this gate the file ends, or its first damaged record stands there.
+abbrev pub EndsAt : ℕ → List ℕ → Option ℕ → Type 0
+EndsAt gate file None = slice_index (drop gate file) 0 ≢ 1
+EndsAt gate file (Some at) = (at ≡ gate) × IsTorn (drop gate file)

@@ -7,12 +7,10 @@ ghost use Rattle.gd_journal.specs.Meaning.{MayStandFor};
 ghost use Rattle.gd_journal.specs.State.{IsSettled, IsInDoubt, Keeps};
 
 use crate::fault::JournalFault;
+use crate::head::PAYLOAD_LIMIT;
 use crate::record::{settle_record, write_record};
 use gd_disk::disk::Disk;
 use std::marker::Model;
-
-/// The greatest number of bytes of a payload. The least is 1.
-pub const PAYLOAD_LIMIT: usize = 268_435_456;
 
 /// A file of payloads, each with a gate in front that says whether it counts. Contracts see its disk, the offset of
 /// the gate that ends its records, the offset of the next gate while a payload is in doubt, and the offset of the
@@ -112,8 +110,8 @@ impl<D: Disk> Journal<D> {
         ensures settled { IfOk result (λ counts. (next : ℕ) (ps : List (List ℕ)) (p : List ℕ) → self.old.doubt ≡ Some next
             → IsInDoubt (D.content self.old.disk) (D.images self.old.disk) self.old.gate next ps p
             → MatchBool counts
-                (IsSettled (D.content self.new.disk) (D.images self.new.disk) self.new.gate (ps ++ p ∷ []))
-                (IsSettled (D.content self.new.disk) (D.images self.new.disk) self.new.gate ps)) }
+            (IsSettled (D.content self.new.disk) (D.images self.new.disk) self.new.gate (ps ++ p ∷ []))
+            (IsSettled (D.content self.new.disk) (D.images self.new.disk) self.new.gate ps)) }
         ensures ended { OnOk result (self.new.doubt ≡ None) }
         ensures left { IsErr result → (self.new.doubt ≡ self.old.doubt) × (self.new.gate ≡ self.old.gate) }
         ensures doubtful { IsErr result → (next : ℕ) (ps : List (List ℕ)) (p : List ℕ) → self.old.doubt ≡ Some next

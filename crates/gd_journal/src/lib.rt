@@ -2,5 +2,7 @@
 #![tactic(auto)]
 
 pub mod fault;
+pub mod head;
 pub mod journal;
+pub mod opening;
 pub mod record;

@@ -1,4 +1,4 @@
-use Rattle.std.proofs.Common.{◌≡◌, ◌≢◌, ℕ, List, length, get_or, refl, sym, ◌∙◌, ap, arith}
+use Rattle.std.proofs.Common.{◌≡◌, ◌≢◌, ℕ, List, get_or, sym, ◌∙◌, ap}
 use Rattle.std.specs.Option.{is_some}
 use Rattle.gd_disk.specs.Runs.{leaves_start, leaves_join, leaves_weaken, leaves_untouched}
 use Rattle.gd_journal.specs.Shape.{IsClosed, IsDoubtful}

@@ -1,11 +1,8 @@
-use Rattle.std.proofs.Common.{◌≡◌, ◌+◌, ◌^◌, ◌<◌, ◌≤◌, min, ℕ, List, [], ◌∷◌, ◌++◌, length, None, Some, refl, sym, ◌∙◌, ap, arith}
+use Rattle.std.proofs.Common.{◌≡◌, ◌+◌, ◌^◌, ◌<◌, ◌≤◌, min, ℕ, [], ◌∷◌, ◌++◌, length, Some, refl, sym, ◌∙◌, ap, arith}
 use Rattle.std.specs.Option.{is_some}
-use Rattle.gd_bytes.specs.Disk.{LeavesOnly}
-use Rattle.gd_journal.specs.Meaning.{MayStandFor}
-use Rattle.gd_journal.specs.Shape.{IsPayload, IsDoubtful, IsAtRest}
-use Rattle.gd_journal.specs.State.{AtGate, IsSettled, Journaled}
+use Rattle.gd_journal.specs.Shape.{IsPayload, IsAtRest}
+use Rattle.gd_journal.specs.State.{Journaled}
 use Rattle.gd_journal.proofs.Told.{content_of}
-use Rattle.gd_journal.proofs.Gates.{at_rest_closed, closed_doubtful}
 use Rattle.gd_journal.proofs.Runs.{append_leaves}
 use Rattle.gd_journal.proofs.Kept.{at_gate_stays, settled_of, settled_standing, doubt_standing, settled_long, added, doubted}
 use Rattle.gd_journal.proofs.journal.Journal.append.Goals as goal
