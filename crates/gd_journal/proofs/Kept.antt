@@ -1,9 +1,10 @@
 -- What a journal keeps over a call.
-use Rattle.std.proofs.Common.{◌≡◌, ◌+◌, ◌^◌, ◌<◌, ◌≤◌, ℕ, List, [], ◌∷◌, ◌++◌, length, Some, None, refl, sym, ◌∙◌, ap, subst, arith, length-append}
-use Rattle.std.specs.Prelude.{Option, IsSome}
+use Rattle.std.proofs.Common.{◌≡◌, ◌+◌, ◌^◌, ◌<◌, ℕ, List, [], ◌∷◌, ◌++◌, length, Some, None, refl, sym, ◌∙◌, ap, subst, arith, length-append}
+use Rattle.std.specs.Prelude.{Option, IsSome, MatchOption}
 use Rattle.std.specs.Option.{is_some}
 use Rattle.std.specs.List.{AllByRecursion}
 use Rattle.gd_bytes.specs.Disk.{Stays}
+use Rattle.gd_journal.specs.Meaning.{StandsFor, IsDamagedAt}
 use Rattle.gd_journal.specs.Shape.{front, IsPayload, IsAtRest, IsDoubtful}
 use Rattle.gd_journal.specs.State.{AtGate, IsSettled, IsInDoubt, Standing}
 use Rattle.gd_journal.proofs.Gates.{at_rest_closed, All_push, length-front_push}
@@ -65,3 +66,13 @@ Standing-less co cn io ima gate None None same less (ps, s) = (ps, settle cn ima
 Standing-less co cn io ima gate (Some n) None same less (ps, p, s) = (ps, p, doubted cn ima gate n ps p s.each s.last s.rests.place s.next_place s.near (ap is_some same ∙ s.rests.told) (λ c now. s.rests.left c (less c now)))
 Standing-less co cn io ima gate None (Some n) same less s = λ c now. s c (less c now)
 Standing-less co cn io ima gate (Some n) (Some m) same less s = s
+
+-- what stands for an opened file is kept
+pub opened_standing : (damaged : Option ℕ) (co : Option (List ℕ)) (im : List ℕ → Type 0) (gate : ℕ) (file : List ℕ) (U : Type 0) → (U → (c : List ℕ) → im c → c ≡ file)
+    → MatchOption damaged ((ps : List (List ℕ)) × StandsFor ps file × IsSettled co im gate ps) (λ at. IsDamagedAt at file × U) → Standing co im gate None damaged
+opened_standing None co im gate file U only m = (m.0, m.2)
+opened_standing (Some at) co im gate file U only m = λ c now. subst (IsDamagedAt at) (sym (only m.1 c now)) m.0
+
+pub opened_then : (damaged : Option ℕ) (file : List ℕ) (A U V : Type 0) → (U → V) → MatchOption damaged A (λ at. IsDamagedAt at file × U) → MatchOption damaged A (λ at. IsDamagedAt at file × V)
+opened_then None file A U V to m = m
+opened_then (Some at) file A U V to m = (m.0, to m.1)

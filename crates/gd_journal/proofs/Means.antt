@@ -1,16 +1,15 @@
 -- What files with gates stand for.
-use Rattle.std.proofs.Common.{◌≡◌, ◌≢◌, ◌⊎◌, inl, inr, ⊎_elim, ℕ, zero, suc, ◌+◌, ◌-◌, ◌*◌, ◌^◌, ◌<◌, ◌≤◌, List, [], ◌∷◌, ◌++◌, length, get_or, take, drop, flat_map, true, false, Some, None, refl, sym, ◌∙◌, ap, subst, arith, length-append, take-append-drop, add-zero}
+use Rattle.std.proofs.Common.{◌≡◌, ◌≢◌, ◌⊎◌, inl, inr, ℕ, zero, suc, ◌+◌, ◌-◌, ◌<◌, ◌≤◌, List, [], ◌∷◌, ◌++◌, length, take, drop, flat_map, true, false, Some, None, refl, sym, ◌∙◌, ap, arith, length-append, add-zero}
 use Rattle.std.specs.Prelude.{if◌then◌else◌, nat_le, nat_lt, bytes_eq, Option, ◌||◌, ◌==◌, Bool}
 use Rattle.std.specs.List.{AllByRecursion}
 use Rattle.std.specs.Int.{to_be_bytes, from_be_bytes, w32}
 use Rattle.std.proofs.lemmas.Bool.{cases_lt}
 use Rattle.std.proofs.lemmas.Bool.Decides.{nat_tests}
-use Rattle.std.proofs.lemmas.Slice.Eq.{bytes_eq-Decides}
 use Rattle.std.proofs.lemmas.List.{append_assoc, append-nil, take_at, drop_at}
 use Rattle.std.proofs.lemmas.Nat.{from_be_bytes-to_be_bytes_4}
 use Rattle.gd_bytes.specs.File.{Payloads, header, payloads, payloads_from, no_payloads, open_record, payload as payload_of}
 use Rattle.gd_journal.specs.Meaning.{held_by, located, whole, StandsFor, MayStandFor}
-use Rattle.gd_journal.specs.Shape.{front, spelled, IsPayload, IsClosed, IsAtRest, IsDoubtful}
+use Rattle.gd_journal.specs.Shape.{front, spelled, IsPayload, IsClosed, IsDoubtful}
 use Rattle.gd_journal.proofs.Gates.{one_or_other, All_push}
 
 -- payloads in front of what follows

@@ -7,7 +7,7 @@ ghost use Rattle.gd_bytes.specs.File.{header};
 ghost use Rattle.gd_journal.specs.Causes.{HasReason, MayRefuse};
 ghost use Rattle.gd_journal.specs.Meaning.{held_by, StandsFor, IsDamagedAt, MeansOneOf};
 ghost use Rattle.gd_journal.specs.Shape.{IsAtRest, IsWalked, EndsAt};
-ghost use Rattle.gd_journal.specs.State.{IsSettled};
+ghost use Rattle.gd_journal.specs.State.{IsSettled, Keeps};
 
 use crate::fault::JournalFault;
 use crate::head::{HEAD, Head, head_at};
@@ -143,4 +143,58 @@ fn recover<D: Disk>(disk: &mut D, len: u64) -> Result<Ending, JournalFault>
     }
     clear(disk, end.gate)?;
     Ok(end)
+}
+
+/// Makes certain what the file holds, and recovers it.
+fn start<D: Disk>(disk: &mut D) -> Result<Ending, JournalFault>
+    ensures means { ForSome (D.content disk.old) (λ file.
+        LeavesOnly D.moment D.images D.images_since disk.old disk.new (MeansOneOf (D.images disk.old))) }
+    ensures ends { IfOk result (λ end. ForSome (D.content disk.old) (λ file. MatchOption end.damaged
+        ((ps : List (List ℕ)) × StandsFor ps file × IsSettled (D.content disk.new) (D.images disk.new) end.gate ps)
+        (λ at. IsDamagedAt at file × IsUntouched D.content D.moment D.images D.images_since disk.old disk.new))) }
+    ensures keeps { IfOk result (λ end. Keeps (D.content disk.new) (D.images disk.new) end.gate None end.damaged) }
+    ensures not_store { IsErrOf result JournalFault.NotStore → ForSome (D.content disk.old) (λ file. held_by file ≡ None) }
+    ensures refused { IsErrOf result JournalFault.NotStore
+        → IsUntouched D.content D.moment D.images D.images_since disk.old disk.new }
+    ensures memory { IsErrOf result JournalFault.Memory
+        → IsUntouched D.content D.moment D.images D.images_since disk.old disk.new }
+    ensures later { D.faults disk.old ≤ D.faults disk.new }
+    ensures cause { IfErr result (MayRefuse (D.faults disk.old) (D.faults disk.new)) }
+{
+    let len = begin(disk)?;
+    let end = recover(disk, len)?;
+    Ok(end)
+}
+
+/// Opens a file that a stop may have left, and begins with a sync. Of a file of at most 9 bytes, an unfinished
+/// creation, it makes an empty store; any other it cuts behind the gate that ends its records. A file with a damaged
+/// record is left as it is, and `Journal::read_all` says where the damage is.
+///
+/// An error hands the disk back. `NotStore`: the file has more than 9 bytes and does not begin with the header.
+/// `Memory`: there is no room on the disk. Either changes nothing. `DiskFault`: the disk failed. `Damaged` is never
+/// answered. At every moment of the call a stop leaves what means the same as a file that a stop might have left
+/// before it.
+pub fn open_journal<D: Disk>(disk: D) -> Result<Journal<D>, (JournalFault, D)>
+    ensures opened { IfOk result (λ journal. ForSome (D.content disk) (λ file. MatchOption journal.damaged
+        ((ps : List (List ℕ)) × StandsFor ps file × IsSettled (D.content journal.disk) (D.images journal.disk) journal.gate ps)
+        (λ at. IsDamagedAt at file × IsUntouched D.content D.moment D.images D.images_since disk journal.disk))) }
+    ensures no_doubt { IfOk result (λ journal. journal.doubt ≡ None) }
+    ensures moments { MatchResult result
+        (λ journal. ForSome (D.content disk) (λ file.
+        LeavesOnly D.moment D.images D.images_since disk journal.disk (MeansOneOf (D.images disk))))
+        (λ refused. ForSome (D.content disk) (λ file.
+        LeavesOnly D.moment D.images D.images_since disk refused.1 (MeansOneOf (D.images disk)))) }
+    ensures not_store { IfErr result (λ refused. refused.0 ≡ JournalFault.NotStore
+        → ForSome (D.content disk) (λ file. held_by file ≡ None)) }
+    ensures untouched { IfErr result (λ refused. refused.0 ≢ JournalFault.DiskFault
+        → IsUntouched D.content D.moment D.images D.images_since disk refused.1) }
+    ensures later { MatchResult result
+        (λ journal. D.faults disk ≤ D.faults journal.disk) (λ refused. D.faults disk ≤ D.faults refused.1) }
+    ensures cause { IfErr result (λ refused. MayRefuse (D.faults disk) (D.faults refused.1) refused.0) }
+{
+    let mut disk = disk;
+    match start(&mut disk) {
+        Ok(end) => Ok(Journal::of(disk, end.gate, end.damaged)),
+        Err(fault) => Err((fault, disk)),
+    }
 }
