@@ -4,3 +4,4 @@ mod Means
 mod Runs
 mod Kept
 mod Heads
+mod Found

@@ -3,3 +3,4 @@ pub mod Shape
 pub mod State
 pub mod Causes
 pub mod Heads
+pub mod Found

@@ -1,15 +1,19 @@
 //! A journal: payloads in a file, to which one more may be added.
-ghost use Rattle.std.specs.Prelude.{◌≡◌, ◌+◌, ◌^◌, ◌<◌, ◌≤◌, ◌++◌, ◌∷◌, ◌↔◌, [], List, ℕ, None, length, min, ◌-◌, IsSome, IfSome, IsErrOf, OnOk, IfOk, IfErr, IsErr, MatchBool};
+ghost use Rattle.std.specs.Prelude.{◌≡◌, ◌+◌, ◌^◌, ◌<◌, ◌≤◌, ◌++◌, ◌∷◌, ◌↔◌, [], List, ℕ, None, length, min, ◌-◌, IsSome, IfSome, IsErrOf, OnOk, IfOk, IfErr, IsErr, MatchBool, OnErr, Some};
 ghost use Rattle.std.specs.Option.{ForSome, is_some};
 ghost use Rattle.gd_bytes.specs.Disk.{LeavesOnly, IsUntouched};
+ghost use Rattle.gd_journal.specs.Found.{found_in};
 ghost use Rattle.gd_journal.specs.Causes.{HasReason};
-ghost use Rattle.gd_journal.specs.Meaning.{MayStandFor};
+ghost use Rattle.gd_journal.specs.Meaning.{held_by, MayStandFor};
 ghost use Rattle.gd_journal.specs.State.{IsSettled, IsInDoubt, Keeps};
 
 use crate::fault::JournalFault;
 use crate::head::PAYLOAD_LIMIT;
+use crate::payloads::Payloads;
+use crate::reading::read_payloads;
 use crate::record::{settle_record, write_record};
 use gd_disk::disk::Disk;
+use std::alloc::Global;
 use std::marker::Model;
 
 /// A file of payloads, each with a gate in front that says whether it counts. Contracts see its disk, the offset of
@@ -59,6 +63,27 @@ impl<D: Disk> Journal<D> {
         ensures { result ≡ self.disk }
     {
         self.disk
+    }
+
+    /// Reads each payload with the offset of its gate, up to the gate that ends the records or to the first damaged
+    /// record: one that is not there in full, or whose length is 0 or above `PAYLOAD_LIMIT`. Its offset is told too.
+    /// Nothing is changed. `DiskFault`: the disk failed. `Memory`: an allocation was refused.
+    pub fn read_all(&mut self, alloc: Global) -> Result<Payloads, JournalFault>
+        ensures found { IfOk result (λ found. ForSome (D.content self.old.disk) (λ file.
+            held_by file ≡ Some (found_in found))) }
+        ensures damaged { IfOk result (λ found. self.new.damaged ≡ found.damaged) }
+        ensures same { (self.new.gate ≡ self.old.gate) × (self.new.doubt ≡ self.old.doubt) }
+        ensures left { OnErr result (self.new.damaged ≡ self.old.damaged) }
+        ensures untouched { IsUntouched D.content D.moment D.images D.images_since self.old.disk self.new.disk }
+        ensures later { D.faults self.old.disk ≤ D.faults self.new.disk }
+        ensures cause { IfErr result (HasReason (D.faults self.old.disk) (D.faults self.new.disk)) }
+    {
+        let found = read_payloads(alloc, &mut self.disk)?;
+        self.damaged = found.damaged.or(self.damaged);
+        Ok(Payloads {
+            list: found.list,
+            damaged: self.damaged,
+        })
     }
 
     /// Adds a payload of 1 to `PAYLOAD_LIMIT` bytes: writes its length, itself and the next closed gate behind the

@@ -5,4 +5,6 @@ pub mod fault;
 pub mod head;
 pub mod journal;
 pub mod opening;
+pub mod payloads;
+pub mod reading;
 pub mod record;
