@@ -51,6 +51,15 @@ impl<D: Disk> Journal<D> {
         }
     }
 
+    /// The offset of the gate that ends the records. Where there is no doubt and no damage it is the file's last byte.
+    pub fn gate(&self) -> u64
+        ensures gate { result ≡ self.now.gate }
+        ensures last { ForSome (D.content self.now.disk) (λ file. self.now.doubt ≡ None → self.now.damaged ≡ None
+            → length file ≡ self.now.gate + 1) }
+    {
+        self.gate
+    }
+
     /// Whether a payload is in doubt: a call of `append` answered `DiskFault`, and `settle` has not ended it since.
     pub fn in_doubt(&self) -> bool
         ensures { result ≡ is_some self.now.doubt }

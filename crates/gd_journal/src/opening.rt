@@ -19,6 +19,9 @@ use gd_disk::disk::Disk;
 /// The first bytes of a store's file: `GRAPHD1` and a newline.
 pub const HEADER: [u8; 8] = *b"GRAPHD1\n";
 
+/// The greatest number of bytes of an unfinished creation.
+pub(crate) const UNFINISHED: u64 = 9;
+
 /// The header, and a closed gate.
 const FRESH: [u8; 9] = *b"GRAPHD1\n\0";
 
@@ -127,7 +130,7 @@ fn recover<D: Disk>(disk: &mut D, len: u64) -> Result<Ending, JournalFault>
     ensures later { D.faults disk.old ≤ D.faults disk.new }
     ensures cause { IfErr result (MayRefuse (D.faults disk.old) (D.faults disk.new)) }
 {
-    if len <= 9 {
+    if len <= UNFINISHED {
         create(disk)?;
         return Ok(Ending {
             gate: 8,

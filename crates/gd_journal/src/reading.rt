@@ -9,6 +9,7 @@ ghost use Rattle.gd_journal.specs.Meaning.{held_by};
 
 use crate::fault::JournalFault;
 use crate::head::{HEAD, Head, head_at};
+use crate::opening::UNFINISHED;
 use crate::payloads::{Payload, PayloadBytes, PayloadList, Payloads};
 use gd_disk::disk::Disk;
 use std::alloc::Global;
@@ -76,7 +77,7 @@ pub(crate) fn read_payloads<D: Disk>(alloc: Global, disk: &mut D) -> Result<Payl
     ensures cause { IfErr result (HasReason (D.faults disk.old) (D.faults disk.new)) }
 {
     let len = disk.len()?;
-    if len <= 9 {
+    if len <= UNFINISHED {
         return Ok(found(Vec::new(alloc), None));
     }
     let found = read_records(alloc, disk, len)?;

@@ -16,14 +16,14 @@ returns-in_err-create-clause-means g c = λ f is.
     let short : length f ≤ 9 = omega (arith, c.requires.len f is) in
     open_created d.moment d.images d.images_since c.args.disk.now c.create.new.disk f short (c.create.ensures.short (λ e now. omega (arith, short, ap length (c.requires.only f is e now))))
 
-pub returns-then-len-le9-clause-means : goal.returns-then-len-le9-clause-means
-returns-then-len-le9-clause-means g c = λ f is.
+pub returns-then-len-le-UNFINISHED-clause-means : goal.returns-then-len-le-UNFINISHED-clause-means
+returns-then-len-le-UNFINISHED-clause-means g c = λ f is.
     let d = g.D.Disk in
     let short : length f ≤ 9 = omega (arith, c.requires.len f is) in
     open_created d.moment d.images d.images_since c.args.disk.now c.create.new.disk f short (c.create.ensures.short (λ e now. omega (arith, short, ap length (c.requires.only f is e now))))
 
-pub returns-then-len-le9-clause-ends : goal.returns-then-len-le9-clause-ends
-returns-then-len-le9-clause-ends g c = λ f is.
+pub returns-then-len-le-UNFINISHED-clause-ends : goal.returns-then-len-le-UNFINISHED-clause-ends
+returns-then-len-le-UNFINISHED-clause-ends g c = λ f is.
     let d = g.D.Disk in
     ([], held_short f (omega (arith, c.requires.len f is)), settle (d.content c.create.new.disk) (d.images c.create.new.disk) 8 [] tt (record { told = c.create.ensures.told ∙ ap is_some is; place = fresh_place; left = c.in_ok-create.ensures.rests f is }))
 
