@@ -1,0 +1,74 @@
+-- The payloads that were read, one after another.
+use Rattle.std.proofs.Common.{◌≡◌, ◌⊎◌, inl, inr, ◌+◌, ◌<◌, ℕ, List, [], ◌∷◌, ◌++◌, length, take, drop, flat_map, Some, None, true, false, refl, sym, ◌∙◌, ap, arith, length-append, append_assoc}
+use Rattle.std.specs.Prelude.{Option, Bool, bytes_eq}
+use Rattle.std.specs.Option.{option_or}
+use Rattle.std.specs.Int.{to_be_bytes, w32}
+use Rattle.std.proofs.lemmas.Slice.Eq.{bytes_eq-Decides}
+use Rattle.std.proofs.lemmas.List.{map-append, take_at, drop-drop}
+use Rattle.gd_bytes.specs.Disk.{part}
+use Rattle.gd_bytes.specs.File.{Payloads, header, open_record}
+use Rattle.gd_journal.specs.declared.payloads.Payload.{Payload}
+use Rattle.gd_journal.specs.declared.payloads.Payloads.{Payloads as Found}
+use Rattle.gd_journal.specs.Found.{seen, found_in}
+use Rattle.gd_journal.specs.Meaning.{held_by, located, whole}
+use Rattle.gd_journal.specs.Shape.{front, spelled, IsRecord, IsWalked}
+use Rattle.gd_journal.specs.State.{Standing}
+use Rattle.gd_journal.proofs.Heads.{no_header}
+
+pub located_push : (ps : List (List ℕ)) (at : ℕ) (p : List ℕ) → located at (ps ++ p ∷ []) ≡ located at ps ++ (at + length (flat_map open_record ps), p) ∷ []
+located_push [] at p = ap (λ (n : ℕ). (n, p) ∷ []) (omega arith)
+located_push (q ∷ ps) at p =
+    let same : at + 5 + length q + length (flat_map open_record ps) ≡ at + length (flat_map open_record (q ∷ ps)) = omega (arith, length-append (spelled q) (flat_map open_record ps), length-append (to_be_bytes w32 (length q)) q) in
+    ap (λ (l : List (ℕ × List ℕ)). (at, q) ∷ l) (located_push ps (at + 5 + length q) p) ∙ ap (λ (n : ℕ). (at, q) ∷ (located (at + 5 + length q) ps ++ (n, p) ∷ [])) same
+
+-- one payload more is seen
+pub seen_push : (ps : List (List ℕ)) (at : ℕ) (file p : List ℕ) (list more : List Payload) (one : Payload) → IsWalked ps at file → seen list ≡ located 8 ps → more ≡ list ++ one ∷ [] → one.offset ≡ at → one.bytes ≡ p → seen more ≡ located 8 (ps ++ p ∷ [])
+unfolding front
+seen_push ps at file p list more one walked same is offset bytes =
+    let place : at ≡ 8 + length (flat_map open_record ps) = omega (arith, walked.place, length-append header (flat_map open_record ps)) in
+    ap seen is ∙ map-append (λ (q : Payload). (q.offset, q.bytes)) list (one ∷ []) ∙ ap (λ (l : List (ℕ × List ℕ)). l ++ (one.offset, one.bytes) ∷ []) same
+    ∙ ap (λ (n : ℕ). located 8 ps ++ (n, one.bytes) ∷ []) (offset ∙ place) ∙ ap (λ (b : List ℕ). located 8 ps ++ (8 + length (flat_map open_record ps), b) ∷ []) bytes ∙ sym (located_push ps 8 p)
+
+-- the bytes behind a gate and a length are the payload
+pub payload_read : (file p : List ℕ) (at n : ℕ) → length p ≡ n → IsRecord (drop at file) p → part (at + 5) n file ≡ p
+payload_read file p at n size whole =
+    let back : drop (at + 5) file ≡ p ++ (whole.gate ∷ whole.rest) = sym (drop-drop 5 at file) ∙ ap (λ (l : List ℕ). drop 5 l) whole.is ∙ ap (λ (l : List ℕ). drop 4 l) (append_assoc (to_be_bytes w32 (length p)) p (whole.gate ∷ whole.rest)) in
+    ap (λ (l : List ℕ). take n l) back ∙ take_at p (whole.gate ∷ whole.rest) n size
+
+pub found_is : (file : List ℕ) (found : Found) (list : List Payload) (ps : List (List ℕ)) (damaged : Option ℕ) → found.list ≡ list → found.damaged ≡ damaged → seen list ≡ located 8 ps → held_by file ≡ Some (record { list = located 8 ps; damaged = damaged }) → held_by file ≡ Some (found_in found)
+found_is file found list ps damaged list_is damaged_is same held =
+    held ∙ ap (λ (l : List (ℕ × List ℕ)). Some (record { list = l; damaged = damaged })) (sym same ∙ ap seen (sym list_is)) ∙ ap (λ (o : Option ℕ). Some (record { list = seen found.list; damaged = o })) (sym damaged_is)
+
+cases_bool : (b : Bool) → (b ≡ true) ⊎ (b ≡ false)
+cases_bool true = inl refl
+cases_bool false = inr refl
+
+-- a file that holds payloads has the header
+pub has_header : (file : List ℕ) (found : Payloads) → held_by file ≡ Some found → 9 < length file → take 8 file ≡ header
+has_header file found held long = elim (cases_bool (bytes_eq (take 8 file) header)) [
+  | inl same ↦ (bytes_eq-Decides (take 8 file) header).0 same
+  | inr other ↦ cc (held, no_header file long (λ same. cc (other, (bytes_eq-Decides (take 8 file) header).1 same)))
+]
+
+-- what a journal keeps holds payloads, and its damage
+pub standing_held : (co : Option (List ℕ)) (im : List ℕ → Type 0) (gate : ℕ) (doubt damaged : Option ℕ) (file : List ℕ) → Standing co im gate doubt damaged → im file → (found : Payloads) × (held_by file ≡ Some found) × (found.damaged ≡ damaged)
+standing_held co im gate None None file (ps, s) now = (whole ps, s.means file now, refl)
+standing_held co im gate (Some n) None file (ps, p, s) now = elim (s.means file now) [
+  | inl held ↦ (whole ps, held, refl)
+  | inr held ↦ (whole (ps ++ p ∷ []), held, refl)
+]
+standing_held co im gate None (Some at) file s now = let there = s file now in (there.0, there.1, there.2)
+standing_held co im gate (Some n) (Some at) file s now = absurd s
+
+-- so the damage that is found is the one that is known
+pub same_damage : (co : Option (List ℕ)) (im : List ℕ → Type 0) (gate : ℕ) (doubt damaged : Option ℕ) (file : List ℕ) (found : Payloads) → Standing co im gate doubt damaged → im file → held_by file ≡ Some found → found.damaged ≡ damaged
+same_damage co im gate doubt damaged file found s now held =
+    let k = standing_held co im gate doubt damaged file s now in
+    let one : k.0 ≡ found = cc (k.1, held) in
+    ap (λ (f : Payloads). f.damaged) (sym one) ∙ k.2
+
+pub or_same : (o d : Option ℕ) → o ≡ d → option_or o d ≡ d
+or_same None None same = refl
+or_same None (Some b) same = refl
+or_same (Some a) None same = same
+or_same (Some a) (Some b) same = same

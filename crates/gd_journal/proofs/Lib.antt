@@ -1,0 +1,7 @@
+mod Told
+mod Gates
+mod Means
+mod Runs
+mod Kept
+mod Heads
+mod Found

@@ -1,0 +1,6 @@
+pub mod Meaning
+pub mod Shape
+pub mod State
+pub mod Causes
+pub mod Heads
+pub mod Found

@@ -1,0 +1,44 @@
+-- What contracts see of a journal, and what its disk may leave.
+use Rattle.std.specs.Prelude.{◌≡◌, ℕ, ◌+◌, ◌^◌, ◌<◌, List, length, Option, Some, None, IsSome}
+use Rattle.std.specs.List.{AllByRecursion}
+use Rattle.gd_journal.specs.Meaning.{StandsFor, MayStandFor, IsDamagedAt}
+use Rattle.gd_journal.specs.Shape.{IsPayload, front, IsAtRest, IsDoubtful}
+
+-- What contracts see of a journal: its disk, the offset of the gate that ends its records, the offset of the next gate while a payload is in doubt, and that of the first damaged record.
+pub record Journaled (D : Type 0) : Type 0 where
+  pub disk : D
+  pub gate : ℕ
+  pub doubt : Option ℕ
+  pub damaged : Option ℕ
+
+-- The disk tells its content, this is the offset of the gate behind these payloads, and each image has P.
+pub record AtGate (content : Option (List ℕ)) (images : List ℕ → Type 0) (gate : ℕ) (ps : List (List ℕ)) (P : List ℕ → Type 0) : Type 0 where
+  pub told : IsSome content
+  pub place : gate ≡ length (front ps)
+  pub left : (c : List ℕ) → images c → P c
+
+-- The file ends with the gate behind these payloads, and each image stands for them.
+pub record IsSettled (content : Option (List ℕ)) (images : List ℕ → Type 0) (gate : ℕ) (ps : List (List ℕ)) : Type 0 where
+  pub each : AllByRecursion IsPayload ps
+  pub rests : AtGate content images gate ps (IsAtRest ps)
+  pub means : (c : List ℕ) → images c → StandsFor ps c
+
+-- Each image stands for these payloads, with the one in doubt or without it.
+pub record IsInDoubt (content : Option (List ℕ)) (images : List ℕ → Type 0) (gate next : ℕ) (ps : List (List ℕ)) (p : List ℕ) : Type 0 where
+  pub each : AllByRecursion IsPayload ps
+  pub last : IsPayload p
+  pub next_place : next ≡ gate + length p + 5
+  pub near : next < 2 ^ 63
+  pub rests : AtGate content images gate ps (IsDoubtful ps p)
+  pub means : (c : List ℕ) → images c → MayStandFor ps p c
+
+-- Each image stands for some payloads, with one in doubt or none, or has its first damaged record here.
+abbrev pub Standing : Option (List ℕ) → (List ℕ → Type 0) → ℕ → Option ℕ → Option ℕ → Type 0
+Standing content images gate None None = (ps : List (List ℕ)) × IsSettled content images gate ps
+Standing content images gate (Some next) None = (ps : List (List ℕ)) × (p : List ℕ) × IsInDoubt content images gate next ps p
+Standing content images gate None (Some at) = (c : List ℕ) → images c → IsDamagedAt at c
+Standing content images gate (Some next) (Some at) = ⊥
+
+-- So it is where the disk tells its content.
+abbrev pub Keeps : Option (List ℕ) → (List ℕ → Type 0) → ℕ → Option ℕ → Option ℕ → Type 0
+Keeps content images gate doubt damaged = IsSome content → Standing content images gate doubt damaged

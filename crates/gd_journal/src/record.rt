@@ -1,0 +1,131 @@
+//! Writing a record behind the closed gate that ends a file, and cutting the file there.
+ghost use Rattle.std.specs.Prelude.{◌≡◌, ◌+◌, ◌-◌, ◌^◌, ◌<◌, ◌≤◌, ◌++◌, ◌∷◌, ◌==◌, [], List, ℕ, length, slice_index, OnOk, IfOk, IfErr, IsErrOf, MatchBool};
+ghost use Rattle.std.specs.Option.{ForSome, is_some};
+ghost use Rattle.gd_base.specs.Counts.{HasCause};
+ghost use Rattle.gd_bytes.specs.Disk.{LeavesOnly, IsUntouched, Only};
+ghost use Rattle.gd_journal.specs.Causes.{HasReason};
+ghost use Rattle.gd_journal.specs.Shape.{IsClosed, IsAtRest, IsStaged, IsDoubtful};
+ghost use Rattle.gd_journal.specs.State.{AtGate};
+
+use crate::fault::JournalFault;
+use gd_disk::Failed;
+use gd_disk::disk::Disk;
+
+/// Writes the length, the payload and the next closed gate behind the closed gate that ends the file, and syncs.
+fn stage<D: Disk>(disk: &mut D, gate: u64, payload: &[u8]) -> Result<(), Failed>
+    requires short { length payload.now ≤ 268435456 }
+    requires reach { ForSome (D.content disk.old) (λ file. gate < length file) }
+    requires near { ForSome (D.content disk.old) (λ file. gate < 2 ^ 62) }
+    requires calls { 4 ≤ D.calls_left disk.old }
+    requires bytes { length payload.now + 5 ≤ D.bytes_left disk.old }
+    ensures told { is_some (D.content disk.new) ≡ is_some (D.content disk.old) }
+    ensures reach { ForSome (D.content disk.new) (λ file. gate < length file) }
+    ensures closed { (ps : List (List ℕ)) → AtGate (D.content disk.old) (D.images disk.old) gate ps (IsClosed ps)
+        → LeavesOnly D.moment D.images D.images_since disk.old disk.new (IsClosed ps) }
+    ensures staged { OnOk result ((ps : List (List ℕ)) → AtGate (D.content disk.old) (D.images disk.old) gate ps (IsAtRest ps)
+        → (c : List ℕ) → D.images disk.new c → IsStaged ps payload.now c) }
+    ensures calls { D.calls_left disk.old ≤ D.calls_left disk.new + 4 }
+    ensures bytes { D.bytes_left disk.old ≤ D.bytes_left disk.new + length payload.now + 5 }
+    ensures cause { HasCause (D.faults disk.old) (D.faults disk.new) result }
+{
+    let size = (payload.len() as u32).to_be_bytes();
+    disk.write_at(gate.saturating_add(1), &size)?;
+    disk.write_at(gate.saturating_add(5), payload)?;
+    disk.write_at(gate.saturating_add(payload.len() as u64 + 5), &[0])?;
+    disk.sync()?;
+    Ok(())
+}
+
+/// Opens the gate in front of a payload that stands in full behind it, and syncs.
+fn open_gate<D: Disk>(disk: &mut D, gate: u64) -> Result<(), Failed>
+    requires reach { ForSome (D.content disk.old) (λ file. gate < length file) }
+    requires calls { 2 ≤ D.calls_left disk.old }
+    requires bytes { 1 ≤ D.bytes_left disk.old }
+    ensures told { is_some (D.content disk.new) ≡ is_some (D.content disk.old) }
+    ensures doubtful { (ps : List (List ℕ)) (p : List ℕ)
+        → AtGate (D.content disk.old) (D.images disk.old) gate ps (IsStaged ps p)
+        → LeavesOnly D.moment D.images D.images_since disk.old disk.new (IsDoubtful ps p) }
+    ensures opened { OnOk result ((ps : List (List ℕ)) (p : List ℕ)
+        → AtGate (D.content disk.old) (D.images disk.old) gate ps (IsStaged ps p)
+        → (c : List ℕ) → D.images disk.new c → IsAtRest (ps ++ p ∷ []) c) }
+    ensures cause { HasCause (D.faults disk.old) (D.faults disk.new) result }
+{
+    disk.write_at(gate, &[1])?;
+    disk.sync()?;
+    Ok(())
+}
+
+/// Writes a record behind the closed gate that ends the file: first all but its gate, and then its gate.
+pub(crate) fn write_record<D: Disk>(disk: &mut D, gate: u64, payload: &[u8]) -> Result<(), Failed>
+    requires short { length payload.now ≤ 268435456 }
+    requires reach { ForSome (D.content disk.old) (λ file. gate < length file) }
+    requires near { ForSome (D.content disk.old) (λ file. gate < 2 ^ 62) }
+    requires calls { 6 ≤ D.calls_left disk.old }
+    requires bytes { length payload.now + 6 ≤ D.bytes_left disk.old }
+    ensures told { is_some (D.content disk.new) ≡ is_some (D.content disk.old) }
+    ensures doubtful { (ps : List (List ℕ)) → AtGate (D.content disk.old) (D.images disk.old) gate ps (IsAtRest ps)
+        → LeavesOnly D.moment D.images D.images_since disk.old disk.new (IsDoubtful ps payload.now) }
+    ensures opened { OnOk result ((ps : List (List ℕ)) → AtGate (D.content disk.old) (D.images disk.old) gate ps (IsAtRest ps)
+        → (c : List ℕ) → D.images disk.new c → IsAtRest (ps ++ payload.now ∷ []) c) }
+    ensures cause { HasCause (D.faults disk.old) (D.faults disk.new) result }
+{
+    stage(disk, gate, payload)?;
+    open_gate(disk, gate)?;
+    Ok(())
+}
+
+/// Cuts the file behind a closed gate, and syncs.
+pub(crate) fn clear<D: Disk>(disk: &mut D, gate: u64) -> Result<(), Failed>
+    requires reach { ForSome (D.content disk.old) (λ file. gate < length file) }
+    requires near { ForSome (D.content disk.old) (λ file. gate < 2 ^ 64 - 1) }
+    requires calls { 2 ≤ D.calls_left disk.old }
+    ensures told { is_some (D.content disk.new) ≡ is_some (D.content disk.old) }
+    ensures closed { (ps : List (List ℕ)) → AtGate (D.content disk.old) (D.images disk.old) gate ps (IsClosed ps)
+        → LeavesOnly D.moment D.images D.images_since disk.old disk.new (IsClosed ps) }
+    ensures rests { OnOk result ((ps : List (List ℕ)) → AtGate (D.content disk.old) (D.images disk.old) gate ps (IsClosed ps)
+        → (c : List ℕ) → D.images disk.new c → IsAtRest ps c) }
+    ensures cause { HasCause (D.faults disk.old) (D.faults disk.new) result }
+{
+    disk.cut(gate.saturating_add(1))?;
+    disk.sync()?;
+    Ok(())
+}
+
+/// Whether the gate is open, once that is certain: syncs, and reads the gate.
+fn is_open<D: Disk>(disk: &mut D, gate: u64) -> Result<bool, JournalFault>
+    ensures untouched { IsUntouched D.content D.moment D.images D.images_since disk.old disk.new }
+    ensures only { OnOk result (ForSome (D.content disk.new) (λ file. Only file (D.images disk.new))) }
+    ensures value { IfOk result (λ counts. ForSome (D.content disk.new) (λ file. counts ≡ (slice_index file gate == 1))) }
+    ensures calls { OnOk result (2 ≤ D.calls_left disk.new) }
+    ensures later { D.faults disk.old ≤ D.faults disk.new }
+    ensures cause { IfErr result (HasReason (D.faults disk.old) (D.faults disk.new)) }
+{
+    disk.reserve(3, 0)?;
+    disk.sync()?;
+    let mut byte = [0];
+    let count = disk.read_at(gate, &mut byte)?;
+    Ok(count == 1 && byte[0] == 1)
+}
+
+/// Ends a doubt: where the gate is open the payload behind it counts, and else the file is cut behind the gate.
+pub(crate) fn settle_record<D: Disk>(disk: &mut D, gate: u64) -> Result<bool, JournalFault>
+    requires reach { ForSome (D.content disk.old) (λ file. gate < length file) }
+    requires near { ForSome (D.content disk.old) (λ file. gate < 2 ^ 64 - 1) }
+    ensures told { is_some (D.content disk.new) ≡ is_some (D.content disk.old) }
+    ensures doubtful { (ps : List (List ℕ)) (p : List ℕ)
+        → AtGate (D.content disk.old) (D.images disk.old) gate ps (IsDoubtful ps p)
+        → LeavesOnly D.moment D.images D.images_since disk.old disk.new (IsDoubtful ps p) }
+    ensures settled { IfOk result (λ counts. (ps : List (List ℕ)) (p : List ℕ)
+        → AtGate (D.content disk.old) (D.images disk.old) gate ps (IsDoubtful ps p)
+        → (c : List ℕ) → D.images disk.new c → MatchBool counts (IsAtRest (ps ++ p ∷ []) c) (IsAtRest ps c)) }
+    ensures memory { IsErrOf result JournalFault.Memory
+        → IsUntouched D.content D.moment D.images D.images_since disk.old disk.new }
+    ensures later { D.faults disk.old ≤ D.faults disk.new }
+    ensures cause { IfErr result (HasReason (D.faults disk.old) (D.faults disk.new)) }
+{
+    if is_open(disk, gate)? {
+        return Ok(true);
+    }
+    clear(disk, gate)?;
+    Ok(false)
+}
