@@ -1,0 +1,5 @@
+//! Groups of batches as bytes.
+#![tactic(auto)]
+
+mod number;
+mod stop;
