@@ -1,5 +1,5 @@
 -- Readers of grammars in which no text goes on behind another: each is exact, and so is what is made of them.
-use Rattle.std.proofs.Common.{◌≡◌, refl, ◌⊎◌, inl, inr, ⊎_elim, ℕ, zero, suc, Bool, true, false, if◌then◌else◌, List, [], ◌∷◌, ◌++◌, length, flat_map, Ok, Err, sym, ◌∙◌, ap, subst, arith, append_assoc}
+use Rattle.std.proofs.Common.{◌≡◌, refl, ◌⊎◌, inl, inr, ⊎_elim, ℕ, zero, suc, ◌+◌, ◌-◌, ◌<◌, ◌≤◌, Bool, true, false, if◌then◌else◌, List, [], ◌∷◌, ◌++◌, length, flat_map, Ok, Err, sym, ◌∙◌, ap, subst, arith, append_assoc}
 use Rattle.std.proofs.lemmas.List.{append-nil}
 use Rattle.std.specs.List.{AllByRecursion}
 use Rattle.gd_grammar.specs.Chain.{◌>>=◌}
@@ -234,3 +234,39 @@ module _ {A : Type 0} (spelling : A → List ℕ) (Fits : A → Type 0) (one : L
       (Exact-then (IsText spelling Fits) (Further n) one (λ x. mapped (λ xs. x ∷ xs) (items_at one n)) reads
       (λ x w s. Exact-mapped (λ xs. x ∷ xs) (Items n) (items_at one n) (Exact-items n))
       (λ x w s. let (xs, u, t) = items_some n in (x ∷ xs, u, (xs, refl, t))))
+
+-- ---- the code's loop over items
+
+-- what is read, behind what was read before
+abbrev pub behind : {A : Type 0} → List A → Reads (List A) → Reads (List A)
+behind front r = r >>= λ x. Ok (front ++ x.0, x.1)
+
+behind_cons : {A : Type 0} (front : List A) (x : A) (r : Reads (List A)) → behind front (r >>= λ xs. Ok (x ∷ xs.0, xs.1)) ≡ behind (front ++ x ∷ []) r
+behind_cons {A} front x (Ok (xs, rest)) = ap (λ (l : List A). ok_of (l, rest)) (sym (append_assoc front (x ∷ []) xs))
+behind_cons front x (Err rest) = refl
+
+-- one item more
+pub items_more : {A : Type 0} (one : List ℕ → Reads A) (count place : ℕ) (front : List A) (bytes : List ℕ) (x : A) (rest : List ℕ) → place < count → one bytes ≡ Ok (x, rest)
+    → behind (front ++ x ∷ []) (items_at one (count - (place + 1)) rest) ≡ behind front (items_at one (count - place) bytes)
+items_more {A} one count place front bytes x rest more is =
+    let n = count - 1 - place in
+    let fewer : count - (place + 1) ≡ count - 1 - place = omega arith in
+    let here : count - place ≡ suc (count - 1 - place) = omega (arith, more) in
+    ap (λ (k : ℕ). behind (front ++ x ∷ []) (items_at one k rest)) fewer ∙ sym (behind_cons front x (items_at one n rest))
+    ∙ sym (ap (λ (k : ℕ). behind front (items_at one k bytes)) here ∙ ap (λ (r : Reads A). behind front (r >>= λ y. items_at one n y.1 >>= λ xs. Ok (y.0 ∷ xs.0, xs.1))) is)
+
+-- all items are read
+pub items_done : {A : Type 0} (one : List ℕ → Reads A) (count place : ℕ) (front : List A) (bytes : List ℕ) → count ≤ place → behind front (items_at one (count - place) bytes) ≡ Ok (front, bytes)
+items_done {A} one count place front bytes all =
+    let none : count - place ≡ 0 = omega (arith, all) in
+    ap (λ (k : ℕ). behind front (items_at one k bytes)) none ∙ ap (λ (l : List A). ok_of (l, bytes)) (append-nil front)
+
+-- no items are read yet
+pub items_begun : {A : Type 0} (one : List ℕ → Reads A) (count : ℕ) (bytes : List ℕ) → behind [] (items_at one (count - 0) bytes) ≡ items_at one count bytes
+items_begun {A} one count bytes =
+    let whole : count - 0 ≡ count = omega arith in
+    ap (λ (k : ℕ). behind [] (items_at one k bytes)) whole ∙ alone (items_at one count bytes)
+  where
+    alone : (r : Reads (List A)) → behind [] r ≡ r
+    alone (Ok (xs, rest)) = refl
+    alone (Err rest) = refl

@@ -1,3 +1,5 @@
 pub mod Exact
 pub mod Numbers
 pub mod Stops
+pub mod Utf8Runs
+pub mod Utf8

@@ -229,8 +229,21 @@ number_small (range ∷ ranges) size n fit is =
     ]
 
 pub Exact-number : (ranges : List Range) (size : ℕ) → ordered ranges ≡ true → fits_size size ranges ≡ true → begins_number ranges size 0 ≡ true → Exact (Number ranges size) (number_at ranges size)
+unfolding number_at
 Exact-number ranges size order fit is =
     Exact-same (Tail ranges size 0) (Number ranges size) (number_at ranges size) (λ n w (front, within, w_is). (within, w_is)) (λ n w (within, w_is). (none n (number_small ranges size n fit within), within, w_is)) (Exact-tail ranges order size 0 is)
   where
     none : (n : ℕ) → n < 256 ^ size → n / 256 ^ size ≡ 0
     none n small = let zero_first : n ≡ 0 * 256 ^ size + n = omega arith in ap (λ (x : ℕ). x / 256 ^ size) zero_first ∙ div-mul-add 0 (256 ^ size) n small
+
+-- a number that was read is at most the greatest
+pub number_within : (most size : ℕ) (bytes : List ℕ) (n : ℕ) (rest : List ℕ) → fits_size size ((0, most) ∷ []) ≡ true → begins_number ((0, most) ∷ []) size 0 ≡ true → number_at ((0, most) ∷ []) size bytes ≡ Ok (n, rest) → n ≤ most
+number_within most size bytes n rest fit is reads =
+    let (w, (within, w_is), split) = (Exact-number ((0, most) ∷ []) size order fit is).found bytes n rest reads in
+    elim (or_cases (may_reach 0 n (0, most)) false within) [ inl here ↦ let least = (reach_parts 0 n (0, most) here).1 in omega (arith, least) | inr there ↦ absurd (none there) ]
+  where
+    order : ordered ((0, most) ∷ []) ≡ true
+    order = grind (arith, nat_tests)
+
+    none : false ≡ true → ⊥
+    none e = cc

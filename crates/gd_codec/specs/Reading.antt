@@ -33,7 +33,7 @@ number_from ranges zero n bytes = Ok (n, bytes)
 number_from ranges (suc k) n bytes = byte_if (number_goes_on ranges k n) bytes >>= λ b. number_from ranges k (256 * n + b.0) b.1
 
 -- reads a number of one of the ranges in so many bytes
-abbrev pub number_at : List Range → ℕ → List ℕ → Reads ℕ
+unfoldable pub number_at : List Range → ℕ → List ℕ → Reads ℕ
 number_at ranges size bytes = number_from ranges size 0 bytes
 
 -- ---- texts

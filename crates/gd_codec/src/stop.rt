@@ -2,7 +2,7 @@
 ghost use Rattle.std.specs.Prelude.{◌≡◌};
 
 use gd_base::memory::Memory;
-use gd_base::text::TextFault;
+use std::alloc::AllocFailed;
 use thiserror::Error;
 
 /// Why bytes are not read as a group.
@@ -31,6 +31,16 @@ impl From<Memory> for Stop {
     ghost from_gives = { λ _ stop. stop ≡ no_memory };
 
     fn from(_refused: Memory) -> Stop {
+        Stop::Memory
+    }
+}
+
+impl<T: Drop> From<AllocFailed<T>> for Stop {
+    ghost use Rattle.gd_codec.specs.declared.stop.Stop.TheVariants.{Memory as no_memory};
+
+    ghost from_gives = { λ _ stop. stop ≡ no_memory };
+
+    fn from(_refused: AllocFailed<T>) -> Stop {
         Stop::Memory
     }
 }

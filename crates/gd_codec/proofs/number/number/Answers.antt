@@ -1,6 +1,6 @@
 use Rattle.std.proofs.Common.{◌≡◌, ◌-◌, ◌∙◌, ℕ, sym, ap, arith}
 use Rattle.std.proofs.lemmas.Result.{err_from_is_err_and}
-use Rattle.gd_codec.specs.Reading.{number_from}
+use Rattle.gd_codec.specs.Reading.{number_from, number_at}
 use Rattle.gd_codec.proofs.Stops.{stopped_same}
 use Rattle.gd_codec.proofs.Numbers.{below_56, below_more, byte_small, number_more, number_stops}
 use Rattle.gd_codec.proofs.number.number.Goals as goal
@@ -12,6 +12,7 @@ pub next_byte-requires-clause-fits : goal.next_byte-requires-clause-fits
 next_byte-requires-clause-fits c = below_56 c.loop-place.n c.loop-place.place c.loop-place.invariant.small (omega arith)
 
 pub returns-in_err-byte : goal.returns-in_err-byte
+unfolding number_at
 returns-in_err-byte c =
     let l = c.loop-place in
     let p = err_from_is_err_and c.from_residual.result c.from_residual.ensures.1 in
@@ -38,6 +39,7 @@ loop-place-preserved c =
     }
 
 pub returns : goal.returns
+unfolding number_at
 returns c =
     let l = c.loop-place in
     let done : c.args.size - l.place ≡ 0 = omega arith in
