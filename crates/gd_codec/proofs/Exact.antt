@@ -270,3 +270,35 @@ items_begun {A} one count bytes =
     alone : (r : Reads (List A)) → behind [] r ≡ r
     alone (Ok (xs, rest)) = refl
     alone (Err rest) = refl
+
+-- ---- exact readers of grammars that are not empty
+
+pub record Sound {A : Type 0} (spells : A → List ℕ → Type 0) (read : List ℕ → Reads A) : Type 0 where
+  pub exact : Exact spells read
+  pub some : Some_text spells
+
+pub Sound-then : {A C : Type 0} (first : A → List ℕ → Type 0) (second : A → C → List ℕ → Type 0) (one : List ℕ → Reads A) (two : A → List ℕ → Reads C) → Sound first one
+    → ((a : A) (w : List ℕ) → first a w → Sound (second a) (two a)) → Sound (Then first second) (chain one two)
+Sound-then {A} {C} first second one two begun next = record { exact = Exact-then first second one two begun.exact (λ a w s. (next a w s).exact) (λ a w s. (next a w s).some); some = joined begun.some }
+  where
+    joined : Some_text first → Some_text (Then first second)
+    joined (a, w, s) = let (c, u, t) = (next a w s).some in (c, w ++ u, (a, w, u, s, t, refl))
+
+pub Sound-only : {A : Type 0} (value : A) → Sound (Only value) (λ bytes. Ok (value, bytes))
+Sound-only value = record { exact = Exact-only value; some = only_some value }
+
+pub Sound-same : {A : Type 0} (old new : A → List ℕ → Type 0) (read : List ℕ → Reads A) → ((a : A) (w : List ℕ) → old a w → new a w) → ((a : A) (w : List ℕ) → new a w → old a w) → Sound old read → Sound new read
+Sound-same old new read to from reads = record { exact = Exact-same old new read to from reads.exact; some = turned reads.some }
+  where
+    turned : Some_text old → Some_text new
+    turned (a, w, s) = (a, w, to a w s)
+
+pub Sound-mapped : {A B : Type 0} (f : A → B) (spells : A → List ℕ → Type 0) (read : List ℕ → Reads A) → Sound spells read → Sound (Mapped f spells) (mapped f read)
+Sound-mapped {A} f spells read reads = record { exact = Exact-mapped f spells read reads.exact; some = seen reads.some }
+  where
+    seen : Some_text spells → Some_text (Mapped f spells)
+    seen (a, w, s) = (f a, w, (a, refl, s))
+
+-- a text of two parts
+pub join : {w v u a b : List ℕ} → w ≡ v ++ u → v ≡ a → u ≡ b → w ≡ a ++ b
+join {w} {v} {u} {a} {b} is p q = is ∙ ap (λ (l : List ℕ). l ++ u) p ∙ ap (λ (l : List ℕ). a ++ l) q

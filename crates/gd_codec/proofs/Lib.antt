@@ -3,3 +3,4 @@ pub mod Numbers
 pub mod Stops
 pub mod Utf8Runs
 pub mod Utf8
+mod Values

@@ -13,7 +13,7 @@ use Rattle.gd_codec.specs.Reading.{Range, may_reach, begins_number, number_goes_
 use Rattle.gd_codec.specs.declared.stop.Stop.{Stop}
 use Rattle.gd_codec.specs.Stop.{Stopped}
 use Rattle.gd_codec.proofs.Stops.{stopped_then}
-use Rattle.gd_codec.proofs.Exact.{Exact, Exact-then, Exact-only, Exact-byte, Exact-same, OneByte, byte_found}
+use Rattle.gd_codec.proofs.Exact.{Exact, Sound, Exact-then, Exact-only, Exact-byte, Exact-same, OneByte, byte_found}
 
 -- ---- tests
 
@@ -247,3 +247,28 @@ number_within most size bytes n rest fit is reads =
 
     none : false ≡ true → ⊥
     none e = cc
+
+-- a number from the least to the greatest of a range, in so many bytes
+abbrev pub InRange : ℕ → ℕ → ℕ → ℕ → List ℕ → Type 0
+InRange least most size n w = (least ≤ n) × (n ≤ most) × (w ≡ bytes_high_first size n)
+
+one_range : (least most n : ℕ) → begins_number ((least, most) ∷ []) 0 n ≡ true → (least ≤ n) × (n ≤ most)
+one_range least most n is = elim (or_cases (may_reach 0 n (least, most)) false is) [
+  | inl here ↦ let (low, high) = reach_parts 0 n (least, most) here in (omega (arith, low), omega (arith, high))
+  | inr there ↦ absurd (none there)
+]
+  where
+    none : false ≡ true → ⊥
+    none e = cc
+
+range_one : (least most n : ℕ) → least ≤ n → n ≤ most → begins_number ((least, most) ∷ []) 0 n ≡ true
+range_one least most n low high = or_left (may_reach 0 n (least, most)) false (parts_reach 0 n (least, most) (omega (arith, low)) (omega (arith, high)))
+
+pub Sound-range : (least most size : ℕ) → least ≤ most → fits_size size ((least, most) ∷ []) ≡ true → begins_number ((least, most) ∷ []) size 0 ≡ true → Sound (InRange least most size) (number_at ((least, most) ∷ []) size)
+Sound-range least most size order fit is = record {
+  exact = Exact-same (Number ((least, most) ∷ []) size) (InRange least most size) (number_at ((least, most) ∷ []) size)
+      (λ n w (within, w_is). let (low, high) = one_range least most n within in (low, high, w_is))
+      (λ n w (low, high, w_is). (range_one least most n low high, w_is))
+      (Exact-number ((least, most) ∷ []) size (and_both (nat_le least most) true (le-leb least most order) refl) fit is);
+  some = (least, bytes_high_first size least, (omega arith, order, refl));
+}
