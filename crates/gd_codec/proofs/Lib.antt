@@ -4,3 +4,5 @@ pub mod Stops
 pub mod Utf8Runs
 pub mod Utf8
 mod Values
+mod Primitives
+mod Batches

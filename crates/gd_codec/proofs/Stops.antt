@@ -1,5 +1,5 @@
 -- What follows for a reader of the code from its first steps.
-use Rattle.std.proofs.Common.{◌≡◌, ℕ, suc, ◌-◌, ◌<◌, List, ◌++◌, ◌∷◌, Ok, Err, arith, subst, sym, ap}
+use Rattle.std.proofs.Common.{◌≡◌, ℕ, suc, ◌-◌, ◌<◌, List, ◌++◌, ◌∷◌, Result, Ok, Err, length, refl, arith, subst, sym, ap}
 use Rattle.gd_grammar.specs.Chain.{◌>>=◌}
 use Rattle.gd_grammar.specs.Grammar.{Reads}
 use Rattle.gd_codec.specs.Reading.{items_at}
@@ -14,7 +14,7 @@ stopped_then (Bad left) (Ok x) f s = absurd s
 stopped_then (Bad left) (Err rest) f s = s
 stopped_then Memory r f s = tt
 
-pub stopped_same : {A : Type 0} (e : Stop) (r q : Reads A) → r ≡ q → Stopped e r → Stopped e q
+pub stopped_same : {A : Type 0} (e : Stop) (r q : Result A (List ℕ)) → r ≡ q → Stopped e r → Stopped e q
 stopped_same e r q is s = subst (Stopped e) is s
 
 -- where the first step succeeds, the whole is what follows
@@ -28,3 +28,11 @@ items_stop e one count place front bytes more stopped =
     let here : count - place ≡ suc (count - 1 - place) = omega (arith, more) in
     subst (λ (k : ℕ). Stopped e (behind front (items_at one k bytes))) (sym here)
     (stopped_then e (items_at one (suc n) bytes) (λ x. Ok (front ++ x.0, x.1)) (stopped_then e (one bytes) (λ x. items_at one n x.1 >>= λ xs. Ok (x.0 ∷ xs.0, xs.1)) stopped))
+
+-- where a reader stops, and what is left there
+pub stopped_at : {A : Type 0} (e : Stop) (left : ℕ) (r : Result A (List ℕ)) → e ≡ Bad left → Stopped e r → (rest : List ℕ) × (r ≡ Err rest) × (left ≡ length rest)
+stopped_at {A} e left r is s = by r (subst (λ (x : Stop). Stopped x r) is s)
+  where
+    by : (r : Result A (List ℕ)) → Stopped (Bad left) r → (rest : List ℕ) × (r ≡ Err rest) × (left ≡ length rest)
+    by (Ok x) s = absurd s
+    by (Err rest) s = (rest, refl, s)

@@ -1,5 +1,5 @@
 -- Groups of batches, read from the left: each reader gives a value and the bytes after it, or the bytes at which no group goes on.
-use Rattle.std.specs.Prelude.{ℕ, ◌-◌, ◌^◌, List, [], ◌∷◌, Bool, ◌==◌, Option, Some, None, Ok, if◌then◌else◌}
+use Rattle.std.specs.Prelude.{ℕ, ◌-◌, ◌^◌, List, [], ◌∷◌, Bool, ◌==◌, Option, Some, None, Result, Ok, if◌then◌else◌}
 use Rattle.std.specs.Int.{w64, bit_at, cast_signed}
 use Rattle.gd_base.specs.declared.datum.Precision.{Precision}
 use Rattle.gd_base.specs.declared.datum.Precision.TheVariants.{Year, Month, Day, Time}
@@ -9,7 +9,7 @@ use Rattle.gd_prim.specs.declared.Primitive.{Primitive}
 use Rattle.gd_prim.specs.declared.Batch.{Batch}
 use Rattle.gd_prim.specs.WellFormed.{max_moment}
 use Rattle.gd_grammar.specs.Chain.{◌>>=◌}
-use Rattle.gd_grammar.specs.Grammar.{Reads}
+use Rattle.gd_grammar.specs.Grammar.{Reads, ended}
 use Rattle.gd_codec.specs.Reading.{Range, number_at, utf8_at, items_at}
 
 -- the numbers up to this one
@@ -75,3 +75,7 @@ batch_at bytes = number_at (up_to max_moment) 8 bytes >>= λ m. number_at (up_to
 -- reads a group: the number of its batches, 1 to 256, and the batches
 unfoldable pub group_at : List ℕ → Reads (List Batch)
 group_at bytes = number_at ((1, 256) ∷ []) 2 bytes >>= λ n. items_at batch_at n.0 n.1
+
+-- reads a group, behind which no byte may follow
+abbrev pub whole_group_at : List ℕ → Result (List Batch) (List ℕ)
+whole_group_at bytes = group_at bytes >>= ended

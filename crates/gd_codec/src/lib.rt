@@ -7,3 +7,6 @@ mod primitive;
 mod stop;
 mod text;
 mod value;
+
+pub use group::{Group, decode_group};
+pub use stop::CodecFault;
