@@ -7,6 +7,8 @@ mod primitive;
 mod stop;
 mod text;
 mod value;
+mod write;
 
 pub use group::{Group, decode_group};
 pub use stop::CodecFault;
+pub use write::encode_group;
