@@ -2,6 +2,7 @@
 #![tactic(auto)]
 
 mod group;
+mod length;
 mod number;
 mod primitive;
 mod stop;

@@ -4,6 +4,7 @@ ghost use Rattle.std.specs.List.{AllByRecursion};
 ghost use Rattle.gd_base.specs.Order.{precision_index};
 ghost use Rattle.gd_bytes.specs.Group as group;
 
+use crate::length::group_length;
 use gd_base::datum::{Datum, Precision};
 use gd_base::id::Id;
 use gd_base::memory::Memory;
@@ -159,7 +160,7 @@ pub fn encode_group(alloc: Global, batches: &[Batch]) -> Result<Vec<u8>, Memory>
     requires { group.Fits batches.now }
     ensures { IfOk result (λ bytes. group.IsGroup bytes.items batches.now) }
 {
-    let mut out = Vec::new(alloc);
+    let mut out = Vec::with_capacity(alloc, group_length(batches))?;
     write_bytes(&mut out, &(batches.len() as u16).to_be_bytes())?;
     write_batches(&mut out, batches)?;
     Ok(out)
