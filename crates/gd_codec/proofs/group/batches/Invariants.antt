@@ -1,0 +1,8 @@
+use Rattle.std.proofs.Common.{◌≡◌, ◌-◌}
+use Rattle.gd_codec.specs.Reading.{items_at}
+use Rattle.gd_codec.specs.Groups.{batch_at}
+use Rattle.gd_codec.proofs.Exact.{behind}
+use Rattle.gd_codec.proofs.group.batches.Given as goal
+
+abbrev pub invariant-loop-place : goal.invariant-loop-place
+invariant-loop-place l = behind l.batches.items (items_at batch_at (l.count - l._place) l.rest) ≡ items_at batch_at l.count l.bytes

@@ -1,0 +1,4 @@
+pub mod Reading
+pub mod Stop
+pub mod Groups
+pub mod Dues

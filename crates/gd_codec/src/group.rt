@@ -1,0 +1,129 @@
+//! Groups of batches, read from bytes.
+ghost use Rattle.std.specs.Prelude.{◌≡◌, ◌<◌, ◌≤◌, ℕ, List, MatchResult};
+ghost use Rattle.gd_codec.specs.Reading.{items_at};
+ghost use Rattle.gd_codec.specs.Groups as defined;
+ghost use Rattle.gd_codec.specs.Stop.{Finds, IsCause};
+ghost use Rattle.gd_bytes.specs.Group.{IsGroup};
+ghost use Rattle.gd_prim.specs.declared.Batch.{Batch};
+ghost use Rattle.gd_codec.specs.declared.stop.CodecFault.TheVariants as fault;
+
+use crate::number::{Range, number};
+use crate::primitive::primitive;
+use crate::stop::{CodecFault, Stop};
+use gd_prim::{Batch, Primitive, Prims};
+use std::alloc::Global;
+use std::marker::Model;
+
+const MOMENTS: [Range; 1] = [(0, 253_402_300_799_999)];
+
+const PRIMITIVES: [Range; 1] = [(0, 4096)];
+
+const BATCHES: [Range; 1] = [(1, 256)];
+
+/// Reads so many primitives of this moment.
+fn primitives(
+    alloc: Global,
+    moment: u64,
+    count: u64,
+    bytes: &[u8],
+) -> Result<(Vec<Primitive>, &[u8]), Stop>
+    ensures { Finds (λ x. (x.0.items, x.1.now)) (items_at (defined.primitive_at moment) count bytes.now) result }
+{
+    let mut prims = Vec::new(alloc);
+    let mut rest = bytes;
+    for _place in 0..count {
+        let (prim, behind) = primitive(alloc, moment, rest)?;
+        prims.push(prim)?;
+        rest = behind;
+    }
+    Ok((prims, rest))
+}
+
+/// Reads a batch: its moment, the number of its primitives, and the primitives.
+#[tactic(auto, unfolding(crate::specs::Groups::batch_at))]
+fn batch(alloc: Global, bytes: &[u8]) -> Result<(Batch, &[u8]), Stop>
+    ensures { Finds (λ x. (x.0, x.1.now)) (defined.batch_at bytes.now) result }
+{
+    let (moment, rest) = number(bytes, 8, &MOMENTS)?;
+    let (count, rest) = number(rest, 2, &PRIMITIVES)?;
+    let (prims, rest) = primitives(alloc, moment, count, rest)?;
+    let batch = Batch {
+        moment,
+        prims: Prims::from(prims),
+    };
+    Ok((batch, rest))
+}
+
+/// Reads so many batches.
+fn batches(alloc: Global, count: u64, bytes: &[u8]) -> Result<(Vec<Batch>, &[u8]), Stop>
+    ensures { Finds (λ x. (x.0.items, x.1.now)) (items_at defined.batch_at count bytes.now) result }
+{
+    let mut batches = Vec::new(alloc);
+    let mut rest = bytes;
+    for _place in 0..count {
+        let (batch, behind) = batch(alloc, rest)?;
+        batches.push(batch)?;
+        rest = behind;
+    }
+    Ok((batches, rest))
+}
+
+/// Reads a group: the number of its batches, 1 to 256, and the batches.
+#[tactic(auto, unfolding(crate::specs::Groups::group_at))]
+fn counted_batches(alloc: Global, bytes: &[u8]) -> Result<(Vec<Batch>, &[u8]), Stop>
+    ensures { Finds (λ x. (x.0.items, x.1.now)) (defined.group_at bytes.now) result }
+{
+    let (count, rest) = number(bytes, 2, &BATCHES)?;
+    batches(alloc, count, rest)
+}
+
+/// The batches of which the bytes are the group.
+fn whole_group(alloc: Global, bytes: &[u8]) -> Result<Vec<Batch>, Stop>
+    ensures { Finds (λ x. x.items) (defined.whole_group_at bytes.now) result }
+{
+    let (batches, rest) = counted_batches(alloc, bytes)?;
+    if !rest.is_empty() {
+        return Err(Stop::Bad { left: rest.len() });
+    }
+    Ok(batches)
+}
+
+/// The batches that a record of a log holds. Contracts see them as their list.
+#[derive(Drop)]
+pub struct Group {
+    batches: Vec<Batch>,
+}
+
+impl Model for Group {
+    ghost use Rattle.std.specs.Prelude.{List};
+    ghost use Rattle.gd_prim.specs.declared.Batch.{Batch};
+
+    ghost Value = { List Batch };
+
+    ghost view = { λ group. group.batches.items };
+}
+
+impl Group {
+    /// The batches in their order, 1 to 256.
+    pub fn batches(&self) -> &[Batch]
+        ensures { result.now ≡ self.now }
+    {
+        self.batches.as_slice()
+    }
+}
+
+/// Reads a group of batches. `BadBytes`: the bytes are no group, or more follow one; the longest front of the bytes
+/// that begins some group has `offset` bytes. Each group has one spelling, so what was read is written as these bytes.
+pub fn decode_group(alloc: Global, bytes: &[u8]) -> Result<Group, CodecFault>
+    ensures read { MatchResult result (λ group. IsGroup bytes.now group) (IsCause bytes.now) }
+    ensures again { (batches : List Batch) → IsGroup bytes.now batches
+        → MatchResult result (λ group. group ≡ batches) (λ refused. refused ≡ fault.Memory) }
+{
+    match whole_group(alloc, bytes) {
+        Ok(batches) => Ok(Group { batches }),
+        Err(Stop::Bad { left }) => Err(CodecFault::BadBytes {
+            offset: (bytes.len() - left) as u64,
+        }),
+        Err(Stop::Memory) => Err(CodecFault::Memory),
+    }
+}

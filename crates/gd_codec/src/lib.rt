@@ -1,0 +1,18 @@
+//! Groups of batches as bytes.
+#![tactic(auto)]
+
+mod group;
+mod length;
+mod number;
+mod primitive;
+mod stop;
+mod text;
+mod value;
+mod write;
+
+pub use group::{Group, decode_group};
+pub use stop::CodecFault;
+pub use write::encode_group;
+
+#[cfg(test)]
+mod tests;

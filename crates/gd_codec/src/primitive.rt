@@ -1,0 +1,80 @@
+//! Primitives: a byte of flags, the references that it announces, a value, and a name where it announces one.
+ghost use Rattle.std.specs.Prelude.{◌≡◌, ◌<◌, ◌≤◌, ℕ};
+ghost use Rattle.gd_codec.specs.Groups as defined;
+ghost use Rattle.gd_codec.specs.Stop.{Finds};
+
+use crate::number::{Range, number};
+use crate::stop::Stop;
+use crate::text::text;
+use crate::value::value;
+use gd_base::id::Id;
+use gd_base::text::Text;
+use gd_prim::Primitive;
+use std::alloc::Global;
+
+const FLAGS: [Range; 1] = [(0, 127)];
+
+const PLACES: [Range; 1] = [(0, 4_294_967_295)];
+
+/// Whether the flag at this place of a flag byte is set.
+fn flag(flags: u64, place: u32) -> bool
+    requires { place < 8 }
+    ensures { result ≡ defined.flag_at flags place }
+{
+    flags >> place & 1 == 1
+}
+
+/// Reads a reference where it is there.
+#[tactic(auto, unfolding(crate::specs::Groups::reference_at))]
+fn reference(present: bool, bytes: &[u8]) -> Result<(Option<u32>, &[u8]), Stop>
+    ensures { Finds (λ x. (x.0, x.1.now)) (defined.reference_at present bytes.now) result }
+{
+    if !present {
+        return Ok((None, bytes));
+    }
+    let (place, rest) = number(bytes, 4, &PLACES)?;
+    Ok((Some(place as u32), rest))
+}
+
+/// Reads a name where it is there.
+#[tactic(auto, unfolding(crate::specs::Groups::name_at))]
+fn name(alloc: Global, present: bool, bytes: &[u8]) -> Result<(Option<Text>, &[u8]), Stop>
+    ensures { Finds (λ x. (x.0, x.1.now)) (defined.name_at present bytes.now) result }
+{
+    if !present {
+        return Ok((None, bytes));
+    }
+    let (text, rest) = text(alloc, bytes)?;
+    Ok((Some(text), rest))
+}
+
+/// Reads a primitive of this moment.
+#[tactic(auto, unfolding(crate::specs::Groups::primitive_at))]
+pub(crate) fn primitive(
+    alloc: Global,
+    moment: u64,
+    bytes: &[u8],
+) -> Result<(Primitive, &[u8]), Stop>
+    ensures { Finds (λ x. (x.0, x.1.now)) (defined.primitive_at moment bytes.now) result }
+{
+    let (flags, rest) = number(bytes, 1, &FLAGS)?;
+    let (left, rest) = reference(flag(flags, 0), rest)?;
+    let (right, rest) = reference(flag(flags, 1), rest)?;
+    let (typ, rest) = reference(flag(flags, 2), rest)?;
+    let (scope, rest) = reference(flag(flags, 3), rest)?;
+    let (previous, rest) = reference(flag(flags, 4), rest)?;
+    let (value, rest) = value(alloc, rest)?;
+    let (name, rest) = name(alloc, flag(flags, 5), rest)?;
+    let prim = Primitive {
+        left: left.map(Id::new),
+        right: right.map(Id::new),
+        typ: typ.map(Id::new),
+        scope: scope.map(Id::new),
+        value,
+        name,
+        previous: previous.map(Id::new),
+        live: flag(flags, 6),
+        moment,
+    };
+    Ok((prim, rest))
+}
