@@ -4,11 +4,10 @@ use Rattle.std.specs.Result.{result_unwrap_or}
 use Rattle.std.proofs.lemmas.List.{map-append}
 use Rattle.gd_prim.specs.declared.Primitive.{Primitive}
 use Rattle.gd_prim.specs.History.{prims_of}
-use Rattle.gd_runs.specs.Explained.{Numbered, memory_line, IsExplainedBy}
-use Rattle.gd_runs.specs.Legal.{History}
+use Rattle.gd_runs.specs.Explained.{Numbered, memory_line}
 use Rattle.gd_runs.specs.Built.{SaysName, is_built}
 use Rattle.gd_change.proofs.Tested.{says_at_first}
-use Rattle.gd_runs.proofs.Rounds.{no_some, get_cases}
+use Rattle.gd_runs.proofs.Rounds.{no_some, get_cases, no_round}
 use Rattle.gd_base.specs.declared.memory.Memory.{Memory}
 use Rattle.gd_input.specs.Rounds.{in_round}
 use Rattle.gd_serving.specs.Served.{Progress, IsServed, AreUpto, GoesOn}
@@ -77,22 +76,6 @@ goes_answered may p s q bytes (Err e) fallback reply is made says comes same mov
 
 -- ---- the run before its first line
 
-abbrev empty : History
-empty = record { loaded = []; entries = [] }
-
-nothing_explained : (may : ℕ → Bool) → IsExplainedBy is_built [] may [] [] empty []
-nothing_explained may = record {
-  begins = refl;
-  legal = record { loaded = refl; entries = tt; lines = λ i j x y is. no_some is };
-  lines = refl;
-  replies = refl;
-  each = λ k r is. no_some is;
-  entries = λ e entry is. no_some is;
-  bounds = λ k r n is. no_some is;
-  order = λ d e x y q r is. no_some is;
-  moments = λ e entry is. no_some is;
-}
-
 -- it is served
 pub served_at_first : (may : ℕ → Bool) → IsServed may [] [] (record { batches = []; lines = 0; kept = 0 })
-served_at_first may = record { history = empty; runs = []; explained = nothing_explained may; stored = refl; numbered = refl; counted = refl; says = says_at_first }
+served_at_first may = record { history = record { loaded = []; entries = [] }; runs = []; explained = no_round is_built [] may refl; stored = refl; numbered = refl; counted = refl; says = says_at_first }
