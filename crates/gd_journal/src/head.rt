@@ -16,7 +16,7 @@ pub(crate) const HEAD: u64 = 5;
 
 /// What stands at a gate: no record, one that is damaged, or one whose payload has so many bytes.
 #[derive(Clone, Copy)]
-pub enum Head {
+pub(crate) enum Head {
     End,
     Torn,
     Record(u32),

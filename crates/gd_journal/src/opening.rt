@@ -27,7 +27,7 @@ const FRESH: [u8; 9] = *b"GRAPHD1\n\0";
 
 /// Where the records of a file end: the offset of the gate there, and again where a damaged record stands there.
 #[derive(Clone, Copy)]
-pub struct Ending {
+pub(crate) struct Ending {
     gate: u64,
     damaged: Option<u64>,
 }
