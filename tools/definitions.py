@@ -48,6 +48,8 @@ CRATES = [
     ("gd_json", "The JSON that bytes are.", ["Reading"], False),
     ("gd_bytes", "Bytes: texts of cursors and of frozen readings, groups of batches, files, and what a disk leaves.",
      ["Cursor", "Group", "File", "Disk", "Frozen", "FrozenRead"], True),
+    ("gd_journal", "The file of a journal: which payloads it stands for, and what a journal is between two calls.",
+     ["Meaning", "Shape", "State"], False),
     ("gd_runs", "Runs: lines and their replies, histories that explain them, suspended readings and how much work they take.",
      ["Request", "Input", "Legal", "Explained/Lines", "Explained/Outcomes", "Explained/Runs", "Explained", "Explained/Rounds",
       "RootSets", "Work", "Owed", "Scanned", "Shape/Answers", "Shape/Ids", "Shape", "Thawed", "Fitting",

@@ -5,3 +5,4 @@ mod Runs
 mod Kept
 mod Heads
 mod Found
+mod Rows

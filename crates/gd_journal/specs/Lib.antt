@@ -4,3 +4,4 @@ pub mod State
 pub mod Causes
 pub mod Heads
 pub mod Found
+pub mod Laws

@@ -1,10 +1,15 @@
 -- What the file of a journal stands for.
 use Rattle.std.specs.Prelude.{◌≡◌, ◌⊎◌, ℕ, ◌+◌, List, [], ◌∷◌, ◌++◌, length, take, nat_le, bytes_eq, Option, Some, None, if◌then◌else◌}
-use Rattle.gd_bytes.specs.File.{Payloads, header, payloads, no_payloads}
+use Rattle.gd_bytes.specs.File.{Meaning, not_store, groups_of, Payloads, header, payloads, no_payloads}
 
 -- The payloads that a file holds: an unfinished creation holds none, and what is no store is told apart.
 unfoldable pub held_by : List ℕ → Option Payloads
 held_by file = if nat_le (length file) 9 then Some no_payloads else if bytes_eq (take 8 file) header then Some (payloads file) else None
+
+-- The meaning of a file that holds these payloads, or is no store.
+abbrev pub meant : Option Payloads → Meaning
+meant None = not_store
+meant (Some found) = groups_of [] found.list found.damaged
 
 -- Payloads with the offsets of their gates, where the first gate has this one.
 abbrev pub located : ℕ → List (List ℕ) → List (ℕ × List ℕ)

@@ -39,6 +39,6 @@ Standing content images gate (Some next) None = (ps : List (List ℕ)) × (p : L
 Standing content images gate None (Some at) = (c : List ℕ) → images c → IsDamagedAt at c
 Standing content images gate (Some next) (Some at) = ⊥
 
--- So it is where the disk tells its content.
+-- Where the disk tells its content, each image stands for some payloads, with one in doubt or none, or has its first damaged record here.
 abbrev pub Keeps : Option (List ℕ) → (List ℕ → Type 0) → ℕ → Option ℕ → Option ℕ → Type 0
 Keeps content images gate doubt damaged = IsSome content → Standing content images gate doubt damaged

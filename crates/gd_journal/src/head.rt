@@ -1,5 +1,5 @@
 //! What stands at a gate.
-ghost use Rattle.std.specs.Prelude.{◌≡◌, ◌+◌, ◌-◌, ◌<◌, ◌≤◌, List, ℕ, length, take, drop, IfOk, OnOk};
+ghost use Rattle.std.specs.Prelude.{◌≡◌, ◌+◌, ◌-◌, ◌<◌, ◌≤◌, List, ℕ, length, take, drop, IfOk};
 ghost use Rattle.std.specs.Option.{ForSome};
 ghost use Rattle.gd_base.specs.Counts.{HasCause};
 ghost use Rattle.gd_bytes.specs.Disk.{Stays, Elapses};
@@ -16,7 +16,7 @@ pub(crate) const HEAD: u64 = 5;
 
 /// What stands at a gate: no record, one that is damaged, or one whose payload has so many bytes.
 #[derive(Clone, Copy)]
-pub enum Head {
+pub(crate) enum Head {
     End,
     Torn,
     Record(u32),

@@ -1,5 +1,5 @@
 //! A journal: payloads in a file, to which one more may be added.
-ghost use Rattle.std.specs.Prelude.{◌≡◌, ◌+◌, ◌^◌, ◌<◌, ◌≤◌, ◌++◌, ◌∷◌, ◌↔◌, [], List, ℕ, None, length, min, ◌-◌, IsSome, IfSome, IsErrOf, OnOk, IfOk, IfErr, IsErr, MatchBool, OnErr, Some};
+ghost use Rattle.std.specs.Prelude.{◌≡◌, ◌+◌, ◌^◌, ◌<◌, ◌≤◌, ◌++◌, ◌∷◌, ◌↔◌, [], List, ℕ, None, length, IsSome, IfSome, IsErrOf, OnOk, IfOk, IfErr, IsErr, MatchBool, OnErr, Some};
 ghost use Rattle.std.specs.Option.{ForSome, is_some};
 ghost use Rattle.gd_bytes.specs.Disk.{LeavesOnly, IsUntouched};
 ghost use Rattle.gd_journal.specs.Found.{found_in};

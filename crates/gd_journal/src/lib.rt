@@ -8,3 +8,5 @@ pub mod opening;
 pub mod payloads;
 pub mod reading;
 pub mod record;
+#[cfg(test)]
+mod tests;

@@ -1,5 +1,5 @@
 //! Opening a file that a stop may have left.
-ghost use Rattle.std.specs.Prelude.{◌≡◌, ◌≢◌, ◌⊎◌, ◌+◌, ◌-◌, ◌^◌, ◌<◌, ◌≤◌, ◌↔◌, [], List, ℕ, None, Some, true, length, take, drop, OnOk, IfOk, IfErr, IsErrOf, MatchOption, MatchResult};
+ghost use Rattle.std.specs.Prelude.{◌≡◌, ◌≢◌, ◌+◌, ◌<◌, ◌≤◌, ◌↔◌, [], List, ℕ, None, Some, true, length, take, OnOk, IfOk, IfErr, IsErrOf, MatchOption, MatchResult};
 ghost use Rattle.std.specs.Option.{ForSome, is_some};
 ghost use Rattle.gd_base.specs.Counts.{HasCause};
 ghost use Rattle.gd_bytes.specs.Disk.{LeavesOnly, IsUntouched, Only};
@@ -27,7 +27,7 @@ const FRESH: [u8; 9] = *b"GRAPHD1\n\0";
 
 /// Where the records of a file end: the offset of the gate there, and again where a damaged record stands there.
 #[derive(Clone, Copy)]
-pub struct Ending {
+pub(crate) struct Ending {
     gate: u64,
     damaged: Option<u64>,
 }

@@ -1,6 +1,5 @@
-use Rattle.std.proofs.Common.{◌≡◌, ℕ, List, Some, None, refl, sym, ◌∙◌, ap}
+use Rattle.std.proofs.Common.{ap}
 use Rattle.std.specs.Option.{is_some}
-use Rattle.gd_journal.specs.State.{Journaled}
 use Rattle.gd_journal.proofs.Kept.{settled_of, settled_long}
 use Rattle.gd_journal.proofs.journal.Journal.gate.Goals as goal
 
