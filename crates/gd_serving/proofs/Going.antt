@@ -1,33 +1,32 @@
 -- How a served run goes on with the lines of a round.
-use Rattle.std.proofs.Common.{◌≡◌, ℕ, zero, suc, ◌+◌, ◌≤◌, Bool, List, [], ◌∷◌, ◌++◌, Some, slice_get, refl, sym, subst, ap, ◌∙◌, ⊎_elim, arith, append-nil, append_assoc, Result, Ok, Err, IfOk, OnErr, Vec, Global}
+use Rattle.std.proofs.Common.{◌≡◌, ℕ, zero, suc, ◌+◌, ◌≤◌, Bool, true, List, [], ◌∷◌, ◌++◌, None, Some, slice_get, refl, sym, subst, ap, ◌∙◌, inl, ⊎_elim, arith, append-nil, append_assoc, Result, Ok, Err, IfOk, OnErr, Vec, Global}
 use Rattle.std.specs.Result.{result_unwrap_or}
 use Rattle.std.proofs.lemmas.List.{map-append}
-use Rattle.gd_prim.specs.declared.Primitive.{Primitive}
-use Rattle.gd_prim.specs.History.{prims_of}
+use Rattle.gd_prim.specs.declared.Batch.{Batch}
+use Rattle.gd_prim.specs.Builtin.{builtin}
+use Rattle.gd_prim.specs.WellFormed.{all_follow}
 use Rattle.gd_runs.specs.Explained.{Numbered, memory_line}
-use Rattle.gd_runs.specs.Built.{SaysName, is_built}
-use Rattle.gd_change.proofs.Tested.{says_at_first}
+use Rattle.gd_runs.specs.Built.{is_built}
 use Rattle.gd_runs.proofs.Rounds.{no_some, get_cases, no_round}
 use Rattle.gd_base.specs.declared.memory.Memory.{Memory}
 use Rattle.gd_input.specs.Rounds.{in_round}
 use Rattle.gd_serving.specs.Served.{Progress, IsServed, AreUpto, GoesOn}
-use Rattle.gd_serving.specs.Step.{ComesTo}
-use Rattle.gd_serving.proofs.Replies.{prims_at-all}
-use Rattle.gd_serving.proofs.Steps.{next, comes_served, memory_served}
+use Rattle.gd_serving.specs.Step.{ComesTo, without_memory}
+use Rattle.gd_serving.proofs.Steps.{next, comes_served}
 
 -- the reply to a line
-pub goes_by_reply : (may : ℕ → Bool) (p q : Progress) (bytes reply : List ℕ) → SaysName (prims_of q.batches) → ComesTo may p bytes reply q → GoesOn may p (next q) (bytes ∷ []) (reply ++ 10 ∷ [])
-goes_by_reply may p q bytes reply says comes given before round served upto =
-    comes_served may given before p q (record { bytes = bytes; round = round }) reply served upto (subst (λ (ps : List Primitive). SaysName ps) (sym (prims_at-all q.batches)) says) comes
+pub goes_by_reply : (may : ℕ → Bool) (p q : Progress) (bytes reply : List ℕ) → ComesTo may p bytes reply q → GoesOn may p (next q) (bytes ∷ []) (reply ++ 10 ∷ [])
+goes_by_reply may p q bytes reply comes loaded given before round served upto =
+    comes_served loaded may given before p q (record { bytes = bytes; round = round }) reply served upto comes
 
 -- the line that is printed without memory
 pub goes_without_memory : (may : ℕ → Bool) (p : Progress) (bytes : List ℕ) → GoesOn may p (next p) (bytes ∷ []) (memory_line p.lines ++ 10 ∷ [])
-goes_without_memory may p bytes given before round served upto = memory_served may given before p (record { bytes = bytes; round = round }) served upto
+goes_without_memory may p bytes = goes_by_reply may p p bytes (memory_line p.lines) (without_memory p (inl refl) refl refl)
 
 -- no line
 pub goes_nowhere : (may : ℕ → Bool) (p : Progress) → GoesOn may p p [] []
-goes_nowhere may p given before round served upto =
-    subst (λ (ls : List Numbered). IsServed may ls (before ++ []) p) (sym (append-nil given)) (subst (λ (out : List ℕ). IsServed may given out p) (sym (append-nil before)) served)
+goes_nowhere may p loaded given before round served upto =
+    subst (λ (ls : List Numbered). IsServed loaded may ls (before ++ []) p) (sym (append-nil given)) (subst (λ (out : List ℕ). IsServed loaded may given out p) (sym (append-nil before)) served)
 
 in_this : (round : ℕ) (lines : List (List ℕ)) (k : ℕ) (l : Numbered) → slice_get (in_round round lines) k ≡ Some l → l.round ≤ round
 in_this round [] k l is = no_some is
@@ -39,12 +38,12 @@ upto_more given round lines upto k l is = ⊎_elim (λ old. upto k l old) (λ (j
 
 -- lines and then others
 pub goes_further : (may : ℕ → Bool) (p q r : Progress) (xs ys : List (List ℕ)) (a b : List ℕ) → GoesOn may p q xs a → GoesOn may q r ys b → GoesOn may p r (xs ++ ys) (a ++ b)
-goes_further may p q r xs ys a b first second given before round served upto =
-    let both = second (given ++ in_round round xs) (before ++ a) round (first given before round served upto) (upto_more given round xs upto) in
+goes_further may p q r xs ys a b first second loaded given before round served upto =
+    let both = second loaded (given ++ in_round round xs) (before ++ a) round (first loaded given before round served upto) (upto_more given round xs upto) in
     let lines : (given ++ in_round round xs) ++ in_round round ys ≡ given ++ in_round round (xs ++ ys) =
     append_assoc given (in_round round xs) (in_round round ys) ∙ ap (λ (ls : List Numbered). given ++ ls) (sym (map-append (λ (line : List ℕ). record { bytes = line; round = round }) xs ys)) in
-    subst (λ (ls : List Numbered). IsServed may ls (before ++ (a ++ b)) r) lines
-    (subst (λ (out : List ℕ). IsServed may ((given ++ in_round round xs) ++ in_round round ys) out r) (append_assoc before a b) both)
+    subst (λ (ls : List Numbered). IsServed loaded may ls (before ++ (a ++ b)) r) lines
+    (subst (λ (out : List ℕ). IsServed loaded may ((given ++ in_round round xs) ++ in_round round ys) out r) (append_assoc before a b) both)
 
 -- what would be printed for lines without memory
 abbrev pub memory_lines : ℕ → List (List ℕ) → List ℕ
@@ -64,12 +63,12 @@ goes_unanswered may p (l ∷ ls) = goes_further may p (next p) (after (next p) l
 
 -- a line for which a reply was found or was not, so that what was made before is printed
 pub goes_answered : (may : ℕ → Bool) (p s q : Progress) (bytes : List ℕ) (r : Result (Vec ℕ Global) Memory) (fallback reply : Vec ℕ Global) → reply ≡ result_unwrap_or r fallback
-    → fallback.items ≡ memory_line p.lines → SaysName (prims_of s.batches) → IfOk r (λ found. ComesTo may p bytes found.items s) → OnErr r (s ≡ p) → q ≡ next s
+    → fallback.items ≡ memory_line p.lines → IfOk r (λ found. ComesTo may p bytes found.items s) → OnErr r (s ≡ p) → q ≡ next s
     → GoesOn may p q (bytes ∷ []) (reply.items ++ 10 ∷ [])
-goes_answered may p s q bytes (Ok found) fallback reply is made says comes same moved =
+goes_answered may p s q bytes (Ok found) fallback reply is made comes same moved =
     subst (λ (v : Vec ℕ Global). GoesOn may p q (bytes ∷ []) (v.items ++ 10 ∷ [])) (sym is)
-    (subst (λ (x : Progress). GoesOn may p x (bytes ∷ []) (found.items ++ 10 ∷ [])) (sym moved) (goes_by_reply may p s bytes found.items says comes))
-goes_answered may p s q bytes (Err e) fallback reply is made says comes same moved =
+    (subst (λ (x : Progress). GoesOn may p x (bytes ∷ []) (found.items ++ 10 ∷ [])) (sym moved) (goes_by_reply may p s bytes found.items comes))
+goes_answered may p s q bytes (Err e) fallback reply is made comes same moved =
     subst (λ (v : Vec ℕ Global). GoesOn may p q (bytes ∷ []) (v.items ++ 10 ∷ [])) (sym is)
     (subst (λ (out : List ℕ). GoesOn may p q (bytes ∷ []) (out ++ 10 ∷ [])) (sym made)
     (subst (λ (x : Progress). GoesOn may p x (bytes ∷ []) (memory_line p.lines ++ 10 ∷ [])) (sym (moved ∙ ap next same)) (goes_without_memory may p bytes)))
@@ -77,5 +76,13 @@ goes_answered may p s q bytes (Err e) fallback reply is made says comes same mov
 -- ---- the run before its first line
 
 -- it is served
-pub served_at_first : (may : ℕ → Bool) → IsServed may [] [] (record { batches = []; lines = 0; kept = 0 })
-served_at_first may = record { history = record { loaded = []; entries = [] }; runs = []; explained = no_round is_built [] may refl; stored = refl; numbered = refl; counted = refl; says = says_at_first }
+pub served_at_first : (loaded : List Batch) (may : ℕ → Bool) → all_follow builtin 0 loaded ≡ true → IsServed loaded may [] [] (record { batches = loaded; lines = 0; kept = 0; doubt = None })
+served_at_first loaded may follow = record {
+  history = record { loaded = loaded; entries = [] };
+  runs = [];
+  explained = no_round is_built loaded may follow;
+  stored = append-nil loaded;
+  numbered = refl;
+  counted = refl;
+  doubted = tt;
+}

@@ -52,12 +52,12 @@ pub struct Serving {
 }
 
 impl Model for Serving {
-    ghost use Rattle.std.specs.Prelude.{◌≤◌};
+    ghost use Rattle.std.specs.Prelude.{◌≤◌, None};
     ghost use Rattle.gd_serving.specs.Served.{Progress};
 
     ghost Value = { Progress };
 
-    ghost view = { λ s. record { batches = s.store; lines = s.lines; kept = s.kept } };
+    ghost view = { λ s. record { batches = s.store; lines = s.lines; kept = s.kept; doubt = None } };
 
     ghost invariant = { λ s. s.kept ≤ 134_217_728 };
 }
@@ -74,9 +74,9 @@ fn moment<C: Clock>(clock: &mut C) -> u64
 impl Serving {
     /// A run that begins with the empty store.
     pub fn new(alloc: Global) -> Result<Serving, Memory>
-        ensures empty { IfOk result (λ s. s ≡ record { batches = []; lines = 0; kept = 0 }) }
+        ensures empty { IfOk result (λ s. s ≡ record { batches = []; lines = 0; kept = 0; doubt = None }) }
         ensures says { IfOk result (λ s. SaysName (prims_of s.batches)) }
-        ensures served { IfOk result (λ s. (may : ℕ → Bool) → IsServed may [] [] s) }
+        ensures served { IfOk result (λ s. (may : ℕ → Bool) → IsServed [] may [] [] s) }
     {
         Ok(Serving {
             store: Store::new(alloc)?,
@@ -143,7 +143,7 @@ impl Serving {
     /// Goes on to the next line.
     pub fn next_line(&mut self)
         requires { self.old.lines < 2 ^ 63 }
-        ensures { self.new ≡ record { batches = self.old.batches; lines = self.old.lines + 1; kept = self.old.kept } }
+        ensures { self.new ≡ record { batches = self.old.batches; lines = self.old.lines + 1; kept = self.old.kept; doubt = self.old.doubt } }
     {
         self.lines += 1;
     }

@@ -50,7 +50,7 @@ module _ (may now : ℕ → Bool) (same : now ≡ may) (old mid new : Option (Li
 
 module _ (may : ℕ → Bool) (old new : Option (List ℕ)) (p : Progress) where
   -- before the first round
-  pub start_known : (a : Option (List ℕ)) → IsServed may [] [] p → Known a (prepend_known [] a) (ServedUpto may old old p)
+  pub start_known : (a : Option (List ℕ)) → IsServed [] may [] [] p → Known a (prepend_known [] a) (ServedUpto may old old p)
   start_known None served = tt
   start_known (Some x) served = served_none may old p x served
 
@@ -80,7 +80,7 @@ taken_known (Some x) (Some y) n m advances below =
 
 -- nothing was printed
 pub nothing_known : (may : ℕ → Bool) (held a : Option (List ℕ)) → IfSome a (ServesFront may held held)
-nothing_known may held a = front_known may held held _ a (prepend_known [] a) (start_known may held held _ a (served_at_first may))
+nothing_known may held a = front_known may held held _ a (prepend_known [] a) (start_known may held held _ a (served_at_first [] may refl))
 
 -- the count of lines stays small
 pub counted_on : (lines few now before after : ℕ) → lines ≤ 256 * before → few ≤ 256 → before < after → now ≡ lines + few → now ≤ 256 * after
@@ -99,8 +99,8 @@ pub record Begun (may : ℕ → Bool) (held : Option (List ℕ)) (p : Progress) 
   pub counted : p.lines ≤ 256 * reader.consumed
   pub bounded : IsBounded reader
 
-pub begun : (may : ℕ → Bool) (held : Option (List ℕ)) (p : Progress) (reader : Held) (a : Option (List ℕ)) → reader ≡ record { bytes = []; consumed = 0 } → IsServed may [] [] p
-    → p ≡ record { batches = []; lines = 0; kept = 0 } → Begun may held p reader a
+pub begun : (may : ℕ → Bool) (held : Option (List ℕ)) (p : Progress) (reader : Held) (a : Option (List ℕ)) → reader ≡ record { bytes = []; consumed = 0 } → IsServed [] may [] [] p
+    → p ≡ record { batches = []; lines = 0; kept = 0; doubt = None } → Begun may held p reader a
 begun may held p reader a new served empty = subst (λ (r : Held). Begun may held p r a) (sym new) (record {
   upto = start_known may held held p a served;
   advances = advances_none a;

@@ -14,8 +14,8 @@ use Rattle.gd_input.specs.declared.round.Round.{Round}
 use Rattle.gd_input.specs.Line.{IsKept}
 use Rattle.gd_input.specs.Rounds.{AreKept, in_round, TakesRound}
 use Rattle.gd_serving.specs.Served.{Progress, IsServed, AreUpto, GoesOn}
-use Rattle.gd_serving.proofs.Steps.{next, memory_served}
-use Rattle.gd_serving.proofs.Going.{goes_nowhere, goes_further, upto_more, after, memory_lines, goes_unanswered}
+use Rattle.gd_serving.proofs.Steps.{next}
+use Rattle.gd_serving.proofs.Going.{goes_nowhere, goes_without_memory, goes_further, upto_more, after, memory_lines, goes_unanswered}
 use Rattle.gd_top.specs.Serves.{Serves, ServesFront, ServesRounds, GainsFront, Answers, AnswersFront, ServedUpto}
 
 -- ---- lines of a round
@@ -123,7 +123,7 @@ whole_front may p q texts old new answers = record {
 -- ---- whole rounds
 
 -- before the first round
-pub served_none : (may : ℕ → Bool) (held : Option (List ℕ)) (p : Progress) (input : List ℕ) → IsServed may [] [] p → ServedUpto may held held p input input
+pub served_none : (may : ℕ → Bool) (held : Option (List ℕ)) (p : Progress) (input : List ℕ) → IsServed [] may [] [] p → ServedUpto may held held p input input
 served_none may held p input served = record { round = 0; given = []; output = []; lines = refl; earlier = λ k l is. no_some is; served = served; gained = Appends-nil held }
 
 upto_of : (given : List Numbered) (round : ℕ) → ((k : ℕ) (l : Numbered) → slice_get given k ≡ Some l → l.round < round) → AreUpto given round
@@ -144,7 +144,7 @@ served_more may old mid new p q input left after taken upto takes answers =
       output = upto.output ++ here.output;
       lines = upto.lines ∙ (ap (λ (ls : List Numbered). upto.given ++ ls) (takes.rounds upto.round) ∙ sym (append_assoc upto.given (in_round upto.round takes.lines) (numbered (upto.round + 1) 0 (pieces [] after))));
       earlier = earlier_more upto.given upto.round takes.lines upto.earlier;
-      served = here.goes upto.given upto.output upto.round upto.served (upto_of upto.given upto.round upto.earlier);
+      served = here.goes [] upto.given upto.output upto.round upto.served (upto_of upto.given upto.round upto.earlier);
       gained = Appends-trans old mid new upto.output here.output upto.gained here.gained;
     }
 
@@ -189,38 +189,38 @@ served_rounds may old new p input left upto =
 record Unanswered (may : ℕ → Bool) (given : List Numbered) (output : List ℕ) (more : List Numbered) : Type 0 where
   rest : List ℕ
   after : Progress
-  served : IsServed may (given ++ more) (output ++ rest) after
+  served : IsServed [] may (given ++ more) (output ++ rest) after
 
 later_upto : (given : List Numbered) (m n : ℕ) → m ≤ n → AreUpto given m → AreUpto given n
 later_upto given m n below upto k l is = let here = upto k l is in omega (arith, here, below)
 
-none_more : (may : ℕ → Bool) (given : List Numbered) (output : List ℕ) (p : Progress) → IsServed may given output p → Unanswered may given output []
+none_more : (may : ℕ → Bool) (given : List Numbered) (output : List ℕ) (p : Progress) → IsServed [] may given output p → Unanswered may given output []
 none_more may given output p served = record {
   rest = [];
   after = p;
-  served = subst (λ (ls : List Numbered). IsServed may ls (output ++ []) p) (sym (append-nil given)) (subst (λ (out : List ℕ). IsServed may given out p) (sym (append-nil output)) served);
+  served = subst (λ (ls : List Numbered). IsServed [] may ls (output ++ []) p) (sym (append-nil given)) (subst (λ (out : List ℕ). IsServed [] may given out p) (sym (append-nil output)) served);
 }
 
 with_line : (may : ℕ → Bool) (given : List Numbered) (output line : List ℕ) (l : Numbered) (more : List Numbered) → Unanswered may (given ++ l ∷ []) (output ++ line) more → Unanswered may given output (l ∷ more)
 with_line may given output line l more u = record {
   rest = line ++ u.rest;
   after = u.after;
-  served = subst (λ (ls : List Numbered). IsServed may ls (output ++ (line ++ u.rest)) u.after) (append_assoc given (l ∷ []) more)
-      (subst (λ (out : List ℕ). IsServed may ((given ++ l ∷ []) ++ more) out u.after) (append_assoc output line u.rest) u.served);
+  served = subst (λ (ls : List Numbered). IsServed [] may ls (output ++ (line ++ u.rest)) u.after) (append_assoc given (l ∷ []) more)
+      (subst (λ (out : List ℕ). IsServed [] may ((given ++ l ∷ []) ++ more) out u.after) (append_assoc output line u.rest) u.served);
 }
 
 either : (may : ℕ → Bool) (given : List Numbered) (output : List ℕ) (xs ys : List Numbered) (b : Bool) → Unanswered may given output xs → Unanswered may given output ys → Unanswered may given output (if b then xs else ys)
 either may given output xs ys true x y = x
 either may given output xs ys false x y = y
 
-unanswered : (ps : List (List ℕ)) (may : ℕ → Bool) (given : List Numbered) (output : List ℕ) (p : Progress) (round k : ℕ) → IsServed may given output p → AreUpto given round
+unanswered : (ps : List (List ℕ)) (may : ℕ → Bool) (given : List Numbered) (output : List ℕ) (p : Progress) (round k : ℕ) → IsServed [] may given output p → AreUpto given round
     → Unanswered may given output (numbered round k ps)
 unanswered [] may given output p round k served upto = none_more may given output p served
 unanswered ([] ∷ ps) may given output p round k served upto = unanswered ps may given output p (round + 1) 0 served (later_upto given round (round + 1) (omega arith) upto)
 unanswered ((c ∷ cs) ∷ ps) may given output p round k served upto =
     let l : Numbered = record { bytes = c ∷ cs; round = round } in
     let line = memory_line p.lines ++ 10 ∷ [] in
-    let more = memory_served may given output p l served upto in
+    let more = goes_without_memory may p (c ∷ cs) [] given output round served upto in
     let here = upto_more given round ((c ∷ cs) ∷ []) upto in
     with_line may given output line l _ (either may (given ++ l ∷ []) (output ++ line) (numbered (round + 1) 0 ps) (numbered round (k + 1) ps) (k + 1 == max_round)
     (unanswered ps may (given ++ l ∷ []) (output ++ line) (next p) (round + 1) 0 more (later_upto (given ++ l ∷ []) round (round + 1) (omega arith) here))
@@ -228,7 +228,7 @@ unanswered ((c ∷ cs) ∷ ps) may given output p round k served upto =
 
 -- a run that is served up to here, with a front of what was due for it
 front_at : (may : ℕ → Bool) (old new : Option (List ℕ)) (input left : List ℕ) (given : List Numbered) (round : ℕ) (output rest : List ℕ) (p : Progress) → lines_of input ≡ given ++ numbered round 0 (pieces [] left)
-    → AreUpto given round → IsServed may given (output ++ rest) p → Appends old new output → ServesFront may old new input
+    → AreUpto given round → IsServed [] may given (output ++ rest) p → Appends old new output → ServesFront may old new input
 front_at may old new input left given round output rest p lines upto served gained =
     let u = unanswered (pieces [] left) may given (output ++ rest) p round 0 served upto in (
       output,
@@ -248,7 +248,7 @@ front_at may old new input left given round output rest p lines upto served gain
 pub front_of_rounds : (may : ℕ → Bool) (old new : Option (List ℕ)) (p : Progress) (input left : List ℕ) → ServedUpto may old new p input left → ServesFront may old new input
 front_of_rounds may old new p input left upto =
     front_at may old new input left upto.given upto.round upto.output [] p upto.lines (upto_of upto.given upto.round upto.earlier)
-    (subst (λ (out : List ℕ). IsServed may upto.given out p) (sym (append-nil upto.output)) upto.served) upto.gained
+    (subst (λ (out : List ℕ). IsServed [] may upto.given out p) (sym (append-nil upto.output)) upto.served) upto.gained
 
 -- whole rounds and a part of the next one
 pub front_in_round : (may : ℕ → Bool) (old mid new : Option (List ℕ)) (p : Progress) (input left after : List ℕ) (taken : Round) → ServedUpto may old mid p input left → TakesRound taken left after
@@ -259,7 +259,7 @@ front_in_round may old mid new p input left after taken upto takes fronts =
     front_at may old new input after (upto.given ++ in_round upto.round takes.lines) (upto.round + 1) (upto.output ++ here.output) here.rest here.after
     (upto.lines ∙ (ap (λ (ls : List Numbered). upto.given ++ ls) (takes.rounds upto.round) ∙ sym (append_assoc upto.given (in_round upto.round takes.lines) (numbered (upto.round + 1) 0 (pieces [] after)))))
     (later_upto (upto.given ++ in_round upto.round takes.lines) upto.round (upto.round + 1) (omega arith) (upto_more upto.given upto.round takes.lines upto_here))
-    (subst (λ (out : List ℕ). IsServed may (upto.given ++ in_round upto.round takes.lines) out here.after) (sym (append_assoc upto.output here.output here.rest)) (here.goes upto.given upto.output upto.round upto.served upto_here))
+    (subst (λ (out : List ℕ). IsServed [] may (upto.given ++ in_round upto.round takes.lines) out here.after) (sym (append_assoc upto.output here.output here.rest)) (here.goes [] upto.given upto.output upto.round upto.served upto_here))
     (Appends-trans old mid new upto.output here.output upto.gained here.gained)
 
 -- what was answered stays after a flush

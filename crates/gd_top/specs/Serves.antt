@@ -48,5 +48,5 @@ pub record ServedUpto (may : ℕ → Bool) (old new : Option (List ℕ)) (p : Pr
   pub output : List ℕ
   pub lines : lines_of input ≡ given ++ numbered round 0 (pieces [] left)
   pub earlier : (k : ℕ) (l : Numbered) → slice_get given k ≡ Some l → l.round < round
-  pub served : IsServed may given output p
+  pub served : IsServed [] may given output p
   pub gained : Appends old new output
