@@ -6,3 +6,5 @@ pub mod Utf8
 mod Values
 mod Primitives
 mod Batches
+mod Options
+pub mod Meaning

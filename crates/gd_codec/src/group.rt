@@ -1,9 +1,9 @@
 //! Groups of batches, read from bytes.
-ghost use Rattle.std.specs.Prelude.{◌≡◌, ◌<◌, ◌≤◌, ℕ, List, MatchResult};
+ghost use Rattle.std.specs.Prelude.{◌≡◌, ◌<◌, ◌≤◌, ℕ, List, None, Some, ◌≢◌, MatchResult};
 ghost use Rattle.gd_codec.specs.Reading.{items_at};
 ghost use Rattle.gd_codec.specs.Groups as defined;
 ghost use Rattle.gd_codec.specs.Stop.{Finds, IsCause};
-ghost use Rattle.gd_bytes.specs.Group.{IsGroup};
+ghost use Rattle.gd_bytes.specs.Group.{IsGroup, group_of};
 ghost use Rattle.gd_prim.specs.declared.Batch.{Batch};
 ghost use Rattle.gd_codec.specs.declared.stop.CodecFault.TheVariants as fault;
 
@@ -118,6 +118,8 @@ pub fn decode_group(alloc: Global, bytes: &[u8]) -> Result<Group, CodecFault>
     ensures read { MatchResult result (λ group. IsGroup bytes.now group) (IsCause bytes.now) }
     ensures again { (batches : List Batch) → IsGroup bytes.now batches
         → MatchResult result (λ group. group ≡ batches) (λ refused. refused ≡ fault.Memory) }
+    ensures meant { MatchResult result (λ group. group_of bytes.now ≡ Some group)
+        (λ refused. refused ≢ fault.Memory → group_of bytes.now ≡ None) }
 {
     match whole_group(alloc, bytes) {
         Ok(batches) => Ok(Group { batches }),

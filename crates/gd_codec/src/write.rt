@@ -1,5 +1,5 @@
 //! Groups of batches, written as bytes.
-ghost use Rattle.std.specs.Prelude.{◌≡◌, ◌≤◌, ◌++◌, flat_map, length, OnOk, IfOk};
+ghost use Rattle.std.specs.Prelude.{◌≡◌, ◌≤◌, ◌++◌, flat_map, length, Some, OnOk, IfOk};
 ghost use Rattle.std.specs.List.{AllByRecursion};
 ghost use Rattle.gd_base.specs.Order.{precision_index};
 ghost use Rattle.gd_bytes.specs.Group as group;
@@ -158,7 +158,8 @@ fn write_batches(out: &mut Vec<u8>, batches: &[Batch]) -> Result<(), Memory>
 /// outside the years 0000 to 9999.
 pub fn encode_group(alloc: Global, batches: &[Batch]) -> Result<Vec<u8>, Memory>
     requires { group.Fits batches.now }
-    ensures { IfOk result (λ bytes. group.IsGroup bytes.items batches.now) }
+    ensures spelled { IfOk result (λ bytes. group.IsGroup bytes.items batches.now) }
+    ensures meant { IfOk result (λ bytes. group.group_of bytes.items ≡ Some batches.now) }
 {
     let mut out = Vec::with_capacity(alloc, group_length(batches))?;
     write_bytes(&mut out, &(batches.len() as u16).to_be_bytes())?;
