@@ -10,13 +10,15 @@ ghost use Rattle.gd_codec.specs.declared.stop.CodecFault.TheVariants as fault;
 use crate::number::{Range, number};
 use crate::primitive::primitive;
 use crate::stop::{CodecFault, Stop};
+use gd_prim::limits::MAX_BATCH;
+use gd_prim::well_formed::MAX_MOMENT;
 use gd_prim::{Batch, Primitive, Prims};
 use std::alloc::Global;
 use std::marker::Model;
 
-const MOMENTS: [Range; 1] = [(0, 253_402_300_799_999)];
+const MOMENTS: [Range; 1] = [(0, MAX_MOMENT)];
 
-const PRIMITIVES: [Range; 1] = [(0, 4096)];
+const PRIMITIVES: [Range; 1] = [(0, MAX_BATCH as u64)];
 
 const BATCHES: [Range; 1] = [(1, 256)];
 
