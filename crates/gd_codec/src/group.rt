@@ -112,6 +112,13 @@ impl Group {
     {
         self.batches.as_slice()
     }
+
+    /// The vector of these batches. It takes no memory.
+    pub fn into_vec(self) -> Vec<Batch>
+        ensures { result.items ≡ self }
+    {
+        self.batches
+    }
 }
 
 /// Reads a group of batches. `BadBytes`: the bytes are no group, or more follow one; the longest front of the bytes
