@@ -7,4 +7,5 @@ mod Values
 mod Primitives
 mod Batches
 mod Options
+mod Writing
 pub mod Meaning

@@ -1,10 +1,11 @@
 //! Groups of batches, read from bytes.
-ghost use Rattle.std.specs.Prelude.{◌≡◌, ◌<◌, ◌≤◌, ℕ, List, None, Some, ◌≢◌, MatchResult};
+ghost use Rattle.std.specs.Prelude.{◌≡◌, ◌<◌, ◌≤◌, ℕ, List, None, Some, IfOk, ◌≢◌, MatchResult};
 ghost use Rattle.gd_codec.specs.Reading.{items_at};
 ghost use Rattle.gd_codec.specs.Groups as defined;
 ghost use Rattle.gd_codec.specs.Stop.{Finds, IsCause};
 ghost use Rattle.gd_bytes.specs.Group.{IsGroup, group_of};
 ghost use Rattle.gd_prim.specs.declared.Batch.{Batch};
+ghost use Rattle.gd_codec.specs.Writable.{MayWrite};
 ghost use Rattle.gd_codec.specs.declared.stop.CodecFault.TheVariants as fault;
 
 use crate::number::{Range, number};
@@ -125,6 +126,7 @@ impl Group {
 /// that begins some group has `offset` bytes. Each group has one spelling, so what was read is written as these bytes.
 pub fn decode_group(alloc: Global, bytes: &[u8]) -> Result<Group, CodecFault>
     ensures read { MatchResult result (λ group. IsGroup bytes.now group) (IsCause bytes.now) }
+    ensures writable { IfOk result (λ group. MayWrite group) }
     ensures again { (batches : List Batch) → IsGroup bytes.now batches
         → MatchResult result (λ group. group ≡ batches) (λ refused. refused ≡ fault.Memory) }
     ensures meant { MatchResult result (λ group. group_of bytes.now ≡ Some group)
