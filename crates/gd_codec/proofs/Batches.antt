@@ -16,29 +16,29 @@ use Rattle.gd_codec.proofs.Primitives.{Sound-primitive}
 
 -- ---- batches
 
-abbrev Moment : ℕ → List ℕ → Type 0
+abbrev pub Moment : ℕ → List ℕ → Type 0
 Moment = InRange 0 max_moment 8
 
-abbrev Count : ℕ → List ℕ → Type 0
+abbrev pub Count : ℕ → List ℕ → Type 0
 Count = InRange 0 4096 2
 
 -- so many primitives of this moment
-abbrev Prims : ℕ → ℕ → List Primitive → List ℕ → Type 0
+abbrev pub Prims : ℕ → ℕ → List Primitive → List ℕ → Type 0
 Prims m = Items primitive_bytes (PrimitiveFits m) (primitive_at m) (Sound-primitive m).exact (Sound-primitive m).some
 
-sound_prims : (m n : ℕ) → Sound (Prims m n) (items_at (primitive_at m) n)
+pub sound_prims : (m n : ℕ) → Sound (Prims m n) (items_at (primitive_at m) n)
 sound_prims m n = record {
   exact = Exact-items primitive_bytes (PrimitiveFits m) (primitive_at m) (Sound-primitive m).exact (Sound-primitive m).some n;
   some = items_some primitive_bytes (PrimitiveFits m) (primitive_at m) (Sound-primitive m).exact (Sound-primitive m).some n;
 }
 
-abbrev made : ℕ → List Primitive → Batch
+abbrev pub made : ℕ → List Primitive → Batch
 made m ps = record { moment = m; prims = ps }
 
-abbrev Counted : ℕ → Batch → List ℕ → Type 0
+abbrev pub Counted : ℕ → Batch → List ℕ → Type 0
 Counted m = Then Count (λ n. Mapped (made m) (Prims m n))
 
-abbrev Parts : Batch → List ℕ → Type 0
+abbrev pub Parts : Batch → List ℕ → Type 0
 Parts = Then Moment Counted
 
 counted : (m : ℕ) → Sound (Counted m) (chain (number_at (up_to 4096) 2) (λ n. mapped (made m) (items_at (primitive_at m) n)))
@@ -48,17 +48,17 @@ parts : Sound Parts batch_at
 unfolding batch_at
 parts = Sound-then Moment Counted (number_at (up_to max_moment) 8) (λ m. chain (number_at (up_to 4096) 2) (λ n. mapped (made m) (items_at (primitive_at m) n))) (Sound-range 0 max_moment 8 (omega arith) refl refl) (λ m w s. counted m)
 
-abbrev Spelled_batch : Batch → List ℕ → Type 0
+abbrev pub Spelled_batch : Batch → List ℕ → Type 0
 Spelled_batch = IsText batch_bytes BatchFits
 
-to_spelled : (b : Batch) (w : List ℕ) → Parts b w → Spelled_batch b w
+pub to_spelled : (b : Batch) (w : List ℕ) → Parts b w → Spelled_batch b w
 to_spelled b w (m, a0, u0, (m_low, m_high, a0_is), (n, a1, u1, (n_low, n_high, a1_is), (ps, b_is, (long, each, u1_is)), u0_is), w_is) =
     subst (λ (x : Batch). Spelled_batch x w) (sym b_is) (
       record { moment = m_high; few = omega (arith, long, n_high); each = each },
       join w_is a0_is (join u0_is (a1_is ∙ ap (λ (k : ℕ). bytes_high_first 2 k) (sym long)) u1_is),
     )
 
-from_spelled : (b : Batch) (w : List ℕ) → Spelled_batch b w → Parts b w
+pub from_spelled : (b : Batch) (w : List ℕ) → Spelled_batch b w → Parts b w
 from_spelled b w (fits, w_is) = (
   b.moment,
   bytes_high_first 8 b.moment,
@@ -68,15 +68,15 @@ from_spelled b w (fits, w_is) = (
   w_is,
 )
 
-sound_batch : Sound Spelled_batch batch_at
+pub sound_batch : Sound Spelled_batch batch_at
 sound_batch = Sound-same Parts Spelled_batch batch_at to_spelled from_spelled parts
 
 -- ---- groups
 
-abbrev Some_count : ℕ → List ℕ → Type 0
+abbrev pub Some_count : ℕ → List ℕ → Type 0
 Some_count = InRange 1 256 2
 
-abbrev Batches : ℕ → List Batch → List ℕ → Type 0
+abbrev pub Batches : ℕ → List Batch → List ℕ → Type 0
 Batches = Items batch_bytes BatchFits batch_at sound_batch.exact sound_batch.some
 
 sound_batches : (n : ℕ) → Sound (Batches n) (items_at batch_at n)
@@ -86,11 +86,11 @@ group_parts : Sound (Then Some_count Batches) group_at
 unfolding group_at
 group_parts = Sound-then Some_count Batches (number_at ((1, 256) ∷ []) 2) (items_at batch_at) (Sound-range 1 256 2 (omega arith) refl refl) (λ n w s. sound_batches n)
 
-to_group : (bs : List Batch) (w : List ℕ) → Then Some_count Batches bs w → IsText spelling Fits bs w
+pub to_group : (bs : List Batch) (w : List ℕ) → Then Some_count Batches bs w → IsText spelling Fits bs w
 to_group bs w (n, a0, u0, (low, high, a0_is), (long, each, u0_is), w_is) =
     (record { some = omega (arith, low, long); few = omega (arith, high, long); each = each }, join w_is (a0_is ∙ ap (λ (k : ℕ). bytes_high_first 2 k) (sym long)) u0_is)
 
-from_group : (bs : List Batch) (w : List ℕ) → IsText spelling Fits bs w → Then Some_count Batches bs w
+pub from_group : (bs : List Batch) (w : List ℕ) → IsText spelling Fits bs w → Then Some_count Batches bs w
 from_group bs w (fits, w_is) = (length bs, bytes_high_first 2 (length bs), flat_map batch_bytes bs, (fits.some, fits.few, refl), (refl, fits.each, refl), w_is)
 
 pub Exact-group : Exact (IsText spelling Fits) group_at

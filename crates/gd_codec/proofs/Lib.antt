@@ -6,3 +6,6 @@ pub mod Utf8
 mod Values
 mod Primitives
 mod Batches
+mod Options
+mod Writing
+pub mod Meaning

@@ -88,14 +88,14 @@ sum_back n h =
 
 -- ---- the parts of a primitive, one after another
 
-abbrev Ref : Type 0
+abbrev pub Ref : Type 0
 Ref = Option ℕ
 
-abbrev made : ℕ → ℕ → Ref → Ref → Ref → Ref → Ref → Datum → Option (List ℕ) → Primitive
+abbrev pub made : ℕ → ℕ → Ref → Ref → Ref → Ref → Ref → Datum → Option (List ℕ) → Primitive
 made m f l r t s p v n = record { left = l; right = r; typ = t; scope = s; value = v; name = n; previous = p; live = flag_at f 6; moment = m }
 
 module _ (m f : ℕ) where
-  abbrev Named : Ref → Ref → Ref → Ref → Ref → Datum → Primitive → List ℕ → Type 0
+  abbrev pub Named : Ref → Ref → Ref → Ref → Ref → Datum → Primitive → List ℕ → Type 0
   Named l r t s p v = Then (Name (flag_at f 5)) (λ n. Only (made m f l r t s p v n))
 
   abbrev named_at : Ref → Ref → Ref → Ref → Ref → Datum → List ℕ → Reads Primitive
@@ -104,7 +104,7 @@ module _ (m f : ℕ) where
   named : (l r t s p : Ref) (v : Datum) → Sound (Named l r t s p v) (named_at l r t s p v)
   named l r t s p v = Sound-then (Name (flag_at f 5)) (λ n. Only (made m f l r t s p v n)) (name_at (flag_at f 5)) (λ n bytes. Ok (made m f l r t s p v n, bytes)) (Sound-name (flag_at f 5)) (λ n w x. Sound-only (made m f l r t s p v n))
 
-  abbrev Valued : Ref → Ref → Ref → Ref → Ref → Primitive → List ℕ → Type 0
+  abbrev pub Valued : Ref → Ref → Ref → Ref → Ref → Primitive → List ℕ → Type 0
   Valued l r t s p = Then Value (Named l r t s p)
 
   abbrev valued_at : Ref → Ref → Ref → Ref → Ref → List ℕ → Reads Primitive
@@ -113,7 +113,7 @@ module _ (m f : ℕ) where
   valued : (l r t s p : Ref) → Sound (Valued l r t s p) (valued_at l r t s p)
   valued l r t s p = Sound-then Value (Named l r t s p) value_at (named_at l r t s p) Sound-value (λ v w x. named l r t s p v)
 
-  abbrev Previous : Ref → Ref → Ref → Ref → Primitive → List ℕ → Type 0
+  abbrev pub Previous : Ref → Ref → Ref → Ref → Primitive → List ℕ → Type 0
   Previous l r t s = Then (Reference (flag_at f 4)) (Valued l r t s)
 
   abbrev previous_at : Ref → Ref → Ref → Ref → List ℕ → Reads Primitive
@@ -122,7 +122,7 @@ module _ (m f : ℕ) where
   previous : (l r t s : Ref) → Sound (Previous l r t s) (previous_at l r t s)
   previous l r t s = Sound-then (Reference (flag_at f 4)) (Valued l r t s) (reference_at (flag_at f 4)) (valued_at l r t s) (Sound-reference (flag_at f 4)) (λ p w x. valued l r t s p)
 
-  abbrev Scope : Ref → Ref → Ref → Primitive → List ℕ → Type 0
+  abbrev pub Scope : Ref → Ref → Ref → Primitive → List ℕ → Type 0
   Scope l r t = Then (Reference (flag_at f 3)) (Previous l r t)
 
   abbrev scope_at : Ref → Ref → Ref → List ℕ → Reads Primitive
@@ -131,7 +131,7 @@ module _ (m f : ℕ) where
   scope : (l r t : Ref) → Sound (Scope l r t) (scope_at l r t)
   scope l r t = Sound-then (Reference (flag_at f 3)) (Previous l r t) (reference_at (flag_at f 3)) (previous_at l r t) (Sound-reference (flag_at f 3)) (λ s w x. previous l r t s)
 
-  abbrev Typ : Ref → Ref → Primitive → List ℕ → Type 0
+  abbrev pub Typ : Ref → Ref → Primitive → List ℕ → Type 0
   Typ l r = Then (Reference (flag_at f 2)) (Scope l r)
 
   abbrev typ_at : Ref → Ref → List ℕ → Reads Primitive
@@ -140,7 +140,7 @@ module _ (m f : ℕ) where
   typ : (l r : Ref) → Sound (Typ l r) (typ_at l r)
   typ l r = Sound-then (Reference (flag_at f 2)) (Scope l r) (reference_at (flag_at f 2)) (scope_at l r) (Sound-reference (flag_at f 2)) (λ t w x. scope l r t)
 
-  abbrev Right : Ref → Primitive → List ℕ → Type 0
+  abbrev pub Right : Ref → Primitive → List ℕ → Type 0
   Right l = Then (Reference (flag_at f 1)) (Typ l)
 
   abbrev right_at : Ref → List ℕ → Reads Primitive
@@ -149,7 +149,7 @@ module _ (m f : ℕ) where
   right : (l : Ref) → Sound (Right l) (right_at l)
   right l = Sound-then (Reference (flag_at f 1)) (Typ l) (reference_at (flag_at f 1)) (typ_at l) (Sound-reference (flag_at f 1)) (λ r w x. typ l r)
 
-  abbrev Left : Primitive → List ℕ → Type 0
+  abbrev pub Left : Primitive → List ℕ → Type 0
   Left = Then (Reference (flag_at f 0)) Right
 
   abbrev left_at : List ℕ → Reads Primitive
@@ -158,10 +158,10 @@ module _ (m f : ℕ) where
   left : Sound Left left_at
   left = Sound-then (Reference (flag_at f 0)) Right (reference_at (flag_at f 0)) right_at (Sound-reference (flag_at f 0)) (λ l w x. right l)
 
-abbrev Flags : ℕ → List ℕ → Type 0
+abbrev pub Flags : ℕ → List ℕ → Type 0
 Flags = InRange 0 127 1
 
-abbrev Parts : ℕ → Primitive → List ℕ → Type 0
+abbrev pub Parts : ℕ → Primitive → List ℕ → Type 0
 Parts m = Then Flags (Left m)
 
 parts : (m : ℕ) → Sound (Parts m) (primitive_at m)
@@ -182,7 +182,7 @@ flags_made : (m f : ℕ) (l r t s p : Ref) (v : Datum) (n : Option (List ℕ)) �
 flags_made m f l r t s p v n small at_0 at_1 at_2 at_3 at_4 at_5 =
     (λ i. sum (at_0 i) (at_1 i) (at_2 i) (at_3 i) (at_4 i) (at_5 i) (flag_at f 6)) ∙ sum_back f small
 
-to_spelled : (m : ℕ) (x : Primitive) (w : List ℕ) → Parts m x w → Spelled m x w
+pub to_spelled : (m : ℕ) (x : Primitive) (w : List ℕ) → Parts m x w → Spelled m x w
 to_spelled m x w (
   f,
   a0,
@@ -242,7 +242,7 @@ to_spelled m x w (
       text ∙ regroup (flags (made m f l r t s p v n)) (reference_bytes l) (reference_bytes r) (reference_bytes t) (reference_bytes s) (reference_bytes p) (value_bytes v) (name_bytes n),
     )
 
-from_spelled : (m : ℕ) (x : Primitive) (w : List ℕ) → Spelled m x w → Parts m x w
+pub from_spelled : (m : ℕ) (x : Primitive) (w : List ℕ) → Spelled m x w → Parts m x w
 from_spelled m x w (fits, w_is) =
     let f = flags x in
     let bits = seven (is_some x.left) (is_some x.right) (is_some x.typ) (is_some x.scope) (is_some x.previous) (is_some x.name) x.live in

@@ -25,13 +25,13 @@ use Rattle.gd_codec.proofs.Utf8.{Utf8, Exact-utf8, utf8_some}
 abbrev pub Text : List ℕ → List ℕ → Type 0
 Text = IsText text_bytes TextFits
 
-abbrev Length : ℕ → List ℕ → Type 0
+abbrev pub Length : ℕ → List ℕ → Type 0
 Length = InRange 0 4096 2
 
-parts_text : (t w : List ℕ) → Then Length Utf8 t w → Text t w
+pub parts_text : (t w : List ℕ) → Then Length Utf8 t w → Text t w
 parts_text t w (n, v, u, (low, high, v_is), (long, utf8, u_is), w_is) = ((omega (arith, long, high), utf8), join w_is (v_is ∙ ap (λ (k : ℕ). bytes_high_first 2 k) (sym long)) u_is)
 
-text_parts : (t w : List ℕ) → Text t w → Then Length Utf8 t w
+pub text_parts : (t w : List ℕ) → Text t w → Then Length Utf8 t w
 text_parts t w ((short, utf8), w_is) = (length t, bytes_high_first 2 (length t), t, (omega arith, short, refl), (refl, utf8, refl), w_is)
 
 pub Sound-text : Sound Text text_at
@@ -44,17 +44,17 @@ Sound-text = Sound-same (Then Length Utf8) Text text_at parts_text text_parts
 abbrev pub Reference : Bool → Option ℕ → List ℕ → Type 0
 Reference present r w = (is_some r ≡ present) × ReferenceFits r × (w ≡ reference_bytes r)
 
-abbrev Place : Option ℕ → List ℕ → Type 0
+abbrev pub Place : Option ℕ → List ℕ → Type 0
 Place = Mapped (λ p. Some p) (InRange 0 (2 ^ 32 - 1) 4)
 
-place_reference : (r : Option ℕ) (w : List ℕ) → Place r w → Reference true r w
+pub place_reference : (r : Option ℕ) (w : List ℕ) → Place r w → Reference true r w
 place_reference r w (p, r_is, (low, high, w_is)) = subst (λ (x : Option ℕ). Reference true x w) (sym r_is) (refl, omega (arith, high), w_is)
 
-reference_place : (r : Option ℕ) (w : List ℕ) → Reference true r w → Place r w
+pub reference_place : (r : Option ℕ) (w : List ℕ) → Reference true r w → Place r w
 reference_place None w (there, fits, w_is) = cc
 reference_place (Some p) w (there, fits, w_is) = (p, refl, (omega arith, omega (arith, fits), w_is))
 
-no_reference : (r : Option ℕ) (w : List ℕ) → Reference false r w → Only None r w
+pub no_reference : (r : Option ℕ) (w : List ℕ) → Reference false r w → Only None r w
 no_reference None w (there, fits, w_is) = (refl, w_is)
 no_reference (Some p) w (there, fits, w_is) = cc
 
@@ -68,17 +68,17 @@ Sound-reference true = Sound-same Place (Reference true) (reference_at true) pla
 abbrev pub Name : Bool → Option (List ℕ) → List ℕ → Type 0
 Name present n w = (is_some n ≡ present) × NameFits n × (w ≡ name_bytes n)
 
-abbrev Given : Option (List ℕ) → List ℕ → Type 0
+abbrev pub Given : Option (List ℕ) → List ℕ → Type 0
 Given = Mapped (λ t. Some t) Text
 
-given_name : (n : Option (List ℕ)) (w : List ℕ) → Given n w → Name true n w
+pub given_name : (n : Option (List ℕ)) (w : List ℕ) → Given n w → Name true n w
 given_name n w (t, n_is, (fits, w_is)) = subst (λ (x : Option (List ℕ)). Name true x w) (sym n_is) (refl, fits, w_is)
 
-name_given : (n : Option (List ℕ)) (w : List ℕ) → Name true n w → Given n w
+pub name_given : (n : Option (List ℕ)) (w : List ℕ) → Name true n w → Given n w
 name_given None w (there, fits, w_is) = cc
 name_given (Some t) w (there, fits, w_is) = (t, refl, (fits, w_is))
 
-no_name : (n : Option (List ℕ)) (w : List ℕ) → Name false n w → Only None n w
+pub no_name : (n : Option (List ℕ)) (w : List ℕ) → Name false n w → Only None n w
 no_name None w (there, fits, w_is) = (refl, w_is)
 no_name (Some t) w (there, fits, w_is) = cc
 
@@ -90,7 +90,7 @@ Sound-name true = Sound-same Given (Name true) (name_at true) given_name name_gi
 -- ---- values
 
 -- the place of the kind of a value in the order of kinds
-abbrev kind : Datum → ℕ
+abbrev pub kind : Datum → ℕ
 kind datum.Empty = 0
 kind (datum.Text t) = 1
 kind (datum.Int n) = 2
@@ -99,7 +99,7 @@ kind (datum.Moment ms precision) = 4
 kind (datum.Object o) = 5
 
 -- the bytes of the contents of a value
-abbrev contents : Datum → List ℕ
+abbrev pub contents : Datum → List ℕ
 contents datum.Empty = []
 contents (datum.Text t) = text_bytes t
 contents (datum.Int n) = to_be_bytes w64 (cast_unsigned w64 n)
@@ -107,11 +107,11 @@ contents (datum.Bool b) = (if b then 1 else 0) ∷ []
 contents (datum.Moment ms precision) = precision_index precision ∷ to_be_bytes w64 (cast_unsigned w64 ms)
 contents (datum.Object o) = []
 
-abbrev Contents : ℕ → Datum → List ℕ → Type 0
+abbrev pub Contents : ℕ → Datum → List ℕ → Type 0
 Contents k v w = (kind v ≡ k) × ValueFits v × (w ≡ contents v)
 
 -- the kind alone decides the variant
-empty_only : (v : Datum) (w : List ℕ) → Contents 0 v w → Only datum.Empty v w
+pub empty_only : (v : Datum) (w : List ℕ) → Contents 0 v w → Only datum.Empty v w
 empty_only datum.Empty w (k, fits, w_is) = (refl, w_is)
 empty_only (datum.Text t) w (k, fits, w_is) = absurd (omega (arith, k))
 empty_only (datum.Int n) w (k, fits, w_is) = absurd (omega (arith, k))
@@ -119,13 +119,13 @@ empty_only (datum.Bool b) w (k, fits, w_is) = absurd (omega (arith, k))
 empty_only (datum.Moment ms precision) w (k, fits, w_is) = absurd (omega (arith, k))
 empty_only (datum.Object o) w (k, fits, w_is) = absurd fits
 
-only_empty : (v : Datum) (w : List ℕ) → Only datum.Empty v w → Contents 0 v w
+pub only_empty : (v : Datum) (w : List ℕ) → Only datum.Empty v w → Contents 0 v w
 only_empty v w (same, none) = subst (λ (x : Datum). Contents 0 x w) (sym same) (refl, tt, none)
 
-abbrev TextValue : Datum → List ℕ → Type 0
+abbrev pub TextValue : Datum → List ℕ → Type 0
 TextValue = Mapped (λ t. datum.Text t) Text
 
-text_value : (v : Datum) (w : List ℕ) → Contents 1 v w → TextValue v w
+pub text_value : (v : Datum) (w : List ℕ) → Contents 1 v w → TextValue v w
 text_value (datum.Text t) w (k, fits, w_is) = (t, refl, (fits, w_is))
 text_value datum.Empty w (k, fits, w_is) = absurd (omega (arith, k))
 text_value (datum.Int n) w (k, fits, w_is) = absurd (omega (arith, k))
@@ -133,18 +133,18 @@ text_value (datum.Bool b) w (k, fits, w_is) = absurd (omega (arith, k))
 text_value (datum.Moment ms precision) w (k, fits, w_is) = absurd (omega (arith, k))
 text_value (datum.Object o) w (k, fits, w_is) = absurd fits
 
-value_text : (v : Datum) (w : List ℕ) → TextValue v w → Contents 1 v w
+pub value_text : (v : Datum) (w : List ℕ) → TextValue v w → Contents 1 v w
 value_text v w (t, v_is, (fits, w_is)) = subst (λ (x : Datum). Contents 1 x w) (sym v_is) (refl, fits, w_is)
 
 -- numbers of 64 bits
 
-abbrev Bits : ℕ → List ℕ → Type 0
+abbrev pub Bits : ℕ → List ℕ → Type 0
 Bits = InRange 0 (2 ^ 64 - 1) 8
 
-abbrev IntValue : Datum → List ℕ → Type 0
+abbrev pub IntValue : Datum → List ℕ → Type 0
 IntValue = Mapped (λ n. datum.Int (cast_signed w64 n)) Bits
 
-within_bits : (z : ℤ) → cast_signed w64 (cast_unsigned w64 z) ≡ z → cast_unsigned w64 z ≤ 2 ^ 64 - 1
+pub within_bits : (z : ℤ) → cast_signed w64 (cast_unsigned w64 z) ≡ z → cast_unsigned w64 z ≤ 2 ^ 64 - 1
 within_bits (negsuc m) same = omega arith
 within_bits (pos m) same = by (nat_lt m (2 ^ 63)) refl same
   where
@@ -152,7 +152,7 @@ within_bits (pos m) same = by (nat_lt m (2 ^ 63)) refl same
     by true e same = let small = ltb-true m (2 ^ 63) e in omega (arith, small)
     by false e same = cc
 
-int_value : (v : Datum) (w : List ℕ) → Contents 2 v w → IntValue v w
+pub int_value : (v : Datum) (w : List ℕ) → Contents 2 v w → IntValue v w
 int_value (datum.Int z) w (k, fits, w_is) = (cast_unsigned w64 z, ap (λ (x : ℤ). datum.Int x) (sym fits), (omega arith, within_bits z fits, w_is))
 int_value datum.Empty w (k, fits, w_is) = absurd (omega (arith, k))
 int_value (datum.Text t) w (k, fits, w_is) = absurd (omega (arith, k))
@@ -160,23 +160,23 @@ int_value (datum.Bool b) w (k, fits, w_is) = absurd (omega (arith, k))
 int_value (datum.Moment ms precision) w (k, fits, w_is) = absurd (omega (arith, k))
 int_value (datum.Object o) w (k, fits, w_is) = absurd fits
 
-bits_back : (n : ℕ) → n ≤ 2 ^ 64 - 1 → cast_unsigned w64 (cast_signed w64 n) ≡ n
+pub bits_back : (n : ℕ) → n ≤ 2 ^ 64 - 1 → cast_unsigned w64 (cast_signed w64 n) ≡ n
 bits_back n h = of_z-to_z w64 n (omega (arith, h))
 
-value_int : (v : Datum) (w : List ℕ) → IntValue v w → Contents 2 v w
+pub value_int : (v : Datum) (w : List ℕ) → IntValue v w → Contents 2 v w
 value_int v w (n, v_is, (low, high, w_is)) =
     let back = bits_back n high in
     subst (λ (x : Datum). Contents 2 x w) (sym v_is) (refl, ap (cast_signed w64) back, w_is ∙ ap (λ (k : ℕ). bytes_high_first 8 k) (sym back))
 
 -- truth values
 
-abbrev BoolValue : Datum → List ℕ → Type 0
+abbrev pub BoolValue : Datum → List ℕ → Type 0
 BoolValue = Mapped (λ n. datum.Bool (n == 1)) (InRange 0 1 1)
 
 bool_byte : (n : ℕ) → n ≤ 1 → n % 256 ≡ (if n == 1 then 1 else 0)
 bool_byte n h = grind (arith, nat_tests)
 
-bool_value : (v : Datum) (w : List ℕ) → Contents 3 v w → BoolValue v w
+pub bool_value : (v : Datum) (w : List ℕ) → Contents 3 v w → BoolValue v w
 bool_value (datum.Bool true) w (k, fits, w_is) = (1, refl, (omega arith, omega arith, w_is))
 bool_value (datum.Bool false) w (k, fits, w_is) = (0, refl, (omega arith, omega arith, w_is))
 bool_value datum.Empty w (k, fits, w_is) = absurd (omega (arith, k))
@@ -185,26 +185,26 @@ bool_value (datum.Int n) w (k, fits, w_is) = absurd (omega (arith, k))
 bool_value (datum.Moment ms precision) w (k, fits, w_is) = absurd (omega (arith, k))
 bool_value (datum.Object o) w (k, fits, w_is) = absurd fits
 
-value_bool : (v : Datum) (w : List ℕ) → BoolValue v w → Contents 3 v w
+pub value_bool : (v : Datum) (w : List ℕ) → BoolValue v w → Contents 3 v w
 value_bool v w (n, v_is, (low, high, w_is)) = subst (λ (x : Datum). Contents 3 x w) (sym v_is) (refl, tt, w_is ∙ ap (λ (b : ℕ). b ∷ []) (bool_byte n high))
 
 -- moments
 
-abbrev Milliseconds : ℕ → Datum → List ℕ → Type 0
+abbrev pub Milliseconds : ℕ → Datum → List ℕ → Type 0
 Milliseconds p = Mapped (λ n. datum.Moment (cast_signed w64 n) (precision_from p)) (Number moments 8)
 
-abbrev MomentValue : Datum → List ℕ → Type 0
+abbrev pub MomentValue : Datum → List ℕ → Type 0
 MomentValue = Then (InRange 0 3 1) Milliseconds
 
 -- a number of the ranges of moments is one in two's complement
-moment_in : (n : ℕ) → begins_number moments 0 n ≡ true → IsTrue (is_moment (cast_signed w64 n)) × (n ≤ 2 ^ 64 - 1)
+pub moment_in : (n : ℕ) → begins_number moments 0 n ≡ true → IsTrue (is_moment (cast_signed w64 n)) × (n ≤ 2 ^ 64 - 1)
 moment_in n is = (grind (arith, ints, nat_tests), grind (arith, nat_tests))
 
-in_moment : (z : ℤ) → IsTrue (is_moment z) → (begins_number moments 0 (cast_unsigned w64 z) ≡ true) × (cast_signed w64 (cast_unsigned w64 z) ≡ z)
+pub in_moment : (z : ℤ) → IsTrue (is_moment z) → (begins_number moments 0 (cast_unsigned w64 z) ≡ true) × (cast_signed w64 (cast_unsigned w64 z) ≡ z)
 in_moment (pos m) t = (grind (arith, ints, nat_tests), grind (arith, ints, nat_tests))
 in_moment (negsuc m) t = (grind (arith, ints, nat_tests), grind (arith, ints, nat_tests))
 
-precision_back : (p : ℕ) → p ≤ 3 → precision_index (precision_from p) ≡ p % 256
+pub precision_back : (p : ℕ) → p ≤ 3 → precision_index (precision_from p) ≡ p % 256
 precision_back p h = elim (cases_eq p 0) [
   | inl e ↦ at p 0 e refl
   | inr n0 ↦ elim (cases_eq p 1) [
@@ -216,7 +216,7 @@ precision_back p h = elim (cases_eq p 0) [
     at : (p q : ℕ) → p ≡ q → precision_index (precision_from q) ≡ q % 256 → precision_index (precision_from p) ≡ p % 256
     at p q e is = subst (λ (x : ℕ). precision_index (precision_from x) ≡ x % 256) (sym e) is
 
-moment_value : (v : Datum) (w : List ℕ) → Contents 4 v w → MomentValue v w
+pub moment_value : (v : Datum) (w : List ℕ) → Contents 4 v w → MomentValue v w
 moment_value (datum.Moment ms precision) w (k, fits, w_is) =
     let (within, back) = in_moment ms fits in
     let (few, p_is, byte) = place precision in (
@@ -239,7 +239,7 @@ moment_value (datum.Int n) w (k, fits, w_is) = absurd (omega (arith, k))
 moment_value (datum.Bool b) w (k, fits, w_is) = absurd (omega (arith, k))
 moment_value (datum.Object o) w (k, fits, w_is) = absurd fits
 
-value_moment : (v : Datum) (w : List ℕ) → MomentValue v w → Contents 4 v w
+pub value_moment : (v : Datum) (w : List ℕ) → MomentValue v w → Contents 4 v w
 value_moment v w (p, x, u, (low, high, x_is), (n, v_is, (within, u_is)), w_is) =
     let (fits, small) = moment_in n within in
     let back = bits_back n small in
@@ -288,11 +288,11 @@ sound_contents k h = elim (cases_eq k 0) [
 abbrev pub Value : Datum → List ℕ → Type 0
 Value = IsText value_bytes ValueFits
 
-abbrev Kind : ℕ → List ℕ → Type 0
+abbrev pub Kind : ℕ → List ℕ → Type 0
 Kind = InRange 0 4 1
 
 -- a value that fits is spelled by its kind and its contents
-spelled : (v : Datum) → ValueFits v → (value_bytes v ≡ kind v ∷ contents v) × (kind v ≤ 4) × (kind v % 256 ≡ kind v)
+pub spelled : (v : Datum) → ValueFits v → (value_bytes v ≡ kind v ∷ contents v) × (kind v ≤ 4) × (kind v % 256 ≡ kind v)
 spelled datum.Empty fits = (refl, omega arith, refl)
 spelled (datum.Text t) fits = (refl, omega arith, refl)
 spelled (datum.Int n) fits = (refl, omega arith, refl)
@@ -300,13 +300,13 @@ spelled (datum.Bool b) fits = (refl, omega arith, refl)
 spelled (datum.Moment ms precision) fits = (refl, omega arith, refl)
 spelled (datum.Object o) fits = absurd fits
 
-parts_value : (v : Datum) (w : List ℕ) → Then Kind Contents v w → Value v w
+pub parts_value : (v : Datum) (w : List ℕ) → Then Kind Contents v w → Value v w
 parts_value v w (k, x, u, (low, high, x_is), (k_is, fits, u_is), w_is) =
     let (all, few, byte) = spelled v fits in
     let head : k % 256 ≡ kind v = omega (arith, k_is, high) in
     (fits, join w_is (x_is ∙ ap (λ (b : ℕ). b ∷ []) head) u_is ∙ sym all)
 
-value_parts : (v : Datum) (w : List ℕ) → Value v w → Then Kind Contents v w
+pub value_parts : (v : Datum) (w : List ℕ) → Value v w → Then Kind Contents v w
 value_parts v w (fits, w_is) =
     let (all, few, byte) = spelled v fits in
     (kind v, bytes_high_first 1 (kind v), contents v, (omega arith, few, refl), (refl, fits, refl), w_is ∙ all ∙ ap (λ (b : ℕ). b ∷ contents v) (sym byte))

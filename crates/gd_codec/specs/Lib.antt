@@ -2,3 +2,4 @@ pub mod Reading
 pub mod Stop
 pub mod Groups
 pub mod Dues
+pub mod Writable

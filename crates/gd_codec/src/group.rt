@@ -1,22 +1,25 @@
 //! Groups of batches, read from bytes.
-ghost use Rattle.std.specs.Prelude.{◌≡◌, ◌<◌, ◌≤◌, ℕ, List, MatchResult};
+ghost use Rattle.std.specs.Prelude.{◌≡◌, ◌<◌, ◌≤◌, ℕ, List, None, Some, IfOk, ◌≢◌, MatchResult};
 ghost use Rattle.gd_codec.specs.Reading.{items_at};
 ghost use Rattle.gd_codec.specs.Groups as defined;
 ghost use Rattle.gd_codec.specs.Stop.{Finds, IsCause};
-ghost use Rattle.gd_bytes.specs.Group.{IsGroup};
+ghost use Rattle.gd_bytes.specs.Group.{IsGroup, group_of};
 ghost use Rattle.gd_prim.specs.declared.Batch.{Batch};
+ghost use Rattle.gd_codec.specs.Writable.{MayWrite};
 ghost use Rattle.gd_codec.specs.declared.stop.CodecFault.TheVariants as fault;
 
 use crate::number::{Range, number};
 use crate::primitive::primitive;
 use crate::stop::{CodecFault, Stop};
+use gd_prim::limits::MAX_BATCH;
+use gd_prim::well_formed::MAX_MOMENT;
 use gd_prim::{Batch, Primitive, Prims};
 use std::alloc::Global;
 use std::marker::Model;
 
-const MOMENTS: [Range; 1] = [(0, 253_402_300_799_999)];
+const MOMENTS: [Range; 1] = [(0, MAX_MOMENT)];
 
-const PRIMITIVES: [Range; 1] = [(0, 4096)];
+const PRIMITIVES: [Range; 1] = [(0, MAX_BATCH as u64)];
 
 const BATCHES: [Range; 1] = [(1, 256)];
 
@@ -110,14 +113,24 @@ impl Group {
     {
         self.batches.as_slice()
     }
+
+    /// The vector of these batches. It takes no memory.
+    pub fn into_vec(self) -> Vec<Batch>
+        ensures { result.items ≡ self }
+    {
+        self.batches
+    }
 }
 
 /// Reads a group of batches. `BadBytes`: the bytes are no group, or more follow one; the longest front of the bytes
 /// that begins some group has `offset` bytes. Each group has one spelling, so what was read is written as these bytes.
 pub fn decode_group(alloc: Global, bytes: &[u8]) -> Result<Group, CodecFault>
     ensures read { MatchResult result (λ group. IsGroup bytes.now group) (IsCause bytes.now) }
+    ensures writable { IfOk result (λ group. MayWrite group) }
     ensures again { (batches : List Batch) → IsGroup bytes.now batches
         → MatchResult result (λ group. group ≡ batches) (λ refused. refused ≡ fault.Memory) }
+    ensures meant { MatchResult result (λ group. group_of bytes.now ≡ Some group)
+        (λ refused. refused ≢ fault.Memory → group_of bytes.now ≡ None) }
 {
     match whole_group(alloc, bytes) {
         Ok(batches) => Ok(Group { batches }),

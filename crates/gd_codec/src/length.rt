@@ -2,6 +2,7 @@
 ghost use Rattle.std.specs.Prelude.{◌≡◌, ◌≤◌, flat_map, length};
 ghost use Rattle.std.specs.List.{AllByRecursion};
 ghost use Rattle.gd_bytes.specs.Group as group;
+ghost use Rattle.gd_codec.specs.Writable.{BatchMay};
 
 use gd_base::datum::Datum;
 use gd_base::id::Id;
@@ -82,7 +83,7 @@ fn primitives_length(prims: &[Primitive]) -> usize
 
 /// The bytes of a batch.
 fn batch_length(batch: &Batch) -> usize
-    requires { group.BatchFits batch.now }
+    requires { BatchMay batch.now }
     ensures length { result ≡ length (group.batch_bytes batch.now) }
     ensures bound { result ≤ 33_660_938 }
 {
@@ -92,7 +93,7 @@ fn batch_length(batch: &Batch) -> usize
 /// The bytes of a group of at most 256 batches.
 pub(crate) fn group_length(batches: &[Batch]) -> usize
     requires few { length batches.now ≤ 256 }
-    requires each { AllByRecursion group.BatchFits batches.now }
+    requires each { AllByRecursion BatchMay batches.now }
     ensures { result ≡ length (group.spelling batches.now) }
 {
     let mut total = 2;

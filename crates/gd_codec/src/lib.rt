@@ -1,4 +1,4 @@
-//! Groups of batches as bytes.
+//! Groups of batches as bytes: one spelling for each group, and exact offsets where bytes are none.
 #![tactic(auto)]
 
 mod group;

@@ -14,7 +14,7 @@ use std::alloc::Global;
 
 const FLAGS: [Range; 1] = [(0, 127)];
 
-const PLACES: [Range; 1] = [(0, 4_294_967_295)];
+const PLACES: [Range; 1] = [(0, u32::MAX as u64)];
 
 /// Whether the flag at this place of a flag byte is set.
 fn flag(flags: u64, place: u32) -> bool

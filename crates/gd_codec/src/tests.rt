@@ -164,7 +164,9 @@ fn references_and_precisions(rt: HostRuntime) -> Result<(), Fail> {
     let prim =
         b"\x1f\0\0\0\x01\0\0\0\x02\0\0\0\x03\0\0\0\x04\0\0\0\x05\x04\x01\xff\xff\xff\xff\xff\xff\xff\xff";
     let group = decode_group(rt.alloc(), &group_of(rt.alloc(), 1, prim)?)?;
-    for batch in group.batches() {
+    let batches = group.into_vec();
+    assert_eq!(rt; batches.len(), 1);
+    for batch in &batches {
         for prim in batch.prims.as_slice() {
             assert!(rt; prim.left == Some(Id(1)) && prim.right == Some(Id(2)));
             assert!(rt; prim.typ == Some(Id(3)) && prim.scope == Some(Id(4)));

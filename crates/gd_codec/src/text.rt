@@ -7,11 +7,11 @@ ghost use Rattle.gd_codec.specs.Stop.{Finds};
 
 use crate::number::{Range, number};
 use crate::stop::Stop;
-use gd_base::text::{Text, TextFault};
+use gd_base::text::{TEXT_LIMIT, Text, TextFault};
 use std::alloc::Global;
 
 /// How many bytes a text may have.
-const LENGTHS: [Range; 1] = [(0, 4096)];
+const LENGTHS: [Range; 1] = [(0, TEXT_LIMIT as u64)];
 
 /// How many bytes are due in a character, and the least and the greatest that may come next.
 #[derive(Clone, Copy)]

@@ -7,21 +7,19 @@ use crate::number::{Range, number};
 use crate::stop::Stop;
 use crate::text::text;
 use gd_base::datum::{Datum, Precision};
+use gd_prim::well_formed::MAX_MOMENT;
 use std::alloc::Global;
 
 const KINDS: [Range; 1] = [(0, 4)];
 
-const INTEGERS: [Range; 1] = [(0, 18_446_744_073_709_551_615)];
+const INTEGERS: [Range; 1] = [(0, u64::MAX)];
 
 const BOOLEANS: [Range; 1] = [(0, 1)];
 
 const PRECISIONS: [Range; 1] = [(0, 3)];
 
 /// The milliseconds from the year 0000 to the last of 9999, in two's complement.
-const MOMENTS: [Range; 2] = [
-    (0, 253_402_300_799_999),
-    (18_446_681_906_490_351_616, 18_446_744_073_709_551_615),
-];
+const MOMENTS: [Range; 2] = [(0, MAX_MOMENT), (18_446_681_906_490_351_616, u64::MAX)];
 
 /// The precision at this place in their order.
 fn precision(place: u64) -> Precision

@@ -1,8 +1,10 @@
 //! Groups of batches, written as bytes.
-ghost use Rattle.std.specs.Prelude.{◌≡◌, ◌≤◌, ◌++◌, flat_map, length, OnOk, IfOk};
+ghost use Rattle.std.specs.Prelude.{◌≡◌, ◌≤◌, ◌++◌, flat_map, length, Some, IsTrue, OnOk, IfOk};
 ghost use Rattle.std.specs.List.{AllByRecursion};
 ghost use Rattle.gd_base.specs.Order.{precision_index};
+ghost use Rattle.gd_prim.specs.WellFormed.{may_hold};
 ghost use Rattle.gd_bytes.specs.Group as group;
+ghost use Rattle.gd_codec.specs.Writable.{BatchMay, MayWrite};
 
 use crate::length::group_length;
 use gd_base::datum::{Datum, Precision};
@@ -22,9 +24,10 @@ fn write_bytes(out: &mut Vec<u8>, bytes: &[u8]) -> Result<(), Memory>
 
 /// Writes a text: its length in two bytes, and the text.
 fn write_text(out: &mut Vec<u8>, text: &Text) -> Result<(), Memory>
-    ensures { OnOk result (out.new.items ≡ out.old.items ++ group.text_bytes text.now) }
+    ensures written { OnOk result (out.new.items ≡ out.old.items ++ group.text_bytes text.now) }
+    ensures fits { OnOk result (group.TextFits text.now) }
 {
-    let bytes = text.as_bytes();
+    let bytes = text.as_str().as_bytes();
     write_bytes(out, &(bytes.len() as u16).to_be_bytes())?;
     write_bytes(out, bytes)?;
     Ok(())
@@ -32,7 +35,8 @@ fn write_text(out: &mut Vec<u8>, text: &Text) -> Result<(), Memory>
 
 /// Writes a reference where it is there: four bytes.
 fn write_reference(out: &mut Vec<u8>, reference: Option<Id>) -> Result<(), Memory>
-    ensures { OnOk result (out.new.items ≡ out.old.items ++ group.reference_bytes reference) }
+    ensures written { OnOk result (out.new.items ≡ out.old.items ++ group.reference_bytes reference) }
+    ensures fits { OnOk result (group.ReferenceFits reference) }
 {
     match reference {
         Some(id) => write_bytes(out, &id.place().to_be_bytes()),
@@ -42,7 +46,8 @@ fn write_reference(out: &mut Vec<u8>, reference: Option<Id>) -> Result<(), Memor
 
 /// Writes a name where it is there.
 fn write_name(out: &mut Vec<u8>, name: &Option<Text>) -> Result<(), Memory>
-    ensures { OnOk result (out.new.items ≡ out.old.items ++ group.name_bytes name.now) }
+    ensures written { OnOk result (out.new.items ≡ out.old.items ++ group.name_bytes name.now) }
+    ensures fits { OnOk result (group.NameFits name.now) }
 {
     match name {
         Some(text) => write_text(out, text),
@@ -62,10 +67,11 @@ fn precision_place(precision: Precision) -> u8
     }
 }
 
-/// Writes a value: a byte for its kind, and its contents. An object has none.
+/// Writes a value that a primitive may hold: a byte for its kind, and its contents.
 fn write_value(out: &mut Vec<u8>, value: &Datum) -> Result<(), Memory>
-    requires { group.ValueFits value.now }
-    ensures { OnOk result (out.new.items ≡ out.old.items ++ group.value_bytes value.now) }
+    requires { IsTrue (may_hold value.now) }
+    ensures written { OnOk result (out.new.items ≡ out.old.items ++ group.value_bytes value.now) }
+    ensures fits { OnOk result (group.ValueFits value.now) }
 {
     match value {
         Datum::Empty => write_bytes(out, &[0]),
@@ -108,8 +114,9 @@ fn flags(prim: &Primitive) -> u8
 
 /// Writes a primitive: flags, the references that are there, the value, the name.
 fn write_primitive(out: &mut Vec<u8>, prim: &Primitive) -> Result<(), Memory>
-    requires { group.ValueFits prim.now.value }
-    ensures { OnOk result (out.new.items ≡ out.old.items ++ group.primitive_bytes prim.now) }
+    requires { IsTrue (may_hold prim.now.value) }
+    ensures written { OnOk result (out.new.items ≡ out.old.items ++ group.primitive_bytes prim.now) }
+    ensures fits { OnOk result (group.PrimitiveFits prim.now.moment prim.now) }
 {
     write_bytes(out, &[flags(prim)])?;
     write_reference(out, prim.left)?;
@@ -123,8 +130,9 @@ fn write_primitive(out: &mut Vec<u8>, prim: &Primitive) -> Result<(), Memory>
 
 /// Writes primitives one after another.
 fn write_primitives(out: &mut Vec<u8>, prims: &[Primitive]) -> Result<(), Memory>
-    requires { AllByRecursion (λ p. group.ValueFits p.value) prims.now }
-    ensures { OnOk result (out.new.items ≡ out.old.items ++ flat_map group.primitive_bytes prims.now) }
+    requires { AllByRecursion (λ p. IsTrue (may_hold p.value)) prims.now }
+    ensures written { OnOk result (out.new.items ≡ out.old.items ++ flat_map group.primitive_bytes prims.now) }
+    ensures fits { OnOk result (AllByRecursion (λ p. group.PrimitiveFits p.moment p) prims.now) }
 {
     for prim in prims {
         write_primitive(out, prim)?;
@@ -134,8 +142,9 @@ fn write_primitives(out: &mut Vec<u8>, prims: &[Primitive]) -> Result<(), Memory
 
 /// Writes a batch: its moment, the number of its primitives, and the primitives.
 fn write_batch(out: &mut Vec<u8>, batch: &Batch) -> Result<(), Memory>
-    requires { group.BatchFits batch.now }
-    ensures { OnOk result (out.new.items ≡ out.old.items ++ group.batch_bytes batch.now) }
+    requires { BatchMay batch.now }
+    ensures written { OnOk result (out.new.items ≡ out.old.items ++ group.batch_bytes batch.now) }
+    ensures fits { OnOk result (group.BatchFits batch.now) }
 {
     write_bytes(out, &batch.moment.to_be_bytes())?;
     write_bytes(out, &(batch.prims.len() as u16).to_be_bytes())?;
@@ -144,8 +153,9 @@ fn write_batch(out: &mut Vec<u8>, batch: &Batch) -> Result<(), Memory>
 
 /// Writes batches one after another.
 fn write_batches(out: &mut Vec<u8>, batches: &[Batch]) -> Result<(), Memory>
-    requires { AllByRecursion group.BatchFits batches.now }
-    ensures { OnOk result (out.new.items ≡ out.old.items ++ flat_map group.batch_bytes batches.now) }
+    requires { AllByRecursion BatchMay batches.now }
+    ensures written { OnOk result (out.new.items ≡ out.old.items ++ flat_map group.batch_bytes batches.now) }
+    ensures fits { OnOk result (AllByRecursion group.BatchFits batches.now) }
 {
     for batch in batches {
         write_batch(out, batch)?;
@@ -157,8 +167,9 @@ fn write_batches(out: &mut Vec<u8>, batches: &[Batch]) -> Result<(), Memory>
 /// and a moment of at most 253,402,300,799,999; its primitives have its moment, no object as a value and no moment
 /// outside the years 0000 to 9999.
 pub fn encode_group(alloc: Global, batches: &[Batch]) -> Result<Vec<u8>, Memory>
-    requires { group.Fits batches.now }
-    ensures { IfOk result (λ bytes. group.IsGroup bytes.items batches.now) }
+    requires { MayWrite batches.now }
+    ensures spelled { IfOk result (λ bytes. group.IsGroup bytes.items batches.now) }
+    ensures meant { IfOk result (λ bytes. group.group_of bytes.items ≡ Some batches.now) }
 {
     let mut out = Vec::with_capacity(alloc, group_length(batches))?;
     write_bytes(&mut out, &(batches.len() as u16).to_be_bytes())?;

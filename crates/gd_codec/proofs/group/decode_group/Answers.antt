@@ -2,6 +2,9 @@ use Rattle.std.proofs.Common.{arith}
 use Rattle.gd_codec.specs.Groups.{whole_group_at}
 use Rattle.gd_codec.proofs.Stops.{stopped_at}
 use Rattle.gd_codec.proofs.Batches.{group_found, group_bad, group_whole, group_left}
+use Rattle.gd_codec.proofs.Options.{bytes_below}
+use Rattle.gd_codec.proofs.Meaning.{spelled_meant, not_meant}
+use Rattle.gd_codec.proofs.Writing.{fits_may}
 use Rattle.gd_codec.proofs.group.decode_group.Goals as goal
 
 pub overflow_sub-result : goal.overflow_sub-result
@@ -29,3 +32,15 @@ returns-in-Err-Bad-clause-again c = λ batches is.
     let (rest, stops, left) = stopped_at c.in-Err-Bad.field-0 c.in-Err-Bad.left (whole_group_at bytes) c.in-Err-Bad.field-0-is c.in-Err-Bad.ensures in
     let whole = group_whole bytes batches is in
     cc (whole, stops)
+
+pub returns-in-Ok-clause-meant : goal.returns-in-Ok-clause-meant
+returns-in-Ok-clause-meant c = spelled_meant c.in-Ok.batches.items c.args.bytes.now (group_found c.args.bytes.now c.in-Ok.batches.items c.in-Ok.ensures)
+
+pub returns-in-Err-Bad-clause-meant : goal.returns-in-Err-Bad-clause-meant
+returns-in-Err-Bad-clause-meant c = λ bad.
+    let bytes = c.args.bytes.now in
+    let (rest, stops, left) = stopped_at c.in-Err-Bad.field-0 c.in-Err-Bad.left (whole_group_at bytes) c.in-Err-Bad.field-0-is c.in-Err-Bad.ensures in
+    not_meant bytes (bytes_below bytes (λ i. (c.type_inv.bytes i).fits)) (λ bs is. let whole = group_whole bytes bs is in cc (whole, stops))
+
+pub returns-in-Ok-clause-writable : goal.returns-in-Ok-clause-writable
+returns-in-Ok-clause-writable c = fits_may c.in-Ok.batches.items (group_found c.args.bytes.now c.in-Ok.batches.items c.in-Ok.ensures).0
