@@ -50,15 +50,19 @@ fn forward(stored: u32, expected: u32, unique: bool) -> Property {
     }
 }
 
-/// What the built-in list with these primitives behind it says: what a property at the place states, whether one stands
-/// there, and whether `name` is as it is built in.
+/// What the built-in list with one or two primitives behind it says: what a property at the place states, whether one
+/// stands there, and whether `name` is as it is built in.
 fn said(
     alloc: Global,
-    mut added: Vec<Primitive>,
+    first: Primitive,
+    second: Option<Primitive>,
     place: u32,
 ) -> Result<Option<(Property, bool, bool)>, Memory> {
     let mut prims = builtin(alloc)?;
-    prims.append(&mut added)?;
+    prims.push(first)?;
+    if let Some(second) = second {
+        prims.push(second)?;
+    }
     let prims = prims.as_slice();
     if prims.len() > MAX_PRIMS {
         return Ok(None);
@@ -71,127 +75,134 @@ fn said(
     )))
 }
 
+/// Behind the built-in list stands a link of another typ.
 #[test]
 fn states_built_in(rt: HostRuntime) -> Result<(), Fail> {
-    let alloc = rt.alloc();
-    let rows = [
-        (13, 7, true),
-        (14, 5, false),
-        (15, 11, false),
-        (16, 5, true),
-        (17, 9, true),
-        (18, 6, true),
-    ];
-    for (place, expected, unique) in rows {
-        let wanted = (forward(place, expected, unique), true, true);
-        assert_eq!(rt;
-            said(alloc, Vec::new(alloc), place)?,
-            Some(wanted),
-            "at {place}"
-        );
-    }
     let bare = Property {
         expected: None,
         ..forward(6, 0, false)
     };
-    assert_eq!(rt; said(alloc, Vec::new(alloc), 6)?, Some((bare, false, true)));
-    assert_eq!(rt;
-        said(alloc, Vec::new(alloc), 70)?,
-        Some((
-            Property {
-                stored: Id(70),
-                ..bare
-            },
-            false,
-            true
-        ))
-    );
+    let nowhere = Property {
+        stored: Id(71),
+        ..bare
+    };
+    let rows = [
+        (13, forward(13, 7, true), true),
+        (14, forward(14, 5, false), true),
+        (15, forward(15, 11, false), true),
+        (16, forward(16, 5, true), true),
+        (17, forward(17, 9, true), true),
+        (18, forward(18, 6, true), true),
+        (6, bare, false),
+        (71, nowhere, false),
+    ];
+    for (place, property, is_one) in rows {
+        let told = said(rt.alloc(), between(13, 15, 4), None, place)?;
+        assert_eq!(rt; told, Some((property, is_one, true)), "at {place}");
+    }
     Ok(())
 }
 
 /// The type of `name` is told at place 49, its expected type at 55, its unique mark at 61.
 #[test]
 fn follows_batches(rt: HostRuntime) -> Result<(), Fail> {
-    let alloc = rt.alloc();
     let name = forward(13, 7, true);
+    let not_unique = forward(13, 7, false);
     let turned = Property {
         reversed: true,
         ..forward(13, 11, false)
     };
-    let master = Property {
+    let of_a_master = Property {
         reversed: true,
         ..forward(15, 7, true)
     };
+    let yes = Datum::Bool(true);
+    let no = Datum::Bool(false);
     let rows = [
         (
-            "its mark ends",
-            vec![in alloc; after(61, false, mark(13, Datum::Bool(true)))]?,
+            "mark ended",
+            after(61, false, mark(13, yes)),
+            None,
             13,
-            (forward(13, 7, false), true, false),
+            (not_unique, true, false),
         ),
         (
-            "its mark says no",
-            vec![in alloc; after(61, true, mark(13, Datum::Bool(false)))]?,
+            "mark says no",
+            after(61, true, mark(13, no)),
+            None,
             13,
-            (forward(13, 7, false), true, false),
+            (not_unique, true, false),
         ),
         (
-            "a second mark is behind the first",
-            vec![in alloc; mark(13, Datum::Bool(false))]?,
+            "second mark",
+            mark(13, Datum::Bool(false)),
+            None,
             13,
             (name, true, true),
         ),
         (
-            "a mark without a truth value says nothing",
-            vec![in alloc; mark(14, Datum::Int(0)), mark(14, Datum::Bool(true))]?,
+            "mark without a truth value",
+            mark(14, Datum::Int(0)),
+            Some(mark(14, Datum::Bool(true))),
             14,
             (forward(14, 5, true), true, true),
         ),
         (
             "another expected type",
-            vec![in alloc; after(55, true, between(13, 16, 8))]?,
+            after(55, true, between(13, 16, 8)),
+            None,
             13,
             (forward(13, 8, true), true, false),
         ),
         (
-            "a second expected type is behind the first",
-            vec![in alloc; between(13, 16, 8)]?,
+            "second expected type",
+            between(13, 16, 8),
+            None,
             13,
             (name, true, true),
         ),
         (
-            "its type ends",
-            vec![in alloc; after(49, false, between(13, 14, 6))]?,
+            "type ended",
+            after(49, false, between(13, 14, 6)),
+            None,
             13,
             (name, false, false),
         ),
         (
-            "its type ends, and it has it again",
-            vec![in alloc; after(49, false, between(13, 14, 6)), between(13, 14, 6)]?,
+            "type ended and told again",
+            after(49, false, between(13, 14, 6)),
+            Some(between(13, 14, 6)),
             13,
             (name, true, true),
         ),
         (
-            "a master",
-            vec![in alloc; between(15, 18, 13)]?,
+            "master",
+            between(15, 18, 13),
+            None,
             15,
             (turned, true, true),
         ),
         (
-            "a master of `name`",
-            vec![in alloc; between(13, 18, 15)]?,
+            "master of `name`",
+            between(13, 18, 15),
+            None,
             13,
-            (master, true, false),
+            (of_a_master, true, false),
         ),
         (
-            "a link to no master",
-            vec![in alloc; link(15, 18, None, Datum::Empty)]?,
+            "no master at the link",
+            link(15, 18, None, Datum::Empty),
+            None,
             15,
             (forward(15, 11, false), true, true),
         ),
     ];
-    for (case, added, place, wanted) in rows {
-        assert_eq!(rt; said(alloc, added, place)?, Some(wanted), "{case}");
+    for (case, first, second, place, wanted) in rows {
+        assert_eq!(rt;
+            said(rt.alloc(), first, second, place)?,
+            Some(wanted),
+            "{case}"
+        );
     }
     Ok(())
 }
