@@ -18,12 +18,13 @@ first-filter p (x ∷ xs) = elim (p x) as (λ t. first (cond t (x ∷ filter p x
   | false ↦ first-filter p xs
 ]
 
--- the first that something is made of
+-- one element more in front, of which something is made or not
 one_more : {A B : Type 0} (f : A → Option B) (x : A) (ys : List B) (xs : List A) (made : Option B) → f x ≡ made → first ys ≡ (first xs >>= f)
     → first (cons_option made ys) ≡ (first (cond (is_some made) (x ∷ xs) xs) >>= f)
 one_more f x ys xs None is rest = rest
 one_more f x ys xs (Some y) is rest = sym is
 
+-- the first that something is made of
 first-filter_map : {A B : Type 0} (f : A → Option B) (xs : List A) → first (filter_map f xs) ≡ (first (filter (λ x. is_some (f x)) xs) >>= f)
 first-filter_map f [] = refl
 first-filter_map f (x ∷ xs) = one_more f x (filter_map f xs) (filter (λ x. is_some (f x)) xs) (f x) refl (first-filter_map f xs)

@@ -173,9 +173,10 @@ fn is_unique(prims: &[Primitive], property: Id) -> bool
     }
 }
 
-/// What the property at a place states: that of its master backwards where a live link names a master, or its own; with
-/// the type that the first live link to an expected type names, and unique where the first live mark with a truth value
-/// says so. Where no property stands at the place it is told all the same; ask `is_property` first. It takes no memory.
+/// What the property at a place states, over a list of 2,097,151 primitives at most. Where a live link names a master,
+/// the links of the master, backwards; else its own. The type that is expected is what the first live link to an
+/// expected type names, if there is one. It is unique where the first live mark that has a truth value says so. Where no
+/// property stands at the place the same rules tell something too: ask `is_property` first. It takes no memory.
 pub fn stated(prims: &[Primitive], place: Id) -> Property
     requires { length prims.now ≤ 2097151 }
     ensures { result ≡ defined.stated prims.now place }
@@ -189,8 +190,8 @@ pub fn stated(prims: &[Primitive], place: Id) -> Property
     }
 }
 
-/// Whether a property stands at a place: an object to which a live link gives the type of properties. It takes no
-/// memory.
+/// Whether a property stands at a place of a list of 2,097,151 primitives at most: an object to which a live link gives
+/// the type of properties. It takes no memory.
 pub fn is_property(prims: &[Primitive], place: Id) -> bool
     requires { length prims.now ≤ 2097151 }
     ensures { result ≡ (live.is_object prims.now place && defined.has_type prims.now place property_place) }
@@ -207,8 +208,8 @@ fn is_name_property(property: &Property) -> bool
         && property.unique
 }
 
-/// Whether the list says of the property `name` what the built-in list says: there is such a property, its links are
-/// its own and lead forward, and it expects one text at most. It takes no memory.
+/// Whether a list of 2,097,151 primitives at most says of the property `name` what the built-in list says: a property
+/// stands at its place, its links are its own and lead forward, and it expects a text and is unique. It takes no memory.
 pub fn says_name(prims: &[Primitive]) -> bool
     requires { length prims.now ≤ 2097151 }
     ensures tested { result ≡ built.says_name prims.now }
