@@ -1,0 +1,4 @@
+pub mod Options
+pub mod Parser
+pub mod Spelling
+pub mod Words

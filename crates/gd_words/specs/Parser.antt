@@ -1,0 +1,18 @@
+-- The parser of the options, as clap's model has it.
+use Rattle.std.specs.Prelude.{[], Some, true, codes}
+use Rattle.clap.specs.Words.{App, Rule, Text, new_app, new_rule, with_rule}
+
+-- an option with a long name, which is its id too
+abbrev pub long_rule : Text → Rule
+long_rule name = record (new_rule name) { long = Some name }
+
+-- a command without options, help and version
+abbrev pub bare : App
+bare = record {
+  top = record (new_app (codes "serve")).top { no_binary_name = true; disable_help_flag = true; disable_version_flag = true };
+  subs = [];
+}
+
+-- `serve` with its three options
+abbrev pub parser : App
+parser = with_rule (with_rule (with_rule bare (long_rule (codes "file"))) (long_rule (codes "workers"))) (long_rule (codes "budget"))

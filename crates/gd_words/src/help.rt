@@ -1,0 +1,22 @@
+//! The text for `--help`.
+
+/// The verbs and options of the command line, for a user to read.
+pub fn help_text() -> &'static str {
+    "\
+graphd, a graph store
+
+Usage: graphd serve [OPTIONS]
+
+serve    reads lines of JSON from standard input, each a read or a write of a
+         session, and prints one line of JSON for each
+
+Options, each at most once, as --name value or --name=value:
+  --file PATH     keep the store in this file; without it, in memory
+  --workers N     1 to 16 threads, 4 if not given (no effect yet)
+  --budget N      1 to 1000000 steps for a slice of a read, 10000 if not
+                  given (no effect yet)
+
+Example:
+  graphd serve --file store.graphd --budget=5000 < requests.txt
+"
+}

@@ -1,0 +1,88 @@
+//! From words to a command.
+ghost use Rattle.std.specs.Prelude.{◌≡◌, ◌≤◌, ℕ, List, map, option_and_then, length, IfOk, IfSome, option_map, All};
+ghost use Rattle.gd_words.specs.Options.{options_of};
+ghost use Rattle.gd_words.specs.Words.{serve_of, command_of};
+
+use crate::grammar::are_options;
+use crate::number::number_or;
+use crate::parsing::values_of;
+use crate::verbs::{Command, Serve};
+use gd_base::memory::Memory;
+use gd_base::text::Text;
+use std::alloc::Global;
+
+const WORKERS: u32 = 4;
+
+const MOST_WORKERS: u32 = 16;
+
+const BUDGET: u32 = 10_000;
+
+const MOST_BUDGET: u32 = 1_000_000;
+
+/// The words as strings.
+fn strings<'a>(alloc: Global, words: &'a [Text]) -> Result<Vec<&'a str>, Memory>
+    ensures same { IfOk result (λ v. map (λ w. w.now) v.items ≡ words.now) }
+    ensures short { IfOk result (λ v. All (λ w. length w.now ≤ 4096) v.items) }
+{
+    let mut strings = Vec::new(alloc);
+    for word in words {
+        strings.push(word.as_str())?;
+    }
+    Ok(strings)
+}
+
+/// The command that the words after the program's name give: the verb `serve`, then `--file PATH`,
+/// `--workers N` (1 to 16, else 4) and `--budget N` (1 to 1,000,000, else 10,000), in any order, each at
+/// most once, as `--name value` or `--name=value`. A value is not empty, and as a word of its own does not
+/// begin with `-`; a number is 1 to 10 digits. None: the words are not of this grammar. `Memory`: an
+/// allocation was refused.
+#[tactic(auto, unfolding(crate::specs::Words::command_of))]
+pub fn command(alloc: Global, words: &[Text]) -> Result<Option<Command>, Memory>
+    ensures { IfOk result (λ command. command ≡ command_of words.now) }
+{
+    let Some((verb, options)) = words.split_first() else {
+        return Ok(None);
+    };
+    if verb.as_str() != "serve" {
+        return Ok(None);
+    }
+    let options = strings(alloc, options)?;
+    match serve(alloc, &options)? {
+        Some(serve) => Ok(Some(Command::Serve(serve))),
+        None => Ok(None),
+    }
+}
+
+/// `serve` with the options that the words spell.
+fn serve(alloc: Global, words: &[&str]) -> Result<Option<Serve>, Memory>
+    requires { All (λ w. length w.now ≤ 4096) words.now }
+    ensures { IfOk result (λ serve. serve ≡ option_and_then serve_of (options_of (map (λ w. w.now) words.now))) }
+{
+    if !are_options(words) {
+        return Ok(None);
+    }
+    let values = values_of(alloc, words)?;
+    let Some(workers) = number_or(WORKERS, 1, MOST_WORKERS, values.workers) else {
+        return Ok(None);
+    };
+    let Some(budget) = number_or(BUDGET, 1, MOST_BUDGET, values.budget) else {
+        return Ok(None);
+    };
+    let file = file_of(alloc, values.file)?;
+    Ok(Some(Serve {
+        file,
+        workers,
+        budget,
+    }))
+}
+
+/// The path of the file, if it is given.
+fn file_of(alloc: Global, value: Option<&str>) -> Result<Option<Text>, Memory>
+    requires { IfSome value (λ path. length path.now ≤ 4096) }
+    ensures { IfOk result (λ path. path ≡ option_map (λ text. text.now) value.entry) }
+{
+    match value {
+        Some(path) => Ok(Some(Text::of(alloc, path)?)),
+        None => Ok(None),
+    }
+}

@@ -1,0 +1,19 @@
+//! What a command line can ask for.
+use gd_base::text::Text;
+
+/// Serve lines and rounds.
+#[derive(Debug, PartialEq, Eq, Drop)]
+pub struct Serve {
+    /// The path of the file that keeps the store, of 1 to 4,096 bytes. None: it is kept in memory.
+    pub file: Option<Text>,
+    /// How many threads read, 1 to 16.
+    pub workers: u32,
+    /// How many steps a slice of a read may take, 1 to 1,000,000.
+    pub budget: u32,
+}
+
+/// A verb with its options.
+#[derive(Debug, PartialEq, Eq, Drop)]
+pub enum Command {
+    Serve(Serve),
+}
