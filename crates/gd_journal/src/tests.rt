@@ -177,21 +177,48 @@ fn a_failing_append_leaves_one_of_two_lists(rt: HostRuntime) -> Result<(), Fail>
     Ok(())
 }
 
+/// A file of `ab` that a stop left while `c` was appended, before the first sync: behind the closed gate stand the first
+/// `len` bytes that were written, each as it was written, 0 or 255, as the digits of `code` in base 3 say.
+fn torn(alloc: Global, len: usize, code: u32) -> Result<Vec<u8>, Fail> {
+    let mut file = ONE.to_vec(alloc)?;
+    let mut digits = code;
+    for byte in b"\0\0\0\x01c\0".iter().take(len) {
+        file.push(match digits % 3 {
+            0 => *byte,
+            1 => 0,
+            _ => 255,
+        })?;
+        digits /= 3;
+    }
+    Ok(file)
+}
+
 #[test]
 fn a_stopped_append_leaves_one_of_two_lists(rt: HostRuntime) -> Result<(), Fail> {
     let alloc = rt.alloc();
-    // before the first sync any bytes behind the gate, then any gate
-    let images: [(&[u8], &str); 7] = [
-        (ONE, HOLDS_ONE),
-        (b"GRAPHD1\n\x01\0\0\0\x02ab\0\0\0", HOLDS_ONE),
-        (b"GRAPHD1\n\x01\0\0\0\x02ab\0\xff\xff\xff\xff", HOLDS_ONE),
-        (b"GRAPHD1\n\x01\0\0\0\x02ab\0\x01\0\0\0\x01\x01", HOLDS_ONE),
-        (b"GRAPHD1\n\x01\0\0\0\x02ab\0\0\0\0\x01c\0", HOLDS_ONE),
-        (b"GRAPHD1\n\x01\0\0\0\x02ab\x07\0\0\0\x01c\0", HOLDS_ONE),
-        (TWO, HOLDS_TWO),
-    ];
-    for (image, holds) in images {
-        assert_eq!(rt; read(alloc, image)?.as_str(), holds);
+    // before the first sync any bytes may stand behind the closed gate
+    for len in 0..7 {
+        for code in 0..729 {
+            let file = torn(alloc, len, code)?;
+            assert_eq!(rt;
+                read(alloc, file.as_slice())?.as_str(),
+                HOLDS_ONE,
+                "at {len} and {code}"
+            );
+        }
+    }
+    // before the second the gate may be any byte
+    for gate in 0..=u8::MAX {
+        let mut file = TWO.to_vec(alloc)?;
+        if let Some(byte) = file.get_mut(15) {
+            *byte = gate;
+        }
+        let holds = if gate == 1 { HOLDS_TWO } else { HOLDS_ONE };
+        assert_eq!(rt;
+            read(alloc, file.as_slice())?.as_str(),
+            holds,
+            "with the gate {gate}"
+        );
     }
     Ok(())
 }
