@@ -37,6 +37,7 @@ CRATES = [
     ("gd_tree", "Trees: JSON values as every request and reply has them, and trees of places.",
      ["Hex", "Json", "Look", "JsonCode", "Trees"], True),
     ("gd_base", "The order of data.", ["Order"], False),
+    ("gd_postings", "Posting lists.", ["Postings"], False),
     ("gd_prim", "Primitives: the built-in ones, which of them are live, and which batches may follow.",
      ["Builtin", "Live", "History", "Limits", "WellFormed"], False),
     ("gd_defs", "The meaning of queries and writes over a list of primitives.",

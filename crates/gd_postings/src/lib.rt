@@ -1,0 +1,6 @@
+//! Posting lists.
+#![tactic(auto)]
+
+pub mod postings;
+#[cfg(test)]
+mod tests;

@@ -1,0 +1,204 @@
+//! Posting lists.
+ghost use Rattle.std.specs.Prelude.{◌≡◌, ◌+◌, ◌-◌, ◌^◌, ◌<◌, ◌≤◌, ◌↔◌, [], ◌∷◌, ◌++◌, Some, length, slice_get, min, max, OnOk, OnErr, IfSome, IfNone, IsTrue};
+ghost use Rattle.std.specs.List.{Contains};
+ghost use Rattle.gd_base.specs.Counts.{Rose};
+ghost use Rattle.gd_postings.specs.Postings.{Places, IsRising, IsAbove, ids_below, IsSplit};
+ghost use Rattle.gd_postings.specs.Postings as rising;
+
+use gd_base::id::Id;
+use gd_base::memory::Memory;
+use gd_base::steps::Steps;
+use std::alloc::Global;
+use std::marker::Model;
+
+/// A posting list: identities, each greater than the one before, at most 2,097,151 of them. Contracts see the list,
+/// and `spare`, the number of identities that may be pushed without memory.
+#[derive(Debug, Drop)]
+pub struct Postings {
+    ids: Vec<u32>,
+    spare: usize,
+}
+
+impl Model for Postings {
+    ghost use Rattle.std.specs.Prelude.{ℕ, ◌+◌, ◌≤◌, List, length, vec_len, vec_capacity};
+    ghost use Rattle.gd_postings.specs.Postings.{Places, IsRising};
+
+    ghost Value = { Places };
+
+    ghost view = { λ postings. record { ids = postings.ids.items; spare = postings.spare } };
+
+    ghost invariant = { λ postings. (vec_len postings.ids + postings.spare ≤ vec_capacity postings.ids) × (length postings.ids.items ≤ 2_097_151) × IsRising postings.ids.items };
+}
+
+impl Postings {
+    /// No identities, and no room for any.
+    pub fn new(alloc: Global) -> Postings
+        ensures ids { result.ids ≡ [] }
+        ensures spare { result.spare ≡ 0 }
+    {
+        Postings {
+            ids: Vec::new(alloc),
+            spare: 0,
+        }
+    }
+
+    /// Makes room for `extra` identities more, so that `spare` is at least `extra`. It never lowers `spare`. `Memory`
+    /// leaves all as it was, and comes only where there was less room.
+    pub fn reserve(&mut self, extra: u32) -> Result<(), Memory>
+        ensures ids { self.new.ids ≡ self.old.ids }
+        ensures ok { OnOk result (self.new.spare ≡ max self.old.spare extra) }
+        ensures err { OnErr result (self.new ≡ self.old) }
+        ensures short { OnErr result (self.old.spare < extra) }
+    {
+        let extra = extra as usize;
+        if extra <= self.spare {
+            return Ok(());
+        }
+        self.ids.reserve(extra)?;
+        self.spare = extra;
+        Ok(())
+    }
+
+    /// Adds an identity at the end, in a reserved place. It takes no memory.
+    pub fn push(&mut self, id: Id)
+        requires room { 0 < self.old.spare }
+        requires small { id < 2_097_151 }
+        requires above { IsAbove self.old.ids id }
+        ensures ids { self.new.ids ≡ self.old.ids ++ id ∷ [] }
+        ensures spare { self.new.spare + 1 ≡ self.old.spare }
+    {
+        match self.ids.push(id.0) {
+            Ok(()) => self.spare -= 1,
+            Err(_) => unreachable!(),
+        }
+    }
+
+    /// Takes the last identity away, and gives it. Its place is reserved again. None exactly where the list is empty,
+    /// and then all stays.
+    pub fn pop_last(&mut self) -> Option<Id>
+        ensures some { IfSome result (λ id. (self.old.ids ≡ self.new.ids ++ id ∷ []) × (self.new.spare ≡ self.old.spare + 1)) }
+        ensures none { IfNone result ((self.old.ids ≡ []) × (self.new ≡ self.old)) }
+    {
+        match self.ids.pop() {
+            Some(place) => {
+                self.spare += 1;
+                Some(Id(place))
+            }
+            None => None,
+        }
+    }
+
+    /// How many identities there are. The list is rising, and has at most 2,097,151.
+    pub fn len(&self) -> u32
+        ensures len { result ≡ length self.now.ids }
+        ensures few { length self.now.ids ≤ 2_097_151 }
+        ensures rising { IsRising self.now.ids }
+    {
+        self.ids.len() as u32
+    }
+
+    /// The identity at place `k` of the list, counted from 0, in one step.
+    pub fn at<L>(&self, k: u32, steps: &mut Steps<L>) -> Id
+        requires there { k < length self.now.ids }
+        ensures id { slice_get self.now.ids k ≡ Some result }
+        ensures work { steps.new ≡ min (steps.old + 1) (2 ^ 64 - 1) }
+    {
+        steps.tick();
+        Id(self.ids[k as usize])
+    }
+
+    /// How many identities are less than `end`, in at most 22 steps, and at least one where the list is not empty.
+    pub fn len_below<L>(&self, end: Id, steps: &mut Steps<L>) -> u32
+        ensures len { result ≡ length (ids_below end self.now.ids) }
+        ensures work { steps.new ≤ steps.old + 22 }
+        ensures later { steps.old ≤ steps.new }
+        ensures counted { 0 < length self.now.ids → Rose steps.old steps.new }
+    {
+        search(&self.ids, end.0, steps) as u32
+    }
+
+    /// The least identity that is `id` or greater, in at most 22 steps, and at least one where the list is not empty.
+    /// None exactly where there is none.
+    #[tactic(auto, using(crate::proofs::Split::finds, crate::proofs::Split::finds_none))]
+    pub fn first_from<L>(&self, id: Id, steps: &mut Steps<L>) -> Option<Id>
+        ensures first { result ≡ rising.first_from id self.now.ids }
+        ensures work { steps.new ≤ steps.old + 22 }
+        ensures later { steps.old ≤ steps.new }
+        ensures counted { 0 < length self.now.ids → Rose steps.old steps.new }
+    {
+        let place = search(&self.ids, id.0, steps);
+        if place == self.ids.len() {
+            return None;
+        }
+        steps.tick();
+        Some(Id(self.ids[place]))
+    }
+
+    /// Whether the identity is in the list, in at most 22 steps, and at least one where the list is not empty.
+    pub fn has<L>(&self, id: Id, steps: &mut Steps<L>) -> bool
+        ensures has { IsTrue result ↔ Contains self.now.ids id }
+        ensures work { steps.new ≤ steps.old + 22 }
+        ensures later { steps.old ≤ steps.new }
+        ensures counted { 0 < length self.now.ids → Rose steps.old steps.new }
+    {
+        let place = search(&self.ids, id.0, steps);
+        if place == self.ids.len() {
+            return false;
+        }
+        steps.tick();
+        self.ids[place] == id.0
+    }
+}
+
+/// The places of a list that are still in question: from `low` up to `high`.
+#[derive(Clone, Copy)]
+struct Part {
+    low: usize,
+    high: usize,
+}
+
+/// The half of the part that is still in question once its middle was looked at.
+fn halve(ids: &[u32], end: u32, part: Part) -> Part
+    requires few { length ids.now ≤ 2_097_151 }
+    requires rising { IsRising ids.now }
+    requires split { IsSplit ids.now end part.low part.high }
+    requires some { part.low < part.high }
+    ensures split { IsSplit ids.now end result.low result.high }
+    ensures half { (result.high - result.low) + (result.high - result.low) ≤ part.high - part.low }
+{
+    let middle = part.low + (part.high - part.low) / 2;
+    if ids[middle] < end {
+        Part {
+            low: middle + 1,
+            high: part.high,
+        }
+    } else {
+        Part {
+            low: part.low,
+            high: middle,
+        }
+    }
+}
+
+/// The place before which each identity of a rising list is less than `end`, and from which none is.
+fn search<L>(ids: &[u32], end: u32, steps: &mut Steps<L>) -> usize
+    requires few { length ids.now ≤ 2_097_151 }
+    requires rising { IsRising ids.now }
+    ensures split { IsSplit ids.now end result result }
+    ensures work { steps.new ≤ steps.old + 21 }
+    ensures later { steps.old ≤ steps.new }
+    ensures counted { 0 < length ids.now → Rose steps.old steps.new }
+{
+    let mut part = Part {
+        low: 0,
+        high: ids.len(),
+    };
+    for _round in 0..21u32 {
+        if part.low == part.high {
+            return part.low;
+        }
+        steps.tick();
+        part = halve(ids, end, part);
+    }
+    part.low
+}
