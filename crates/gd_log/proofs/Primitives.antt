@@ -1,0 +1,323 @@
+-- Primitives of groups are read exactly by the definition's readers.
+use Rattle.std.proofs.Common.{◌≡◌, refl, ℕ, ◌+◌, ◌*◌, ◌/◌, ◌%◌, ◌^◌, ◌<◌, ◌≤◌, Bool, true, false, ◌==◌, if◌then◌else◌, List, [], ◌∷◌, ◌++◌, Some, None, sym, ◌∙◌, ap, subst, arith, append_assoc}
+use Rattle.std.specs.Prelude.{Option, is_some, nat_le}
+use Rattle.std.proofs.lemmas.List.{append-nil}
+use Rattle.std.proofs.lemmas.Bool.Decides.{nat_tests}
+use Rattle.std.specs.Int.{bit_at, bytes_high_first}
+use Rattle.gd_base.specs.declared.datum.Datum.{Datum}
+use Rattle.gd_prim.specs.declared.Primitive.{Primitive}
+use Rattle.gd_grammar.specs.Grammar.{IsText}
+use Rattle.gd_grammar.proofs.Scans.{Then, Only}
+use Rattle.gd_bytes.specs.Group.{Reads, flag, flags, reference_bytes, name_bytes, value_bytes, primitive_bytes, PrimitiveFits, u8_at, reference_at, name_at, value_at, primitive_at}
+use Rattle.gd_codec.proofs.Exact.{join}
+use Rattle.gd_codec.proofs.Numbers.{InRange}
+use Rattle.gd_log.proofs.Readers.{AreBytes, Exact, Exact-then, Exact-only, Exact-same, Exact-unless, Exact-u8, chain}
+use Rattle.gd_log.proofs.Values.{Reference, Exact-reference, Name, Exact-name, Value, Exact-value}
+
+abbrev flag_at : ℕ → ℕ → Bool
+flag_at flags i = bit_at flags i == 1
+
+-- ---- the flag byte
+
+abbrev digit : Bool → ℕ
+digit b = if b then 1 else 0
+
+flag_is : (worth : ℕ) (b : Bool) → flag worth b ≡ worth * digit b
+flag_is worth true = omega arith
+flag_is worth false = omega arith
+
+digit_small : (b : Bool) → digit b < 2
+digit_small true = omega arith
+digit_small false = omega arith
+
+digit_one : (b : Bool) → (digit b == 1) ≡ b
+digit_one true = refl
+digit_one false = refl
+
+-- the flags, each worth twice the one before
+abbrev sum : Bool → Bool → Bool → Bool → Bool → Bool → Bool → ℕ
+sum a b c d e f g = flag 1 a + flag 2 b + flag 4 c + flag 8 d + flag 16 e + flag 32 f + flag 64 g
+
+digits : (a b c d e f g : Bool) → sum a b c d e f g ≡ digit a + 2 * digit b + 4 * digit c + 8 * digit d + 16 * digit e + 32 * digit f + 64 * digit g
+digits a b c d e f g = omega (arith, flag_is 1 a, flag_is 2 b, flag_is 4 c, flag_is 8 d, flag_is 16 e, flag_is 32 f, flag_is 64 g)
+
+record Seven (n : ℕ) (a b c d e f g : Bool) : Type 0 where
+  small : n ≤ 127
+  at_0 : flag_at n 0 ≡ a
+  at_1 : flag_at n 1 ≡ b
+  at_2 : flag_at n 2 ≡ c
+  at_3 : flag_at n 3 ≡ d
+  at_4 : flag_at n 4 ≡ e
+  at_5 : flag_at n 5 ≡ f
+  at_6 : flag_at n 6 ≡ g
+
+bit : (n i : ℕ) (b : Bool) → n / 2 ^ i % 2 ≡ digit b → flag_at n i ≡ b
+bit n i b is = ap (λ (x : ℕ). x == 1) is ∙ digit_one b
+
+number_bits : (n a b c d e f g : ℕ) → a < 2 → b < 2 → c < 2 → d < 2 → e < 2 → f < 2 → g < 2 → n ≡ a + 2 * b + 4 * c + 8 * d + 16 * e + 32 * f + 64 * g
+    → (n ≤ 127) × (n / 1 % 2 ≡ a) × (n / 2 % 2 ≡ b) × (n / 4 % 2 ≡ c) × (n / 8 % 2 ≡ d) × (n / 16 % 2 ≡ e) × (n / 32 % 2 ≡ f) × (n / 64 % 2 ≡ g)
+number_bits n a b c d e f g p q r s t u v is = (omega arith, omega arith, omega arith, omega arith, omega arith, omega arith, omega arith, omega arith)
+
+seven : (a b c d e f g : Bool) → Seven (sum a b c d e f g) a b c d e f g
+seven a b c d e f g =
+    let n = sum a b c d e f g in
+    let (small, x0, x1, x2, x3, x4, x5, x6) = number_bits n (digit a) (digit b) (digit c) (digit d) (digit e) (digit f) (digit g) (digit_small a) (digit_small b) (digit_small c) (digit_small d) (digit_small e) (digit_small f) (digit_small g) (digits a b c d e f g) in
+    record {
+      small = small;
+      at_0 = bit n 0 a x0;
+      at_1 = bit n 1 b x1;
+      at_2 = bit n 2 c x2;
+      at_3 = bit n 3 d x3;
+      at_4 = bit n 4 e x4;
+      at_5 = bit n 5 f x5;
+      at_6 = bit n 6 g x6;
+    }
+
+bit_digit : (n i : ℕ) → digit (flag_at n i) ≡ n / 2 ^ i % 2
+bit_digit n i = two (n / 2 ^ i % 2) (omega arith)
+  where
+    two : (x : ℕ) → x < 2 → (if x == 1 then 1 else 0) ≡ x
+    two x h = grind (arith, nat_tests)
+
+number_sum : (n : ℕ) → n ≤ 127 → n / 1 % 2 + 2 * (n / 2 % 2) + 4 * (n / 4 % 2) + 8 * (n / 8 % 2) + 16 * (n / 16 % 2) + 32 * (n / 32 % 2) + 64 * (n / 64 % 2) ≡ n
+number_sum n h = omega arith
+
+-- a number is the sum of its flags
+sum_back : (n : ℕ) → n ≤ 127 → sum (flag_at n 0) (flag_at n 1) (flag_at n 2) (flag_at n 3) (flag_at n 4) (flag_at n 5) (flag_at n 6) ≡ n
+sum_back n h =
+    let all = digits (flag_at n 0) (flag_at n 1) (flag_at n 2) (flag_at n 3) (flag_at n 4) (flag_at n 5) (flag_at n 6) in
+    let whole = number_sum n h in
+    omega (arith, all, whole, bit_digit n 0, bit_digit n 1, bit_digit n 2, bit_digit n 3, bit_digit n 4, bit_digit n 5, bit_digit n 6)
+
+-- ---- the parts of a primitive, one after another
+
+abbrev Ref : Type 0
+Ref = Option ℕ
+
+abbrev made : ℕ → ℕ → Ref → Ref → Ref → Ref → Ref → Datum → Option (List ℕ) → Primitive
+made m f l r t s p v n = record { left = l; right = r; typ = t; scope = s; value = v; name = n; previous = p; live = flag_at f 6; moment = m }
+
+module _ (m f : ℕ) where
+  abbrev Named : Ref → Ref → Ref → Ref → Ref → Datum → Primitive → List ℕ → Type 0
+  Named l r t s p v = Then (Name (flag_at f 5)) (λ n. Only (made m f l r t s p v n))
+
+  abbrev named_at : Ref → Ref → Ref → Ref → Ref → Datum → List ℕ → Reads Primitive
+  named_at l r t s p v = chain (name_at (flag_at f 5)) (λ n bytes. Some (made m f l r t s p v n, bytes))
+
+  named : (l r t s p : Ref) (v : Datum) → Exact (Named l r t s p v) (named_at l r t s p v)
+  named l r t s p v = Exact-then (Name (flag_at f 5)) (λ n. Only (made m f l r t s p v n)) (name_at (flag_at f 5)) (λ n bytes. Some (made m f l r t s p v n, bytes)) (Exact-name (flag_at f 5)) (λ n w x. Exact-only (made m f l r t s p v n))
+
+  abbrev Valued : Ref → Ref → Ref → Ref → Ref → Primitive → List ℕ → Type 0
+  Valued l r t s p = Then Value (Named l r t s p)
+
+  abbrev valued_at : Ref → Ref → Ref → Ref → Ref → List ℕ → Reads Primitive
+  valued_at l r t s p = chain value_at (named_at l r t s p)
+
+  valued : (l r t s p : Ref) → Exact (Valued l r t s p) (valued_at l r t s p)
+  valued l r t s p = Exact-then Value (Named l r t s p) value_at (named_at l r t s p) Exact-value (λ v w x. named l r t s p v)
+
+  abbrev Previous : Ref → Ref → Ref → Ref → Primitive → List ℕ → Type 0
+  Previous l r t s = Then (Reference (flag_at f 4)) (Valued l r t s)
+
+  abbrev previous_at : Ref → Ref → Ref → Ref → List ℕ → Reads Primitive
+  previous_at l r t s = chain (reference_at (flag_at f 4)) (valued_at l r t s)
+
+  previous : (l r t s : Ref) → Exact (Previous l r t s) (previous_at l r t s)
+  previous l r t s = Exact-then (Reference (flag_at f 4)) (Valued l r t s) (reference_at (flag_at f 4)) (valued_at l r t s) (Exact-reference (flag_at f 4)) (λ p w x. valued l r t s p)
+
+  abbrev Scope : Ref → Ref → Ref → Primitive → List ℕ → Type 0
+  Scope l r t = Then (Reference (flag_at f 3)) (Previous l r t)
+
+  abbrev scope_at : Ref → Ref → Ref → List ℕ → Reads Primitive
+  scope_at l r t = chain (reference_at (flag_at f 3)) (previous_at l r t)
+
+  scope : (l r t : Ref) → Exact (Scope l r t) (scope_at l r t)
+  scope l r t = Exact-then (Reference (flag_at f 3)) (Previous l r t) (reference_at (flag_at f 3)) (previous_at l r t) (Exact-reference (flag_at f 3)) (λ s w x. previous l r t s)
+
+  abbrev Typ : Ref → Ref → Primitive → List ℕ → Type 0
+  Typ l r = Then (Reference (flag_at f 2)) (Scope l r)
+
+  abbrev typ_at : Ref → Ref → List ℕ → Reads Primitive
+  typ_at l r = chain (reference_at (flag_at f 2)) (scope_at l r)
+
+  typ : (l r : Ref) → Exact (Typ l r) (typ_at l r)
+  typ l r = Exact-then (Reference (flag_at f 2)) (Scope l r) (reference_at (flag_at f 2)) (scope_at l r) (Exact-reference (flag_at f 2)) (λ t w x. scope l r t)
+
+  abbrev Right : Ref → Primitive → List ℕ → Type 0
+  Right l = Then (Reference (flag_at f 1)) (Typ l)
+
+  abbrev right_at : Ref → List ℕ → Reads Primitive
+  right_at l = chain (reference_at (flag_at f 1)) (typ_at l)
+
+  right : (l : Ref) → Exact (Right l) (right_at l)
+  right l = Exact-then (Reference (flag_at f 1)) (Typ l) (reference_at (flag_at f 1)) (typ_at l) (Exact-reference (flag_at f 1)) (λ r w x. typ l r)
+
+  abbrev Left : Primitive → List ℕ → Type 0
+  Left = Then (Reference (flag_at f 0)) Right
+
+  abbrev left_at : List ℕ → Reads Primitive
+  left_at = chain (reference_at (flag_at f 0)) right_at
+
+  left : Exact Left left_at
+  left = Exact-then (Reference (flag_at f 0)) Right (reference_at (flag_at f 0)) right_at (Exact-reference (flag_at f 0)) (λ l w x. right l)
+
+abbrev Flags : ℕ → List ℕ → Type 0
+Flags = InRange 0 255 1
+
+abbrev Flagged : ℕ → ℕ → Primitive → List ℕ → Type 0
+Flagged m f x w = (nat_le 128 f ≡ false) × Left m f x w
+
+abbrev Parts : ℕ → Primitive → List ℕ → Type 0
+Parts m = Then Flags (Flagged m)
+
+parts : (m : ℕ) → Exact (Parts m) (primitive_at m)
+parts m = Exact-then Flags (Flagged m) u8_at (λ f bytes. if nat_le 128 f then None else left_at m f bytes) Exact-u8 (λ f w x. Exact-unless (nat_le 128 f) (Left m f) (left_at m f) (left m f))
+
+few_flags : (f : ℕ) → nat_le 128 f ≡ false → f ≤ 127
+few_flags f is = grind (arith, nat_tests)
+
+flags_few : (f : ℕ) → f ≤ 127 → nat_le 128 f ≡ false
+flags_few f is = grind (arith, nat_tests)
+
+-- ---- the parts are the spelling
+
+abbrev pub Spelled : ℕ → Primitive → List ℕ → Type 0
+Spelled m = IsText primitive_bytes (PrimitiveFits m)
+
+regroup : (x : ℕ) (l r t s p v n : List ℕ) → (x ∷ []) ++ (l ++ (r ++ (t ++ (s ++ (p ++ (v ++ (n ++ []))))))) ≡ x ∷ l ++ r ++ t ++ s ++ p ++ v ++ n
+regroup x l r t s p v n = simp (append_assoc, append-nil)
+
+-- the flag byte of a primitive that was made of its parts
+flags_made : (m f : ℕ) (l r t s p : Ref) (v : Datum) (n : Option (List ℕ)) → f ≤ 127 → is_some l ≡ flag_at f 0 → is_some r ≡ flag_at f 1 → is_some t ≡ flag_at f 2 → is_some s ≡ flag_at f 3 → is_some p ≡ flag_at f 4
+    → is_some n ≡ flag_at f 5 → flags (made m f l r t s p v n) ≡ f
+flags_made m f l r t s p v n small at_0 at_1 at_2 at_3 at_4 at_5 =
+    (λ i. sum (at_0 i) (at_1 i) (at_2 i) (at_3 i) (at_4 i) (at_5 i) (flag_at f 6)) ∙ sum_back f small
+
+to_spelled : (m : ℕ) (x : Primitive) (w : List ℕ) → AreBytes w → Parts m x w → Spelled m x w
+to_spelled m x w bytes (
+  f,
+  a0,
+  u0,
+  (low, high, a0_is),
+  (
+    fails,
+    (
+      l,
+      a1,
+      u1,
+      (l_there, l_fits, a1_is),
+      (
+        r,
+        a2,
+        u2,
+        (r_there, r_fits, a2_is),
+        (
+          t,
+          a3,
+          u3,
+          (t_there, t_fits, a3_is),
+          (
+            s,
+            a4,
+            u4,
+            (s_there, s_fits, a4_is),
+            (
+              p,
+              a5,
+              u5,
+              (p_there, p_fits, a5_is),
+              (
+                v,
+                a6,
+                u6,
+                (v_fits, a6_is),
+                (n, a7, u7, (n_there, n_fits, a7_is), (x_is, u7_is), u6_is),
+                u5_is,
+              ),
+              u4_is,
+            ),
+            u3_is,
+          ),
+          u2_is,
+        ),
+        u1_is,
+      ),
+      u0_is,
+    ),
+  ),
+  w_is,
+) =
+    let small = few_flags f fails in
+    let made_flags = flags_made m f l r t s p v n small l_there r_there t_there s_there p_there n_there in
+    let byte : f % 256 ≡ flags (made m f l r t s p v n) = omega (arith, small, made_flags) in
+    let text : w ≡ (flags (made m f l r t s p v n) ∷ []) ++ (reference_bytes l ++ (reference_bytes r ++ (reference_bytes t ++ (reference_bytes s ++ (reference_bytes p ++ (value_bytes v ++ (name_bytes n ++ []))))))) =
+    join w_is (a0_is ∙ ap (λ (b : ℕ). b ∷ []) byte) (join u0_is a1_is (join u1_is a2_is (join u2_is a3_is (join u3_is a4_is (join u4_is a5_is (join u5_is a6_is (join u6_is a7_is u7_is))))))) in
+    subst (λ (y : Primitive). Spelled m y w) (sym x_is) (
+      record { left = l_fits; right = r_fits; typ = t_fits; scope = s_fits; previous = p_fits; value = v_fits; name = n_fits; same = refl },
+      text ∙ regroup (flags (made m f l r t s p v n)) (reference_bytes l) (reference_bytes r) (reference_bytes t) (reference_bytes s) (reference_bytes p) (value_bytes v) (name_bytes n),
+    )
+
+from_spelled : (m : ℕ) (x : Primitive) (w : List ℕ) → Spelled m x w → Parts m x w
+from_spelled m x w (fits, w_is) =
+    let f = flags x in
+    let bits = seven (is_some x.left) (is_some x.right) (is_some x.typ) (is_some x.scope) (is_some x.previous) (is_some x.name) x.live in
+    let byte : f ≡ f % 256 = omega (arith, bits.small) in
+    let whole : w ≡ bytes_high_first 1 f ++ (reference_bytes x.left ++ (reference_bytes x.right ++ (reference_bytes x.typ ++ (reference_bytes x.scope ++ (reference_bytes x.previous ++ (value_bytes x.value ++ (name_bytes x.name ++ []))))))) =
+    w_is ∙ sym (regroup f (reference_bytes x.left) (reference_bytes x.right) (reference_bytes x.typ) (reference_bytes x.scope) (reference_bytes x.previous) (value_bytes x.value) (name_bytes x.name))
+    ∙ ap (λ (b : ℕ). (b ∷ []) ++ (reference_bytes x.left ++ (reference_bytes x.right ++ (reference_bytes x.typ ++ (reference_bytes x.scope ++ (reference_bytes x.previous ++ (value_bytes x.value ++ (name_bytes x.name ++ [])))))))) byte in
+    let same : x ≡ made m f x.left x.right x.typ x.scope x.previous x.value x.name = (λ i. record { left = x.left; right = x.right; typ = x.typ; scope = x.scope; value = x.value; name = x.name; previous = x.previous; live = (sym bits.at_6) i; moment = fits.same i }) in (
+      f,
+      bytes_high_first 1 f,
+      _,
+      (omega arith, omega (arith, bits.small), refl),
+      (
+        flags_few f bits.small,
+        (
+          x.left,
+          reference_bytes x.left,
+          _,
+          (sym bits.at_0, fits.left, refl),
+          (
+            x.right,
+            reference_bytes x.right,
+            _,
+            (sym bits.at_1, fits.right, refl),
+            (
+              x.typ,
+              reference_bytes x.typ,
+              _,
+              (sym bits.at_2, fits.typ, refl),
+              (
+                x.scope,
+                reference_bytes x.scope,
+                _,
+                (sym bits.at_3, fits.scope, refl),
+                (
+                  x.previous,
+                  reference_bytes x.previous,
+                  _,
+                  (sym bits.at_4, fits.previous, refl),
+                  (
+                    x.value,
+                    value_bytes x.value,
+                    _,
+                    (fits.value, refl),
+                    (x.name, name_bytes x.name, [], (sym bits.at_5, fits.name, refl), (same, refl), refl),
+                    refl,
+                  ),
+                  refl,
+                ),
+                refl,
+              ),
+              refl,
+            ),
+            refl,
+          ),
+          refl,
+        ),
+      ),
+      whole,
+    )
+
+pub Exact-primitive : (m : ℕ) → Exact (Spelled m) (primitive_at m)
+Exact-primitive m = Exact-same (Parts m) (Spelled m) (primitive_at m) (to_spelled m) (from_spelled m) (parts m)
