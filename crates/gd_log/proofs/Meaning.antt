@@ -1,13 +1,10 @@
 -- What a file of groups means.
-use Rattle.std.proofs.Common.{◌≡◌, inl, inr, ℕ, ◌+◌, ◌≤◌, List, [], ◌∷◌, ◌++◌, length, take, Bool, true, false, Some, None, refl, sym, ◌∙◌, ap, subst, arith, append_assoc, length-append}
-use Rattle.std.specs.Prelude.{Option, if◌then◌else◌, nat_le, bytes_eq, map, not, is_some, ◌&&◌}
+use Rattle.std.proofs.Common.{◌≡◌, inl, inr, ℕ, ◌+◌, List, [], ◌∷◌, ◌++◌, length, take, Bool, true, false, Some, None, refl, sym, ◌∙◌, ap, subst, append_assoc}
+use Rattle.std.specs.Prelude.{Option, if◌then◌else◌, nat_le, bytes_eq, map}
 use Rattle.std.proofs.lemmas.List.{append-nil}
-use Rattle.gd_prim.specs.declared.Primitive.{Primitive}
 use Rattle.gd_prim.specs.declared.Batch.{Batch}
 use Rattle.gd_prim.specs.History.{prims_of}
 use Rattle.gd_prim.specs.WellFormed.{all_follow}
-use Rattle.gd_prim.specs.Limits.{max_requests}
-use Rattle.gd_store.proofs.Follows.{room}
 use Rattle.gd_bytes.specs.File.{Meaning, not_store, damaged, groups, header, joined, Payloads, no_payloads, payloads, record_batches, with_group, groups_of, meaning, StandsFor, MayStandFor}
 use Rattle.gd_journal.specs.Meaning as journal
 use Rattle.gd_log.specs.Groups.{IsNext, AreGroups}
@@ -107,41 +104,3 @@ stands file ps bs is are =
 pub may_stand : (file : List ℕ) (ps : List (List ℕ)) (p : List ℕ) (bs more : List Batch) → journal.MayStandFor ps p file → AreGroups [] ps bs → IsNext bs p more → MayStandFor bs (more ∷ []) file
 may_stand file ps p bs more (inl is) are n = inl (stands file ps bs is are)
 may_stand file ps p bs more (inr is) are n = inr (stands file (ps ++ p ∷ []) (bs ++ more) is (push [] ps bs p more are n))
-
--- a file stands for one list
-pub one_list : (file : List ℕ) (bs cs : List Batch) → StandsFor file bs → StandsFor file cs → bs ≡ cs
-one_list file bs cs (gs, is, join) (hs, is', join') =
-    let same : gs ≡ hs = cc in
-    sym join ∙ ap joined same ∙ join'
-
--- ---- how long it may be
-
-first : (a b : Bool) → (a && b) ≡ true → a ≡ true
-first true b is = refl
-first false b is = is
-
-second : (a b : Bool) → (a && b) ≡ true → b ≡ true
-second true b is = is
-second false b is = cc
-
-nothing : {A : Type 0} (o : Option A) → not (is_some o) ≡ true → o ≡ None
-nothing None is = refl
-nothing (Some x) is = cc
-
--- batches that follow are no more than requests may be
-few : (prims : List Primitive) (n : ℕ) (bs : List Batch) → all_follow prims n bs ≡ true → n ≤ max_requests → n + length bs ≤ max_requests
-few prims n [] is le = omega arith
-few prims n (b ∷ bs) is le =
-    let fits = (room prims n b.prims (nothing _ (second _ _ (first _ _ is)))).requests in
-    let more = few (prims ++ b.prims) (n + 1) bs (second _ _ is) fits in
-    omega (arith, more)
-
--- there are at least as many batches as payloads, and no more than requests may be
-pub groups_few : (before : List Batch) (ps : List (List ℕ)) (bs : List Batch) → AreGroups before ps bs → length before ≤ max_requests → (length before + length ps ≤ length bs) × (length bs ≤ max_requests)
-groups_few before [] bs same le = let long = ap length same in (omega (arith, long), omega (arith, long))
-groups_few before (p ∷ ps) bs (more, n, are) le =
-    let sum = length-append before more in
-    let small = few (prims_of before) (length before) more n.follow le in
-    let some = n.group.0.some in
-    let rest = groups_few (before ++ more) ps bs are (omega (arith, sum, small)) in
-    (omega (arith, rest.0, sum, some), rest.1)

@@ -23,8 +23,7 @@ pub record IsUnsure (content : Option (List ℕ)) (images : List ℕ → Type 0)
   pub doubt : IsInDoubt content images gate next payloads last
   pub means : (c : List ℕ) → images c → MayStandFor bs (more ∷ []) c
 
--- The disk holds some batches, which these may follow.
-pub record HoldsBefore (content : Option (List ℕ)) (images : List ℕ → Type 0) (gate : ℕ) (more : List Batch) : Type 0 where
-  pub batches : List Batch
-  pub held : IsHeld content images gate batches
-  pub follow : IsTrue (all_follow (prims_of batches) (length batches) more)
+-- The disk holds these batches, and the others may follow them.
+pub record HoldsBefore (content : Option (List ℕ)) (images : List ℕ → Type 0) (gate : ℕ) (bs more : List Batch) : Type 0 where
+  pub held : IsHeld content images gate bs
+  pub follow : IsTrue (all_follow (prims_of bs) (length bs) more)

@@ -17,6 +17,9 @@ use gd_prim::Batch;
 use std::alloc::Global;
 use std::marker::Model;
 
+/// A file whose last gate stands here or behind gets no further record. By its limits no store's file is so long.
+const FAR: u64 = 1 << 61;
+
 /// A file of groups of batches. Contracts see its journal, and of that the disk, the offset of the gate that ends the
 /// records, and the offset of the next gate while a group is in doubt. No record is damaged.
 #[derive(Drop)]
@@ -59,27 +62,25 @@ impl<D: Disk> Log<D> {
     }
 
     /// Adds a group of 1 to 256 batches, which count from then on, whenever a stop comes. `encode_group` says which
-    /// batches have bytes; as a group they have at most `PAYLOAD_LIMIT`. Each batch may follow those of the log and
-    /// those before it, within the limits of a store.
+    /// batches have bytes; as a group they have at most `PAYLOAD_LIMIT`. The log stands for them as long as each may
+    /// follow the batches of the log and those before it, within the limits of a store.
     ///
     /// At every moment of the call a stop leaves what stands for the batches before, followed by all or none of these.
-    /// `Memory`: the bytes found no room in memory or on the disk, and nothing was changed. `DiskFault`: the disk
-    /// failed, and the group is in doubt until `settle` tells.
+    /// `Memory`: the bytes found no room in memory or on the disk, or the file has more than 2 ^ 61 bytes; nothing was
+    /// changed. `DiskFault`: the disk failed, and the group is in doubt until `settle` tells.
     pub fn append(&mut self, alloc: Global, batches: &[Batch]) -> Result<(), JournalFault>
         requires group { Fits batches.now }
         requires short { length (spelling batches.now) ≤ PAYLOAD_LIMIT }
         requires no_doubt { self.old.doubt ≡ None }
-        requires follow { ForSome (D.content self.old.disk) (λ file.
-            HoldsBefore (D.content self.old.disk) (D.images self.old.disk) self.old.gate batches.now) }
         ensures added { OnOk result ((bs : List Batch)
-            → IsHeld (D.content self.old.disk) (D.images self.old.disk) self.old.gate bs
+            → HoldsBefore (D.content self.old.disk) (D.images self.old.disk) self.old.gate bs batches.now
             → IsHeld (D.content self.new.disk) (D.images self.new.disk) self.new.gate (bs ++ batches.now)) }
         ensures unsure { IfSome self.new.doubt (λ next. (bs : List Batch)
-            → IsHeld (D.content self.old.disk) (D.images self.old.disk) self.old.gate bs
+            → HoldsBefore (D.content self.old.disk) (D.images self.old.disk) self.old.gate bs batches.now
             → IsUnsure (D.content self.new.disk) (D.images self.new.disk) self.new.gate next bs batches.now) }
         ensures doubt { IsSome self.new.doubt ↔ IsErrOf result JournalFault.DiskFault }
         ensures moments { (bs : List Batch)
-            → IsHeld (D.content self.old.disk) (D.images self.old.disk) self.old.gate bs
+            → HoldsBefore (D.content self.old.disk) (D.images self.old.disk) self.old.gate bs batches.now
             → LeavesOnly D.moment D.images D.images_since self.old.disk self.new.disk (MayStandFor bs (batches.now ∷ [])) }
         ensures memory { IsErrOf result JournalFault.Memory → (self.new.gate ≡ self.old.gate)
             × IsUntouched D.content D.moment D.images D.images_since self.old.disk self.new.disk }
@@ -89,6 +90,9 @@ impl<D: Disk> Log<D> {
         ensures later { D.faults self.old.disk ≤ D.faults self.new.disk }
         ensures cause { IfErr result (HasReason (D.faults self.old.disk) (D.faults self.new.disk)) }
     {
+        if self.journal.gate() >= FAR {
+            return Err(JournalFault::Memory);
+        }
         let payload = encode_group(alloc, batches)?;
         self.journal.append(payload.as_slice())
     }
