@@ -4,3 +4,5 @@
 pub mod log;
 pub mod opening;
 mod replay;
+#[cfg(test)]
+mod tests;
