@@ -1,0 +1,53 @@
+-- What the disk of a log holds over a call.
+use Rattle.std.proofs.Common.{◌≡◌, ℕ, ◌≤◌, List, [], ◌∷◌, length, flat_map, refl, ◌∙◌, ap, arith, length-append}
+use Rattle.std.specs.Prelude.{Option, Some, None, IsSome}
+use Rattle.std.specs.Option.{is_some}
+use Rattle.std.specs.Int.{to_be_bytes, w16}
+use Rattle.gd_prim.specs.declared.Batch.{Batch}
+use Rattle.gd_bytes.specs.Disk.{LeavesOnly, IsUntouched}
+use Rattle.gd_bytes.specs.File.{MayStandFor}
+use Rattle.gd_bytes.specs.Group.{IsGroup, batch_bytes}
+use Rattle.gd_disk.specs.Runs.{leaves_weaken}
+use Rattle.gd_journal.specs.Meaning as journal
+use Rattle.gd_journal.specs.State.{IsSettled, IsInDoubt}
+use Rattle.gd_log.specs.Groups.{IsNext, AreGroups}
+use Rattle.gd_log.specs.State.{IsHeld, IsUnsure, HoldsBefore}
+use Rattle.gd_log.proofs.Meaning.{stands, may_stand}
+
+-- what is told is some file
+pub told_file : (content : Option (List ℕ)) → IsSome content → (file : List ℕ) × (content ≡ Some file)
+told_file (Some file) is = (file, refl)
+told_file None is = cc
+
+-- ---- what is held
+
+-- the next group of what is held
+pub held_next : (co : Option (List ℕ)) (im : List ℕ → Type 0) (gate : ℕ) (bs more : List Batch) (p : List ℕ) → HoldsBefore co im gate bs more → IsGroup p more → IsNext bs p more
+held_next co im gate bs more p before is = record { group = is; follow = before.follow }
+
+pub hold : (co : Option (List ℕ)) (im : List ℕ → Type 0) (gate : ℕ) (ps : List (List ℕ)) (bs : List Batch) → AreGroups [] ps bs → IsSettled co im gate ps → IsHeld co im gate bs
+hold co im gate ps bs are s = record { payloads = ps; groups = are; settled = s; means = λ c now. stands c ps bs (s.means c now) are }
+
+pub doubt : (co : Option (List ℕ)) (im : List ℕ → Type 0) (gate next : ℕ) (ps : List (List ℕ)) (p : List ℕ) (bs more : List Batch) → AreGroups [] ps bs → IsNext bs p more → IsInDoubt co im gate next ps p → IsUnsure co im gate next bs more
+doubt co im gate next ps p bs more are n s = record { payloads = ps; last = p; groups = are; next_group = n; doubt = s; means = λ c now. may_stand c ps p bs more (s.means c now) are n }
+
+-- what leaves payloads leaves their batches
+pub leaves : {D : Type 0} (moment : D → ℕ) (images : D → List ℕ → Type 0) (images_since : D → ℕ → List ℕ → Type 0) (old new : D) (ps : List (List ℕ)) (p : List ℕ) (bs more : List Batch) → AreGroups [] ps bs → IsNext bs p more
+    → LeavesOnly moment images images_since old new (journal.MayStandFor ps p) → LeavesOnly moment images images_since old new (MayStandFor bs (more ∷ []))
+leaves moment images images_since old new ps p bs more are n run =
+    leaves_weaken moment images images_since old new (journal.MayStandFor ps p) (MayStandFor bs (more ∷ [])) (λ c may. may_stand c ps p bs more may are n) run
+
+-- where nothing was changed the same payloads are there
+pub settled_untouched : {D : Type 0} (content : D → Option (List ℕ)) (moment : D → ℕ) (images : D → List ℕ → Type 0) (images_since : D → ℕ → List ℕ → Type 0) (old new : D) (gate : ℕ) (ps : List (List ℕ)) → IsUntouched content moment images images_since old new
+    → IsSettled (content old) (images old) gate ps → IsSettled (content new) (images new) gate ps
+settled_untouched content moment images images_since old new gate ps u s = record {
+  each = s.each;
+  rests = record { told = ap is_some u.same ∙ s.rests.told; place = s.rests.place; left = λ c now. s.rests.left c (u.now c now) };
+  means = λ c now. s.means c (u.now c now);
+}
+
+-- ---- the bytes of a group
+
+-- they are some
+pub group_some : (p : List ℕ) (bs : List Batch) → IsGroup p bs → 1 ≤ length p
+group_some p bs is = omega (arith, ap length is.1, length-append (to_be_bytes w16 (length bs)) (flat_map batch_bytes bs))

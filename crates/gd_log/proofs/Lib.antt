@@ -1,0 +1,4 @@
+pub mod Meaning
+pub mod Held
+pub mod Replays
+pub mod Opens

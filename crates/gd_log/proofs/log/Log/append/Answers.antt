@@ -1,0 +1,50 @@
+use Rattle.std.proofs.Common.{ℕ, List, [], ◌∷◌, ◌++◌, sym, ◌∙◌, ap, subst, arith}
+use Rattle.std.proofs.lemmas.Result.{on_ok_weaker}
+use Rattle.std.proofs.lemmas.Option.{IfSome_then}
+use Rattle.gd_bytes.specs.Group.{IsGroup}
+use Rattle.gd_journal.specs.State.{Journaled}
+use Rattle.gd_log.proofs.Held.{held_next, hold, doubt, leaves}
+use Rattle.gd_log.proofs.Meaning.{push}
+use Rattle.gd_log.proofs.log.Log.append.Goals as goal
+
+pub append-requires-clause-near : goal.append-requires-clause-near
+append-requires-clause-near g c = λ f is.
+    let none = ap (λ (v : Journaled _). v.doubt) c.self.view_is ∙ c.requires.no_doubt in
+    let long = c.gate.ensures.last f is none c.self.invariant in
+    omega (arith, long, c.gate.ensures.gate)
+
+pub returns-clause-added : goal.returns-clause-added
+returns-clause-added g c = rw (← c.self.view_is) (on_ok_weaker c.append.result (λ run bs before.
+    let d = g.D.Disk in
+    let j = c.self.inside.journal in
+    let p = c.as_slice.result.now in
+    let more = c.args.batches.now in
+    let is : IsGroup p more = subst (λ (l : List ℕ). IsGroup l more) (sym c.as_slice.ensures.value) c.in_ok-payload.ensures.spelled in
+    let next = held_next (d.content j.disk) (d.images j.disk) j.gate bs more p before is in
+    let h = before.held in
+    let after = c.append.new.self in
+    hold (d.content after.disk) (d.images after.disk) after.gate (h.payloads ++ p ∷ []) (bs ++ more) (push [] h.payloads bs p more h.groups next) (run h.payloads h.settled)) c.append.ensures.added)
+
+pub returns-clause-unsure : goal.returns-clause-unsure
+returns-clause-unsure g c = rw (← c.self.view_is) (IfSome_then c.append.new.self.doubt c.append.ensures.doubtful (λ n run bs before.
+    let d = g.D.Disk in
+    let j = c.self.inside.journal in
+    let p = c.as_slice.result.now in
+    let more = c.args.batches.now in
+    let is : IsGroup p more = subst (λ (l : List ℕ). IsGroup l more) (sym c.as_slice.ensures.value) c.in_ok-payload.ensures.spelled in
+    let next = held_next (d.content j.disk) (d.images j.disk) j.gate bs more p before is in
+    let h = before.held in
+    let after = c.append.new.self in
+    doubt (d.content after.disk) (d.images after.disk) after.gate n h.payloads p bs more h.groups next (run h.payloads h.settled)))
+
+pub returns-clause-moments : goal.returns-clause-moments
+returns-clause-moments g c = rw (← c.self.view_is) (λ bs before.
+    let d = g.D.Disk in
+    let j = c.self.inside.journal in
+    let p = c.as_slice.result.now in
+    let more = c.args.batches.now in
+    let is : IsGroup p more = subst (λ (l : List ℕ). IsGroup l more) (sym c.as_slice.ensures.value) c.in_ok-payload.ensures.spelled in
+    let next = held_next (d.content j.disk) (d.images j.disk) j.gate bs more p before is in
+    let h = before.held in
+    let after = c.append.new.self in
+    leaves d.moment d.images d.images_since j.disk after.disk h.payloads p bs more h.groups next (c.append.ensures.moments h.payloads h.settled))
