@@ -55,6 +55,8 @@ CRATES = [
      ["Request", "Input", "Legal", "Explained/Lines", "Explained/Outcomes", "Explained/Runs", "Explained", "Explained/Rounds",
       "RootSets", "Work", "Owed", "Scanned", "Shape/Answers", "Shape/Ids", "Shape", "Thawed", "Fitting",
       "Core", "Replay", "Pace", "Side"], True),
+    ("gd_log", "A log: payloads that are groups of batches, and what its disk holds.", ["Groups", "State"], False),
+    ("gd_words", "The command line: which words give which command.", ["Options", "Words"], False),
     ("gd_serving", "One thread: what a line comes to over the store, and runs that are served line by line.", ["Step", "Served"], False),
     ("gd_top", "The top call: which words it takes, and what it prints for its input.", ["Words", "Serves"], False),
 ]
