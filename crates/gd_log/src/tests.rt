@@ -162,10 +162,15 @@ fn ann_cut_and_changed(rt: HostRuntime) -> Result<(), Fail> {
 
 #[test]
 fn files_of_other_shapes(rt: HostRuntime) -> Result<(), Fail> {
-    let rows: [(&[u8], Outcome); 6] = [
+    let rows: [(&[u8], Outcome); 8] = [
         (b"", Outcome::Batches(0)),
-        (b"nine byte", Outcome::Batches(0)),
-        (b"ten bytes!", Outcome::Refused(JournalFault::NotStore)),
+        (b"AAAAAAAAA", Outcome::Batches(0)),
+        (b"AAAAAAAAAA", Outcome::Refused(JournalFault::NotStore)),
+        (b"GRAPHD1\n\x07\x01\x02\x03", Outcome::Batches(0)),
+        (
+            b"GRAPHD1\n\x01\0\0\0\x1d\x01\x02\x03\x04\x05",
+            Outcome::Refused(JournalFault::Damaged { offset: 8 }),
+        ),
         (b"GRAPHD1\n\0rubbish", Outcome::Batches(0)),
         (
             b"GRAPHD1\n\x01\0\0\0\0\0",
