@@ -20,63 +20,10 @@ const ANN: [u8; 29] = [
     0x6e, 0x6e,
 ];
 
-/// The places of `FILE` and the bytes there, of 0, 1 and 255, with which it still holds one batch: moments up to the
-/// year 9999, references to earlier places, any text of three bytes of UTF-8, any last gate but an open one. A reader
-/// written by hand after the format gave them.
-const STILL_ONE: [(usize, u8); 47] = [
-    (8, 1),
-    (9, 0),
-    (10, 0),
-    (11, 0),
-    (13, 0),
-    (14, 1),
-    (15, 0),
-    (16, 0),
-    (17, 0),
-    (17, 1),
-    (18, 0),
-    (18, 1),
-    (18, 255),
-    (19, 0),
-    (19, 1),
-    (19, 255),
-    (20, 0),
-    (20, 1),
-    (20, 255),
-    (21, 0),
-    (21, 1),
-    (21, 255),
-    (22, 0),
-    (22, 1),
-    (22, 255),
-    (23, 0),
-    (26, 0),
-    (28, 0),
-    (29, 0),
-    (30, 0),
-    (31, 0),
-    (31, 1),
-    (32, 0),
-    (33, 0),
-    (34, 0),
-    (35, 0),
-    (35, 1),
-    (36, 1),
-    (37, 0),
-    (39, 0),
-    (39, 1),
-    (40, 0),
-    (40, 1),
-    (41, 0),
-    (41, 1),
-    (42, 0),
-    (42, 255),
-];
-
 /// What came of opening: so many batches, or a refusal.
 #[derive(Clone, Copy, Debug, PartialEq, Eq)]
 enum Outcome {
-    Batches(u32),
+    Batches(u64),
     Refused(JournalFault),
 }
 
@@ -84,29 +31,154 @@ enum Outcome {
 fn opened(alloc: Global, bytes: &[u8]) -> Result<Outcome, Memory> {
     let disk = MemoryDisk::new(alloc, bytes, &[])?;
     match open_log(alloc, disk) {
-        Ok((_, store)) => Ok(Outcome::Batches(store.requests())),
+        Ok((_, store)) => Ok(Outcome::Batches(u64::from(store.requests()))),
         Err((fault, _)) => Ok(Outcome::Refused(fault)),
     }
 }
 
-/// What comes of `FILE` with this byte at this place.
-fn wanted(place: usize, byte: u8) -> Outcome {
-    if place < 8 {
-        return Outcome::Refused(JournalFault::NotStore);
+/// A number of so many bytes, at most eight, and what stands behind it.
+fn number(bytes: &[u8], size: usize) -> Option<(u64, &[u8])> {
+    let (front, rest) = bytes.split_at_checked(size)?;
+    let mut sum: u64 = 0;
+    for byte in front {
+        sum = sum.wrapping_mul(256).wrapping_add(u64::from(*byte));
     }
-    if place == 8 && byte != 1 {
+    Some((sum, rest))
+}
+
+/// What stands behind a text.
+fn behind_text(bytes: &[u8]) -> Option<&[u8]> {
+    let (size, rest) = number(bytes, 2)?;
+    let (text, behind) = rest.split_at_checked(size as usize)?;
+    if size > 4_096 || str::from_utf8(text).is_err() {
+        return None;
+    }
+    Some(behind)
+}
+
+/// What stands behind a moment with its precision.
+fn behind_moment(bytes: &[u8]) -> Option<&[u8]> {
+    let (precision, rest) = number(bytes, 1)?;
+    let (bits, behind) = number(rest, 8)?;
+    // from the year 0000, in two's complement, to 9999
+    let early = bits >= 18_446_681_906_490_351_616;
+    if precision > 3 || !(early || bits <= 253_402_300_799_999) {
+        return None;
+    }
+    Some(behind)
+}
+
+/// What stands behind a value.
+fn behind_value(bytes: &[u8]) -> Option<&[u8]> {
+    let (kind, rest) = number(bytes, 1)?;
+    if kind == 0 {
+        return Some(rest);
+    }
+    if kind == 1 {
+        return behind_text(rest);
+    }
+    if kind == 4 {
+        return behind_moment(rest);
+    }
+    let (bits, behind) = number(rest, if kind == 2 { 8 } else { 1 })?;
+    if kind > 3 || (kind == 3 && bits > 1) {
+        return None;
+    }
+    Some(behind)
+}
+
+/// What stands behind a primitive that may stand at this place, where none before it is superseded.
+fn behind_primitive(bytes: &[u8], place: u64) -> Option<&[u8]> {
+    let (flags, mut rest) = number(bytes, 1)?;
+    if flags > 127 || flags & 80 == 0 {
+        return None;
+    }
+    for flag in [1, 2, 4, 8, 16] {
+        if flags & flag != 0 {
+            let (reference, behind) = number(rest, 4)?;
+            if reference >= place {
+                return None;
+            }
+            rest = behind;
+        }
+    }
+    let behind = behind_value(rest)?;
+    if flags & 32 != 0 {
+        return behind_text(behind);
+    }
+    Some(behind)
+}
+
+/// How many primitives a batch has that may follow so many, and what stands behind it.
+fn batch(bytes: &[u8], before: u64) -> Option<(u64, &[u8])> {
+    let (moment, rest) = number(bytes, 8)?;
+    let (count, mut rest) = number(rest, 2)?;
+    if moment > 253_402_300_799_999 || count > 4_096 {
+        return None;
+    }
+    for place in 0..count {
+        rest = behind_primitive(rest, before.saturating_add(place))?;
+    }
+    Some((count, rest))
+}
+
+/// How many batches and primitives a group has that may follow so many primitives.
+fn group(bytes: &[u8], before: u64) -> Option<(u64, u64)> {
+    let (batches, mut rest) = number(bytes, 2)?;
+    if batches == 0 || batches > 256 {
+        return None;
+    }
+    let mut prims: u64 = 0;
+    for _batch in 0..batches {
+        let (more, behind) = batch(rest, before.saturating_add(prims))?;
+        prims = prims.saturating_add(more);
+        rest = behind;
+    }
+    if rest.is_empty() {
+        Some((batches, prims))
+    } else {
+        None
+    }
+}
+
+/// The payload of the record whose gate these bytes begin with, and what stands from the next gate on.
+fn record(bytes: &[u8]) -> Option<(&[u8], &[u8])> {
+    let (_, rest) = number(bytes, 1)?;
+    let (size, rest) = number(rest, 4)?;
+    let (payload, behind) = rest.split_at_checked(size as usize)?;
+    if size == 0 || size > 268_435_456 || behind.is_empty() {
+        return None;
+    }
+    Some((payload, behind))
+}
+
+/// What comes of opening a file, by its format alone.
+fn plain(bytes: &[u8]) -> Outcome {
+    if bytes.len() <= 9 {
         return Outcome::Batches(0);
     }
-    if place == 42 && byte == 1 {
-        return Outcome::Refused(JournalFault::Damaged { offset: 42 });
+    let Some(body) = bytes.strip_prefix(b"GRAPHD1\n") else {
+        return Outcome::Refused(JournalFault::NotStore);
+    };
+    let mut rest = body;
+    let mut batches: u64 = 0;
+    let mut prims: u64 = 70;
+    for _record in 0..bytes.len() {
+        if rest.first() != Some(&1) {
+            break;
+        }
+        let offset = bytes.len().saturating_sub(rest.len()) as u64;
+        let Some((payload, behind)) = record(rest) else {
+            return Outcome::Refused(JournalFault::Damaged { offset });
+        };
+        let Some((more, more_prims)) = group(payload, prims) else {
+            return Outcome::Refused(JournalFault::Damaged { offset });
+        };
+        batches = batches.saturating_add(more);
+        prims = prims.saturating_add(more_prims);
+        rest = behind;
     }
-    if STILL_ONE
-        .iter()
-        .any(|change| change.0 == place && change.1 == byte)
-    {
-        return Outcome::Batches(1);
-    }
-    Outcome::Refused(JournalFault::Damaged { offset: 8 })
+    Outcome::Batches(batches)
 }
 
 /// Opens the disk, appends the group that the bytes are, and ends a doubt. Says whether the group counts, and gives the
@@ -135,26 +207,14 @@ fn ann_cut_and_changed(rt: HostRuntime) -> Result<(), Fail> {
     let alloc = rt.alloc();
     assert_eq!(rt; opened(alloc, &FILE)?, Outcome::Batches(1));
     for length in 0..FILE.len() {
-        let cut = opened(alloc, &FILE[..length])?;
-        if length <= 9 {
-            assert_eq!(rt; cut, Outcome::Batches(0), "{length}");
-        } else {
-            assert_eq!(rt;
-                cut,
-                Outcome::Refused(JournalFault::Damaged { offset: 8 }),
-                "{length}"
-            );
-        }
+        let cut = &FILE[..length];
+        assert_eq!(rt; opened(alloc, cut)?, plain(cut), "{length}");
     }
     for place in 0..FILE.len() {
         for byte in [0, 1, 255] {
             let mut changed = FILE;
             changed[place] = byte;
-            assert_eq!(rt;
-                opened(alloc, &changed)?,
-                wanted(place, byte),
-                "{place} {byte}"
-            );
+            assert_eq!(rt; opened(alloc, &changed)?, plain(&changed), "{place} {byte}");
         }
     }
     Ok(())
@@ -208,7 +268,7 @@ fn what_counts_is_there_after_a_stop(rt: HostRuntime) -> Result<(), Fail> {
             Ok((counts, disk)) => {
                 assert_eq!(rt;
                     opened(alloc, disk.bytes())?,
-                    Outcome::Batches(u32::from(counts))
+                    Outcome::Batches(u64::from(counts))
                 );
                 stored |= u32::from(counts) + 1;
             }
