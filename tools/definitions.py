@@ -16,7 +16,7 @@ LIST = os.path.join(TOP, "docs", "DEFINITIONS.md")
 
 HEAD = """# Definitions
 
-What the program means is written down in definitions, apart from its code: sets, relations and recursions on plain lists, which know no index, no budget and no thread. The contracts of the code speak of them, and so do the promises of [PROMISES.md](PROMISES.md). This page lists each of them with one sentence, crate by crate and file by file, in the order in which one reads them. The sentences are the comments that stand above the definitions; `tools/definitions.py` collects them here.
+What the program means is written down in definitions, apart from its code: sets, relations and recursions on plain lists, which know no index, no budget and no thread. The contracts of the code speak of them, and so do the promises of [PROMISES.md](PROMISES.md). This page lists each of them with one sentence, crate by crate and file by file, in the order in which one reads them. The sentences are the comments that stand above the definitions; `tools/definitions.py` collects them here. Words that a crate needs for itself, such as those of its readers and searches, stand in its own `specs/`.
 
 Some words run through all of them.
 
