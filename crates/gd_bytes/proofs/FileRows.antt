@@ -4,6 +4,7 @@ use lib.Utf8.{encode}
 use Rattle.std.proofs.Common.{◌≡◌, refl, ℕ, List, [], ◌∷◌, ◌++◌, codes, Some, None, length, replicate, take, drop, option_map}
 use Rattle.gd_prim.specs.declared.Batch.{Batch}
 use Rattle.gd_prim.specs.Builtin.{object, name_link}
+use Rattle.gd_prim.specs.History.{prims_of}
 use Rattle.gd_bytes.specs.Group.{spelling, group_of}
 use Rattle.gd_bytes.specs.File.{header, meaning, payloads, groups, not_store, damaged, at_rest}
 
@@ -25,7 +26,7 @@ unfolding is_utf8 chars encode
 read_again = refl
 
 pub meant : meaning ann_file ≡ groups (ann ∷ [])
-unfolding is_utf8 chars encode
+unfolding is_utf8 chars encode prims_of
 meant = refl
 
 pub nine : meaning (replicate 9 65) ≡ groups []
@@ -64,17 +65,17 @@ no_gate = refl
 
 -- any byte but 1 closes the file, whatever stands behind it
 pub other_gate : meaning (take 42 ann_file ++ 7 ∷ 1 ∷ 1 ∷ []) ≡ groups (ann ∷ [])
-unfolding is_utf8 chars encode
+unfolding is_utf8 chars encode prims_of
 other_gate = refl
 
 -- the second record is damaged, at its own gate
 pub second_damaged : meaning (take 42 ann_file ++ 1 ∷ 0 ∷ 0 ∷ 0 ∷ 2 ∷ 0 ∷ 0 ∷ 0 ∷ []) ≡ damaged 42
-unfolding is_utf8 chars encode
+unfolding is_utf8 chars encode prims_of
 second_damaged = refl
 
 -- the same group again is well formed: its references lie below its own places
 pub twice : meaning (take 42 ann_file ++ 1 ∷ take 33 (drop 9 ann_file) ++ 0 ∷ []) ≡ groups (ann ∷ ann ∷ [])
-unfolding is_utf8 chars encode
+unfolding is_utf8 chars encode prims_of
 twice = refl
 
 -- a payload that is no group is a payload, and damage

@@ -1,9 +1,8 @@
 -- What the bytes of a file mean.
 use Rattle.std.specs.Prelude.{◌⊎◌, ◌≡◌, ℕ, suc, zero, ◌+◌, List, [], ◌∷◌, ◌++◌, length, take, drop, ◌||◌, ◌==◌, nat_lt, nat_le, Option, Some, None, if◌then◌else◌, codes, bytes_eq, flat_map}
 use Rattle.std.specs.Int.{w32, to_be_bytes, from_be_bytes}
-use Rattle.gd_prim.specs.declared.Primitive.{Primitive}
 use Rattle.gd_prim.specs.declared.Batch.{Batch}
-use Rattle.gd_prim.specs.Builtin.{builtin}
+use Rattle.gd_prim.specs.History.{prims_of}
 use Rattle.gd_prim.specs.WellFormed.{all_follow}
 use Rattle.gd_bytes.specs.Group.{group_of}
 
@@ -24,10 +23,6 @@ max_payload = 268_435_456
 -- the groups joined
 abbrev pub joined : List (List Batch) → List Batch
 joined gs = flat_map (λ g. g) gs
-
--- the primitives of batches, behind the built-in ones
-abbrev pub prims_of : List Batch → List Primitive
-prims_of bs = builtin ++ flat_map (λ b. b.prims) bs
 
 -- the payload behind a length, where it and the next gate are there in full
 abbrev pub payload : List ℕ → Option (List ℕ)

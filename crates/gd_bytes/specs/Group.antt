@@ -12,6 +12,7 @@ use Rattle.gd_prim.specs.declared.Batch.{Batch}
 use Rattle.gd_base.specs.Order.{precision_index}
 use Rattle.gd_grammar.specs.Maybe.{◌>>=◌}
 use Rattle.gd_grammar.specs.Grammar.{IsFaultAt, IsText}
+use Rattle.gd_grammar.specs.Options.{Reads, bytes_at, u8_at, u16_at, u32_at, u64_at, many_at}
 use Rattle.gd_prim.specs.WellFormed.{max_moment, is_moment}
 
 -- ---- spelling
@@ -118,26 +119,6 @@ IsBadGroupAt bytes n = IsFaultAt spelling Fits bytes n
 
 -- ---- reading: the value and the bytes after it, where they spell one
 
--- what a reader gives: the value and the bytes after it, where the bytes begin with one
-abbrev pub Reads : Type 0 → Type 0
-Reads A = Option (A × List ℕ)
-
--- reads so many bytes
-abbrev pub bytes_at : ℕ → List ℕ → Reads (List ℕ)
-bytes_at n bytes = if nat_le n (length bytes) then Some (take n bytes, drop n bytes) else None
-
--- reads a number of two bytes
-abbrev pub u16_at : List ℕ → Reads ℕ
-u16_at bytes = bytes_at 2 bytes >>= λ b. Some (from_be_bytes w16 b.0, b.1)
-
--- reads a number of four bytes
-abbrev pub u32_at : List ℕ → Reads ℕ
-u32_at bytes = bytes_at 4 bytes >>= λ b. Some (from_be_bytes w32 b.0, b.1)
-
--- reads a number of eight bytes
-abbrev pub u64_at : List ℕ → Reads ℕ
-u64_at bytes = bytes_at 8 bytes >>= λ b. Some (from_be_bytes w64 b.0, b.1)
-
 -- reads a reference where its flag is set
 abbrev pub reference_at : Bool → List ℕ → Reads (Option ℕ)
 reference_at false bytes = Some (None, bytes)
@@ -154,11 +135,6 @@ precision_of n = if n == 0 then Some Year else if n == 1 then Some Month else if
 -- the truth value that a byte stands for
 abbrev pub boolean_of : ℕ → Option Bool
 boolean_of n = if n == 0 then Some false else if n == 1 then Some true else None
-
--- reads one byte
-abbrev pub u8_at : List ℕ → Reads ℕ
-u8_at [] = None
-u8_at (b ∷ bytes) = Some (b, bytes)
 
 -- reads a moment: its precision, and its milliseconds in range
 abbrev pub moment_at : List ℕ → Reads Datum
@@ -188,11 +164,6 @@ primitive_at moment bytes = u8_at bytes >>= λ f. if nat_le 128 f.0 then None el
     (reference_at (bit_at f.0 0 == 1) f.1 >>= λ l. reference_at (bit_at f.0 1 == 1) l.1 >>= λ r. reference_at (bit_at f.0 2 == 1) r.1 >>= λ t.
     reference_at (bit_at f.0 3 == 1) t.1 >>= λ s. reference_at (bit_at f.0 4 == 1) s.1 >>= λ p. value_at p.1 >>= λ v. name_at (bit_at f.0 5 == 1) v.1 >>= λ n.
     Some (record { left = l.0; right = r.0; typ = t.0; scope = s.0; value = v.0; name = n.0; previous = p.0; live = bit_at f.0 6 == 1; moment = moment }, n.1))
-
--- reads so many values, one after another
-abbrev pub many_at : {A : Type 0} → (List ℕ → Reads A) → ℕ → List ℕ → Reads (List A)
-many_at one zero bytes = Some ([], bytes)
-many_at one (suc n) bytes = one bytes >>= λ x. many_at one n x.1 >>= λ xs. Some (x.0 ∷ xs.0, xs.1)
 
 -- reads a batch
 abbrev pub batch_at : List ℕ → Reads Batch

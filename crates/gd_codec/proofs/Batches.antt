@@ -8,10 +8,10 @@ use Rattle.gd_grammar.specs.Chain.{◌>>=◌}
 use Rattle.gd_grammar.specs.Grammar.{Reads, IsText, IsFaultAt, ended, with_offset, whole}
 use Rattle.gd_grammar.proofs.Scans.{Then, chain, Says, whole_says, read_all}
 use Rattle.gd_bytes.specs.Group.{primitive_bytes, PrimitiveFits, batch_bytes, BatchFits, spelling, Fits}
-use Rattle.gd_codec.specs.Reading.{number_at, items_at}
+use Rattle.gd_grammar.specs.Reading.{number_at, items_at}
 use Rattle.gd_codec.specs.Groups.{up_to, primitive_at, batch_at, group_at, whole_group_at}
-use Rattle.gd_codec.proofs.Exact.{Exact, Sound, Sound-then, Sound-same, Sound-mapped, Mapped, mapped, join, Items, Exact-items, items_some, exact_scans}
-use Rattle.gd_codec.proofs.Numbers.{InRange, Sound-range}
+use Rattle.gd_grammar.proofs.Exact.{Exact, Sound, Sound-then, Sound-same, Sound-mapped, Mapped, mapped, join, Items, Exact-items, items_some, exact_scans}
+use Rattle.gd_grammar.proofs.Ranges.{InRange, Sound-range}
 use Rattle.gd_codec.proofs.Primitives.{Sound-primitive}
 
 -- ---- batches

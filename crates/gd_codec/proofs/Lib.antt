@@ -1,11 +1,7 @@
-pub mod Exact
-pub mod Numbers
 pub mod Stops
-pub mod Utf8Runs
-pub mod Utf8
+pub mod Texts
 mod Values
 mod Primitives
 mod Batches
-mod Options
 mod Writing
 pub mod Meaning

@@ -18,11 +18,13 @@ use Rattle.gd_grammar.specs.Maybe.{◌>>=◌}
 use Rattle.gd_grammar.specs.Grammar.{IsText}
 use Rattle.gd_grammar.proofs.Scans.{Then, Only}
 use Rattle.gd_bytes.specs.Group as meant
-use Rattle.gd_bytes.specs.Group.{Reads, primitive_bytes, PrimitiveFits, batch_bytes, BatchFits, spelling, Fits, group_of, whole}
+use Rattle.gd_grammar.specs.Options.{Reads}
+use Rattle.gd_grammar.specs.Options as options
+use Rattle.gd_bytes.specs.Group.{primitive_bytes, PrimitiveFits, batch_bytes, BatchFits, spelling, Fits, group_of, whole}
 use Rattle.gd_codec.specs.Groups.{flag_at}
-use Rattle.gd_codec.proofs.Exact.{Mapped, join}
-use Rattle.gd_codec.proofs.Numbers.{InRange}
-use Rattle.gd_codec.proofs.Options.{AreBytes, Means, Means-then, Means-only, Means-same, Means-mapped, Where, Means-where, Unless, Means-unless, Taken, Means-taken, OneOf, Means-u8, Means-u16, Means-u32, Means-u64, ItemsOf, Means-many}
+use Rattle.gd_grammar.proofs.Exact.{Mapped, join}
+use Rattle.gd_grammar.proofs.Ranges.{InRange}
+use Rattle.gd_grammar.proofs.Options.{AreBytes, Means, Means-then, Means-only, Means-same, Means-mapped, Where, Means-where, Unless, Means-unless, Taken, Means-taken, OneOf, Means-u8, Means-u16, Means-u32, Means-u64, ItemsOf, Means-many}
 use Rattle.gd_codec.proofs.Values as values
 use Rattle.gd_codec.proofs.Primitives as prims
 use Rattle.gd_codec.proofs.Batches as batches
@@ -95,12 +97,12 @@ from_text t w ((short, utf8), w_is) = (
 
 means_text : Means values.Text meant.text_at
 means_text = Means-same (Then U16 Checked) values.Text meant.text_at to_text from_text
-    (Means-then U16 Checked meant.u16_at (λ n bytes. meant.bytes_at n bytes >>= λ t. if is_text t.0 then Some t else None) Means-u16
-    (λ n. Means-then (Taken n) (λ t. Where (is_text t) (Only t)) (meant.bytes_at n) (λ t bytes. if is_text t then Some (t, bytes) else None) (Means-taken n) (λ t. Means-where (is_text t) (Only t) (λ bytes. Some (t, bytes)) (Means-only t))))
+    (Means-then U16 Checked options.u16_at (λ n bytes. options.bytes_at n bytes >>= λ t. if is_text t.0 then Some t else None) Means-u16
+    (λ n. Means-then (Taken n) (λ t. Where (is_text t) (Only t)) (options.bytes_at n) (λ t bytes. if is_text t then Some (t, bytes) else None) (Means-taken n) (λ t. Means-where (is_text t) (Only t) (λ bytes. Some (t, bytes)) (Means-only t))))
 
 means_reference : (present : Bool) → Means (values.Reference present) (meant.reference_at present)
 means_reference false = Means-same (Only None) (values.Reference false) (meant.reference_at false) (λ r w (same, none). subst (λ (x : Option ℕ). values.Reference false x w) (sym same) (refl, tt, none)) values.no_reference (Means-only None)
-means_reference true = Means-same values.Place (values.Reference true) (meant.reference_at true) values.place_reference values.reference_place (Means-mapped (λ p. Some p) (InRange 0 (2 ^ 32 - 1) 4) meant.u32_at Means-u32)
+means_reference true = Means-same values.Place (values.Reference true) (meant.reference_at true) values.place_reference values.reference_place (Means-mapped (λ p. Some p) (InRange 0 (2 ^ 32 - 1) 4) options.u32_at Means-u32)
 
 means_name : (present : Bool) → Means (values.Name present) (meant.name_at present)
 means_name false = Means-same (Only None) (values.Name false) (meant.name_at false) (λ n w (same, none). subst (λ (x : Option (List ℕ)). values.Name false x w) (sym same) (refl, tt, none)) values.no_name (Means-only None)
@@ -189,10 +191,10 @@ contents_moment (datum.Bool b) w (k, fits, w_is) = absurd (omega (arith, k))
 contents_moment (datum.Object o) w (k, fits, w_is) = absurd fits
 
 means_moment : Means Given_moment meant.moment_at
-means_moment = Means-then OneOf (Stands meant.precision_of (λ p. Then values.Bits (In_range p))) meant.u8_at
-    (λ k bytes. meant.precision_of k >>= λ p. meant.u64_at bytes >>= λ n. if is_moment (cast_signed w64 n.0) then Some (datum.Moment (cast_signed w64 n.0) p, n.1) else None) Means-u8
-    (means_stands meant.precision_of (λ p. Then values.Bits (In_range p)) (λ p bytes. meant.u64_at bytes >>= λ n. if is_moment (cast_signed w64 n.0) then Some (datum.Moment (cast_signed w64 n.0) p, n.1) else None)
-    (λ p. Means-then values.Bits (In_range p) meant.u64_at (λ n bytes. if is_moment (cast_signed w64 n) then Some (datum.Moment (cast_signed w64 n) p, bytes) else None) Means-u64
+means_moment = Means-then OneOf (Stands meant.precision_of (λ p. Then values.Bits (In_range p))) options.u8_at
+    (λ k bytes. meant.precision_of k >>= λ p. options.u64_at bytes >>= λ n. if is_moment (cast_signed w64 n.0) then Some (datum.Moment (cast_signed w64 n.0) p, n.1) else None) Means-u8
+    (means_stands meant.precision_of (λ p. Then values.Bits (In_range p)) (λ p bytes. options.u64_at bytes >>= λ n. if is_moment (cast_signed w64 n.0) then Some (datum.Moment (cast_signed w64 n.0) p, n.1) else None)
+    (λ p. Means-then values.Bits (In_range p) options.u64_at (λ n bytes. if is_moment (cast_signed w64 n) then Some (datum.Moment (cast_signed w64 n) p, bytes) else None) Means-u64
     (λ n. Means-where (is_moment (cast_signed w64 n)) (Only (datum.Moment (cast_signed w64 n) p)) (λ bytes. Some (datum.Moment (cast_signed w64 n) p, bytes)) (Means-only (datum.Moment (cast_signed w64 n) p)))))
 
 contents_0 : Means (values.Contents 0) (meant.contents_at 0)
@@ -202,11 +204,11 @@ contents_1 : Means (values.Contents 1) (meant.contents_at 1)
 contents_1 = Means-same values.TextValue (values.Contents 1) (meant.contents_at 1) values.value_text values.text_value (Means-mapped (λ t. datum.Text t) values.Text meant.text_at means_text)
 
 contents_2 : Means (values.Contents 2) (meant.contents_at 2)
-contents_2 = Means-same values.IntValue (values.Contents 2) (meant.contents_at 2) values.value_int values.int_value (Means-mapped (λ n. datum.Int (cast_signed w64 n)) values.Bits meant.u64_at Means-u64)
+contents_2 = Means-same values.IntValue (values.Contents 2) (meant.contents_at 2) values.value_int values.int_value (Means-mapped (λ n. datum.Int (cast_signed w64 n)) values.Bits options.u64_at Means-u64)
 
 contents_3 : Means (values.Contents 3) (meant.contents_at 3)
 contents_3 = Means-same Truth (values.Contents 3) (meant.contents_at 3) truth_contents contents_truth
-    (Means-then OneOf (Stands meant.boolean_of (λ b. Only (datum.Bool b))) meant.u8_at (λ k bytes. meant.boolean_of k >>= λ b. Some (datum.Bool b, bytes)) Means-u8
+    (Means-then OneOf (Stands meant.boolean_of (λ b. Only (datum.Bool b))) options.u8_at (λ k bytes. meant.boolean_of k >>= λ b. Some (datum.Bool b, bytes)) Means-u8
     (means_stands meant.boolean_of (λ b. Only (datum.Bool b)) (λ b bytes. Some (datum.Bool b, bytes)) (λ b. Means-only (datum.Bool b))))
 
 contents_4 : Means (values.Contents 4) (meant.contents_at 4)
@@ -247,7 +249,7 @@ from_value : (v : Datum) (w : List ℕ) → values.Value v w → Then OneOf valu
 from_value v w (fits, w_is) = let (all, few, byte) = values.spelled v fits in (values.kind v, values.kind v ∷ [], values.contents v, (omega (arith, few), refl), (refl, fits, refl), w_is ∙ all)
 
 means_value : Means values.Value meant.value_at
-means_value = Means-same (Then OneOf values.Contents) values.Value meant.value_at to_value from_value (Means-then OneOf values.Contents meant.u8_at meant.contents_at Means-u8 means_contents)
+means_value = Means-same (Then OneOf values.Contents) values.Value meant.value_at to_value from_value (Means-then OneOf values.Contents options.u8_at meant.contents_at Means-u8 means_contents)
 
 -- ---- primitives
 
@@ -315,7 +317,7 @@ means_primitive : (m : ℕ) → Means (prims.Spelled m) (meant.primitive_at m)
 means_primitive m =
     Means-same (prims.Parts m) (prims.Spelled m) (meant.primitive_at m) (prims.to_spelled m) (prims.from_spelled m)
     (Means-same (Flagged m) (prims.Parts m) (meant.primitive_at m) (to_parts m) (from_parts m)
-    (Means-then OneOf (λ f. Unless (nat_le 128 f) (prims.Left m f)) meant.u8_at (λ f bytes. if nat_le 128 f then None else left_at m f bytes) Means-u8 (λ f. Means-unless (nat_le 128 f) (prims.Left m f) (left_at m f) (left m f))))
+    (Means-then OneOf (λ f. Unless (nat_le 128 f) (prims.Left m f)) options.u8_at (λ f bytes. if nat_le 128 f then None else left_at m f bytes) Means-u8 (λ f. Means-unless (nat_le 128 f) (prims.Left m f) (left_at m f) (left m f))))
 
 -- ---- batches
 
@@ -326,7 +328,7 @@ abbrev Counted : ℕ → Batch → List ℕ → Type 0
 Counted m = Then U16 (Bounded m)
 
 abbrev prims_at : ℕ → ℕ → List ℕ → Reads Batch
-prims_at m n bytes = meant.many_at (meant.primitive_at m) n bytes >>= λ ps. Some (batches.made m ps.0, ps.1)
+prims_at m n bytes = options.many_at (meant.primitive_at m) n bytes >>= λ ps. Some (batches.made m ps.0, ps.1)
 
 to_batch : (b : Batch) (w : List ℕ) → Then values.Bits Counted b w → batches.Parts b w
 to_batch b w (m, v, u, (m_low, m_high, v_is), (n, x, y, (n_low, n_high, x_is), (fails, s), u_is), w_is) =
@@ -337,15 +339,15 @@ from_batch : (b : Batch) (w : List ℕ) → batches.Parts b w → Then values.Bi
 from_batch b w (m, v, u, (m_low, m_high, v_is), (n, x, y, (n_low, n_high, x_is), s, u_is), w_is) =
     (m, v, u, (omega arith, omega (arith, m_high), v_is), (n, x, y, (omega arith, omega (arith, n_high), x_is), (or_both (nat_lt max_moment m) (nat_lt 4096 n) (lt_not max_moment m m_high) (lt_not 4096 n n_high), s), u_is), w_is)
 
-counted : (m : ℕ) → Means (Counted m) (λ bytes. meant.u16_at bytes >>= λ n. if nat_lt max_moment m || nat_lt 4096 n.0 then None else prims_at m n.0 n.1)
-counted m = Means-then U16 (Bounded m) meant.u16_at (λ n bytes. if nat_lt max_moment m || nat_lt 4096 n then None else prims_at m n bytes) Means-u16
+counted : (m : ℕ) → Means (Counted m) (λ bytes. options.u16_at bytes >>= λ n. if nat_lt max_moment m || nat_lt 4096 n.0 then None else prims_at m n.0 n.1)
+counted m = Means-then U16 (Bounded m) options.u16_at (λ n bytes. if nat_lt max_moment m || nat_lt 4096 n then None else prims_at m n bytes) Means-u16
     (λ n. Means-unless (nat_lt max_moment m || nat_lt 4096 n) (Mapped (batches.made m) (ItemsOf primitive_bytes (PrimitiveFits m) n)) (prims_at m n)
-    (Means-mapped (batches.made m) (ItemsOf primitive_bytes (PrimitiveFits m) n) (meant.many_at (meant.primitive_at m) n) (Means-many primitive_bytes (PrimitiveFits m) (meant.primitive_at m) (means_primitive m) n)))
+    (Means-mapped (batches.made m) (ItemsOf primitive_bytes (PrimitiveFits m) n) (options.many_at (meant.primitive_at m) n) (Means-many primitive_bytes (PrimitiveFits m) (meant.primitive_at m) (means_primitive m) n)))
 
 means_batch : Means (IsText batch_bytes BatchFits) meant.batch_at
 means_batch = Means-same batches.Parts (IsText batch_bytes BatchFits) meant.batch_at batches.to_spelled batches.from_spelled
     (Means-same (Then values.Bits Counted) batches.Parts meant.batch_at to_batch from_batch
-    (Means-then values.Bits Counted meant.u64_at (λ m bytes. meant.u16_at bytes >>= λ n. if nat_lt max_moment m || nat_lt 4096 n.0 then None else prims_at m n.0 n.1) Means-u64 (λ m. counted m)))
+    (Means-then values.Bits Counted options.u64_at (λ m bytes. options.u16_at bytes >>= λ n. if nat_lt max_moment m || nat_lt 4096 n.0 then None else prims_at m n.0 n.1) Means-u64 (λ m. counted m)))
 
 -- ---- groups
 
@@ -353,7 +355,7 @@ abbrev Several : ℕ → List Batch → List ℕ → Type 0
 Several n = Unless (n == 0 || nat_lt 256 n) (ItemsOf batch_bytes BatchFits n)
 
 abbrev several_at : List ℕ → Reads (List Batch)
-several_at bytes = meant.u16_at bytes >>= λ n. if n.0 == 0 || nat_lt 256 n.0 then None else meant.many_at meant.batch_at n.0 n.1
+several_at bytes = options.u16_at bytes >>= λ n. if n.0 == 0 || nat_lt 256 n.0 then None else options.many_at meant.batch_at n.0 n.1
 
 to_group : (bs : List Batch) (w : List ℕ) → Then U16 Several bs w → IsText spelling Fits bs w
 to_group bs w (n, v, u, (low, high, v_is), (fails, s), w_is) =
@@ -368,18 +370,18 @@ from_group bs w t =
 
 means_several : Means (IsText spelling Fits) several_at
 means_several = Means-same (Then U16 Several) (IsText spelling Fits) several_at to_group from_group
-    (Means-then U16 Several meant.u16_at (λ n bytes. if n == 0 || nat_lt 256 n then None else meant.many_at meant.batch_at n bytes) Means-u16
-    (λ n. Means-unless (n == 0 || nat_lt 256 n) (ItemsOf batch_bytes BatchFits n) (meant.many_at meant.batch_at n) (Means-many batch_bytes BatchFits meant.batch_at means_batch n)))
+    (Means-then U16 Several options.u16_at (λ n bytes. if n == 0 || nat_lt 256 n then None else options.many_at meant.batch_at n bytes) Means-u16
+    (λ n. Means-unless (n == 0 || nat_lt 256 n) (ItemsOf batch_bytes BatchFits n) (options.many_at meant.batch_at n) (Means-many batch_bytes BatchFits meant.batch_at means_batch n)))
 
 -- the reading of all the bytes is the same, and then nothing may follow
 whole_is : (bytes : List ℕ) → group_of bytes ≡ (several_at bytes >>= whole)
-whole_is bytes = by (meant.u16_at bytes)
+whole_is bytes = by (options.u16_at bytes)
   where
-    test : (n : ℕ) (rest : List ℕ) (b : Bool) → (if b then None else (meant.many_at meant.batch_at n rest >>= whole)) ≡ ((if b then None else meant.many_at meant.batch_at n rest) >>= whole)
+    test : (n : ℕ) (rest : List ℕ) (b : Bool) → (if b then None else (options.many_at meant.batch_at n rest >>= whole)) ≡ ((if b then None else options.many_at meant.batch_at n rest) >>= whole)
     test n rest true = refl
     test n rest false = refl
 
-    by : (r : Reads ℕ) → (r >>= λ n. if n.0 == 0 || nat_lt 256 n.0 then None else (meant.many_at meant.batch_at n.0 n.1 >>= whole)) ≡ ((r >>= λ n. if n.0 == 0 || nat_lt 256 n.0 then None else meant.many_at meant.batch_at n.0 n.1) >>= whole)
+    by : (r : Reads ℕ) → (r >>= λ n. if n.0 == 0 || nat_lt 256 n.0 then None else (options.many_at meant.batch_at n.0 n.1 >>= whole)) ≡ ((r >>= λ n. if n.0 == 0 || nat_lt 256 n.0 then None else options.many_at meant.batch_at n.0 n.1) >>= whole)
     by None = refl
     by (Some (n, rest)) = test n rest (n == 0 || nat_lt 256 n)
 

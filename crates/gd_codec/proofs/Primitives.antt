@@ -8,10 +8,10 @@ use Rattle.gd_prim.specs.declared.Primitive.{Primitive}
 use Rattle.gd_grammar.specs.Grammar.{Reads, IsText}
 use Rattle.gd_grammar.proofs.Scans.{Then, Only, chain}
 use Rattle.gd_bytes.specs.Group.{flag, flags, reference_bytes, name_bytes, value_bytes, primitive_bytes, PrimitiveFits}
-use Rattle.gd_codec.specs.Reading.{number_at}
+use Rattle.gd_grammar.specs.Reading.{number_at}
 use Rattle.gd_codec.specs.Groups.{up_to, reference_at, name_at, value_at, flag_at, primitive_at}
-use Rattle.gd_codec.proofs.Exact.{Sound, Sound-then, Sound-only, Sound-same, join}
-use Rattle.gd_codec.proofs.Numbers.{InRange, Sound-range}
+use Rattle.gd_grammar.proofs.Exact.{Sound, Sound-then, Sound-only, Sound-same, join}
+use Rattle.gd_grammar.proofs.Ranges.{InRange, Sound-range}
 use Rattle.gd_codec.proofs.Values.{Reference, Sound-reference, Name, Sound-name, Value, Sound-value}
 
 -- ---- the flag byte

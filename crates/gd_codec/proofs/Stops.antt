@@ -1,9 +1,10 @@
 -- What follows for a reader of the code from its first steps.
-use Rattle.std.proofs.Common.{◌≡◌, ℕ, suc, ◌-◌, ◌<◌, List, ◌++◌, ◌∷◌, Result, Ok, Err, length, refl, arith, subst, sym, ap}
+use Rattle.std.proofs.Common.{◌≡◌, ℕ, suc, ◌+◌, ◌-◌, ◌*◌, ◌<◌, List, ◌++◌, ◌∷◌, Result, Ok, Err, length, take, drop, refl, arith, subst, sym, ap}
 use Rattle.gd_grammar.specs.Chain.{◌>>=◌}
 use Rattle.gd_grammar.specs.Grammar.{Reads}
-use Rattle.gd_codec.specs.Reading.{items_at}
-use Rattle.gd_codec.proofs.Exact.{behind}
+use Rattle.gd_grammar.specs.Reading.{Range, Due, items_at, byte_if, number_goes_on, number_from, may_come, after, utf8_from}
+use Rattle.gd_grammar.proofs.Exact.{behind}
+use Rattle.gd_grammar.proofs.Utf8.{with_front}
 use Rattle.gd_codec.specs.declared.stop.Stop.{Stop}
 use Rattle.gd_codec.specs.declared.stop.Stop.TheVariants.{Bad, Memory}
 use Rattle.gd_codec.specs.Stop.{Stopped}
@@ -36,3 +37,18 @@ stopped_at {A} e left r is s = by r (subst (λ (x : Stop). Stopped x r) is s)
     by : (r : Result A (List ℕ)) → Stopped (Bad left) r → (rest : List ℕ) × (r ≡ Err rest) × (left ≡ length rest)
     by (Ok x) s = absurd s
     by (Err rest) s = (rest, refl, s)
+
+-- where a byte of a number may not come, the number stops
+pub number_stops : (e : Stop) (ranges : List Range) (size place n : ℕ) (rest : List ℕ) → place < size → Stopped e (byte_if (number_goes_on ranges (size - 1 - place) n) rest) → Stopped e (number_from ranges (size - place) n rest)
+number_stops e ranges size place n rest more s =
+    let here : size - place ≡ suc (size - 1 - place) = omega (arith, more) in
+    subst (λ (k : ℕ). Stopped e (number_from ranges k n rest)) (sym here)
+    (stopped_then e (byte_if (number_goes_on ranges (size - 1 - place) n) rest) (λ x. number_from ranges (size - 1 - place) (256 * n + x.0) x.1) s)
+
+-- where a byte of a text may not come, the text stops
+pub utf8_stops : (e : Stop) (bytes : List ℕ) (count at : ℕ) (s : Due) → at < count → Stopped e (byte_if (may_come (count - 1 - at) s) (drop at bytes)) → Stopped e (with_front (take at bytes) (utf8_from (count - at) s (drop at bytes)))
+utf8_stops e bytes count at s few stopped =
+    let n = count - 1 - at in
+    let here : count - at ≡ suc (count - 1 - at) = omega (arith, few) in
+    subst (λ (k : ℕ). Stopped e (with_front (take at bytes) (utf8_from k s (drop at bytes)))) (sym here)
+    (stopped_then e (utf8_from (suc n) s (drop at bytes)) (λ x. Ok (take at bytes ++ x.0, x.1)) (stopped_then e (byte_if (may_come n s) (drop at bytes)) (λ x. utf8_from n (after s x.0) x.1 >>= λ t. Ok (x.0 ∷ t.0, t.1)) stopped))

@@ -14,11 +14,11 @@ use Rattle.gd_prim.specs.WellFormed.{is_moment}
 use Rattle.gd_grammar.specs.Grammar.{IsText}
 use Rattle.gd_grammar.proofs.Scans.{Then, Only}
 use Rattle.gd_bytes.specs.Group.{text_bytes, TextFits, reference_bytes, ReferenceFits, name_bytes, NameFits, value_bytes, ValueFits}
-use Rattle.gd_codec.specs.Reading.{number_at, utf8_at, begins_number}
+use Rattle.gd_grammar.specs.Reading.{number_at, utf8_at, begins_number}
 use Rattle.gd_codec.specs.Groups.{up_to, moments, text_at, precision_from, moment_at, contents_at, value_at, reference_at, name_at}
-use Rattle.gd_codec.proofs.Exact.{Sound, Sound-then, Sound-only, Sound-same, Sound-mapped, Mapped, mapped, join}
-use Rattle.gd_codec.proofs.Numbers.{InRange, Sound-range, Number, Exact-number}
-use Rattle.gd_codec.proofs.Utf8.{Utf8, Exact-utf8, utf8_some}
+use Rattle.gd_grammar.proofs.Exact.{Sound, Sound-then, Sound-only, Sound-same, Sound-mapped, Mapped, mapped, join}
+use Rattle.gd_grammar.proofs.Ranges.{InRange, Sound-range, Number, Exact-number}
+use Rattle.gd_grammar.proofs.Utf8.{Utf8, Exact-utf8, utf8_some}
 
 -- ---- texts
 

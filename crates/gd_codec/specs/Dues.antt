@@ -1,5 +1,5 @@
 -- What the code knows of a character that it reads.
-use Rattle.gd_codec.specs.Reading as reading
+use Rattle.gd_grammar.specs.Reading as reading
 use Rattle.gd_codec.specs.declared.text.Due.{Due}
 
 -- the same, as a definition has it

@@ -1,4 +1,3 @@
-pub mod Reading
 pub mod Stop
 pub mod Groups
 pub mod Dues

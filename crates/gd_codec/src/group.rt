@@ -1,6 +1,6 @@
 //! Groups of batches, read from bytes.
 ghost use Rattle.std.specs.Prelude.{◌≡◌, ◌<◌, ◌≤◌, ℕ, List, None, Some, IfOk, ◌≢◌, MatchResult};
-ghost use Rattle.gd_codec.specs.Reading.{items_at};
+ghost use Rattle.gd_grammar.specs.Reading.{items_at};
 ghost use Rattle.gd_codec.specs.Groups as defined;
 ghost use Rattle.gd_codec.specs.Stop.{Finds, IsCause};
 ghost use Rattle.gd_bytes.specs.Group.{IsGroup, group_of};

@@ -1,6 +1,6 @@
 //! Numbers in so many bytes, the high ones first.
 ghost use Rattle.std.specs.Prelude.{◌≡◌, ◌<◌, ◌≤◌, ◌^◌, ℕ, length};
-ghost use Rattle.gd_codec.specs.Reading as reading;
+ghost use Rattle.gd_grammar.specs.Reading as reading;
 ghost use Rattle.gd_codec.specs.Stop.{Finds};
 
 use crate::stop::Stop;

@@ -1,6 +1,6 @@
 //! Texts: a length in two bytes, and so many bytes of UTF-8.
 ghost use Rattle.std.specs.Prelude.{◌≡◌, ◌<◌, ℕ, length};
-ghost use Rattle.gd_codec.specs.Reading as reading;
+ghost use Rattle.gd_grammar.specs.Reading as reading;
 ghost use Rattle.gd_codec.specs.Groups as defined;
 ghost use Rattle.gd_codec.specs.Dues.{due_of};
 ghost use Rattle.gd_codec.specs.Stop.{Finds};
@@ -64,7 +64,7 @@ fn most_after(first: u8) -> u8
 }
 
 /// Whether the byte may come next, before `more` bytes of the text.
-#[tactic(auto, unfolding(crate::specs::Reading::may_come))]
+#[tactic(auto, unfolding(gd_grammar::specs::Reading::may_come))]
 fn may_come(more: usize, state: Due, byte: u8) -> bool
     ensures { result ≡ reading.may_come more (due_of state) byte }
 {
@@ -77,7 +77,7 @@ fn may_come(more: usize, state: Due, byte: u8) -> bool
 }
 
 /// What is due after the byte.
-#[tactic(auto, unfolding(crate::specs::Reading::after))]
+#[tactic(auto, unfolding(gd_grammar::specs::Reading::after))]
 fn after(state: Due, byte: u8) -> Due
     ensures { due_of result ≡ reading.after (due_of state) byte }
 {

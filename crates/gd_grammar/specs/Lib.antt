@@ -2,3 +2,5 @@ pub mod Chain
 pub mod Maybe
 pub mod Grammar
 pub mod Mark
+pub mod Reading
+pub mod Options

@@ -1,9 +1,9 @@
 use Rattle.std.proofs.Common.{List, ◌+◌, ◌-◌, ◌∙◌, ap}
 use Rattle.std.proofs.lemmas.Result.{err_from_is_err_and}
 use Rattle.gd_prim.specs.declared.Batch.{Batch}
-use Rattle.gd_codec.specs.Reading.{items_at}
+use Rattle.gd_grammar.specs.Reading.{items_at}
 use Rattle.gd_codec.specs.Groups.{batch_at}
-use Rattle.gd_codec.proofs.Exact.{behind, items_more}
+use Rattle.gd_grammar.proofs.Exact.{behind, items_more}
 use Rattle.gd_codec.proofs.Stops.{items_stop, stopped_same}
 use Rattle.gd_codec.proofs.group.batches.Goals as goal
 

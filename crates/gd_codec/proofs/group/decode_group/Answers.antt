@@ -2,7 +2,7 @@ use Rattle.std.proofs.Common.{arith}
 use Rattle.gd_codec.specs.Groups.{whole_group_at}
 use Rattle.gd_codec.proofs.Stops.{stopped_at}
 use Rattle.gd_codec.proofs.Batches.{group_found, group_bad, group_whole, group_left}
-use Rattle.gd_codec.proofs.Options.{bytes_below}
+use Rattle.gd_grammar.proofs.Options.{bytes_below}
 use Rattle.gd_codec.proofs.Meaning.{spelled_meant, not_meant}
 use Rattle.gd_codec.proofs.Writing.{fits_may}
 use Rattle.gd_codec.proofs.group.decode_group.Goals as goal

@@ -1,7 +1,7 @@
 use Rattle.std.proofs.Common.{◌≡◌, ◌-◌}
-use Rattle.gd_codec.specs.Reading.{items_at}
+use Rattle.gd_grammar.specs.Reading.{items_at}
 use Rattle.gd_codec.specs.Groups.{primitive_at}
-use Rattle.gd_codec.proofs.Exact.{behind}
+use Rattle.gd_grammar.proofs.Exact.{behind}
 use Rattle.gd_codec.proofs.group.primitives.Given as goal
 
 abbrev pub invariant-loop-place : goal.invariant-loop-place

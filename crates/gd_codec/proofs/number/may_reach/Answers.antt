@@ -1,4 +1,4 @@
-use Rattle.gd_codec.proofs.Numbers.{reach_low, reach_none}
+use Rattle.gd_grammar.proofs.Ranges.{reach_low, reach_none}
 use Rattle.gd_codec.proofs.number.may_reach.Goals as goal
 
 pub returns-then-range-bits : goal.returns-then-range-bits

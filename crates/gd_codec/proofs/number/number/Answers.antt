@@ -1,8 +1,9 @@
 use Rattle.std.proofs.Common.{◌≡◌, ◌-◌, ◌∙◌, ℕ, sym, ap, arith}
 use Rattle.std.proofs.lemmas.Result.{err_from_is_err_and}
-use Rattle.gd_codec.specs.Reading.{number_from, number_at}
+use Rattle.gd_grammar.specs.Reading.{number_from, number_at}
 use Rattle.gd_codec.proofs.Stops.{stopped_same}
-use Rattle.gd_codec.proofs.Numbers.{below_56, below_more, byte_small, number_more, number_stops}
+use Rattle.gd_grammar.proofs.Ranges.{below_56, below_more, byte_small, number_more}
+use Rattle.gd_codec.proofs.Stops.{number_stops}
 use Rattle.gd_codec.proofs.number.number.Goals as goal
 
 pub loop-place-init : goal.loop-place-init

@@ -1,5 +1,5 @@
 use Rattle.std.proofs.Common.{◌≡◌, ◌<◌, ◌-◌, ◌^◌}
-use Rattle.gd_codec.specs.Reading.{number_from}
+use Rattle.gd_grammar.specs.Reading.{number_from}
 use Rattle.gd_codec.proofs.number.number.Given as goal
 
 abbrev pub invariant-loop-place : goal.invariant-loop-place

@@ -1,5 +1,5 @@
 use Rattle.std.proofs.Common.{arith, refl}
-use Rattle.gd_codec.proofs.Numbers.{number_within}
+use Rattle.gd_grammar.proofs.Ranges.{number_within}
 use Rattle.gd_codec.proofs.primitive.reference.Goals as goal
 
 pub overflow_cast-result : goal.overflow_cast-result

@@ -1,9 +1,10 @@
 use Rattle.std.proofs.Common.{◌≡◌, ℕ, List, [], ◌∷◌, Ok, Err, refl, arith}
 use Rattle.gd_base.specs.Text.{text_of}
 use Rattle.gd_base.specs.declared.text.TextFault.{TextFault}
-use Rattle.gd_codec.specs.Reading.{number_at, utf8_at}
-use Rattle.gd_codec.proofs.Numbers.{number_within}
-use Rattle.gd_codec.proofs.Utf8.{utf8_read, is_text}
+use Rattle.gd_grammar.specs.Reading.{number_at, utf8_at}
+use Rattle.gd_grammar.proofs.Ranges.{number_within}
+use Rattle.gd_grammar.proofs.Utf8.{utf8_read}
+use Rattle.gd_codec.proofs.Texts.{is_text}
 use Rattle.gd_codec.proofs.text.text.Goals as goal
 
 -- what was read is a text

@@ -1,7 +1,7 @@
 use Rattle.std.proofs.Common.{◌≡◌, ◌-◌, ◌∙◌, Ok, ap, arith, drop, sym}
-use Rattle.gd_codec.specs.Reading.{may_come, byte_if}
+use Rattle.gd_grammar.specs.Reading.{may_come, byte_if}
 use Rattle.gd_codec.specs.Dues.{due_of}
-use Rattle.gd_codec.proofs.Utf8.{next_at, utf8_more}
+use Rattle.gd_grammar.proofs.Utf8.{next_at, utf8_more}
 use Rattle.gd_codec.proofs.text.utf8.Goals as goal
 
 pub loop-at-preserved : goal.loop-at-preserved

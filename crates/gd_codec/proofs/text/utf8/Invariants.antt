@@ -1,7 +1,7 @@
 use Rattle.std.proofs.Common.{◌≡◌, ◌≤◌, ◌-◌, length, take, drop}
-use Rattle.gd_codec.specs.Reading.{utf8_from, utf8_at}
+use Rattle.gd_grammar.specs.Reading.{utf8_from, utf8_at}
 use Rattle.gd_codec.specs.Dues.{due_of}
-use Rattle.gd_codec.proofs.Utf8.{with_front}
+use Rattle.gd_grammar.proofs.Utf8.{with_front}
 use Rattle.gd_codec.proofs.text.utf8.Given as goal
 
 abbrev pub invariant-loop-at : goal.invariant-loop-at

@@ -1,23 +1,14 @@
 -- UTF-8 is read exactly.
 use Rattle.std.proofs.Common.{◌≡◌, refl, ℕ, zero, suc, ◌+◌, ◌-◌, ◌<◌, ◌≤◌, Bool, true, false, ◌&&◌, ◌==◌, nat_lt, nat_le, if◌then◌else◌, List, [], ◌∷◌, ◌++◌, length, take, drop, Ok, Err, get_or, sym, ◌∙◌, ap, subst, arith, le-leb, append_assoc, length-drop}
 use Rattle.std.specs.Str.{IsUtf8, is_utf8}
-use Rattle.std.specs.Str.Lossy.{utf8_valid_len}
-use Rattle.std.specs.Prelude.{Result}
-use Rattle.std.proofs.lemmas.Str.{is_utf8-from_IsUtf8}
-use Rattle.gd_base.specs.Text.{text_of}
-use Rattle.gd_base.specs.declared.text.TextFault.{TextFault}
-use Rattle.gd_base.specs.declared.text.TextFault.TheVariants.{TooLong, NotUtf8}
 use Rattle.std.proofs.lemmas.List.{append-nil, take_more, drop_more}
 use Rattle.std.proofs.lemmas.Bool.Decides.{nat_tests}
 use Rattle.gd_grammar.specs.Chain.{◌>>=◌}
 use Rattle.gd_grammar.specs.Grammar.{Reads}
 use Rattle.gd_grammar.proofs.Scans.{Then, Only, ok_of}
-use Rattle.gd_codec.specs.Reading.{Due, start, between, follow, least_after, most_after, may_come, after, byte_if, utf8_from, utf8_at}
-use Rattle.gd_codec.proofs.Exact.{Exact, Exact-then, Exact-only, Exact-byte, Exact-same, Exact-mapped, OneByte, byte_found, Some_text, Mapped, mapped}
-use Rattle.gd_codec.specs.declared.stop.Stop.{Stop}
-use Rattle.gd_codec.specs.Stop.{Stopped}
-use Rattle.gd_codec.proofs.Stops.{stopped_then}
-use Rattle.gd_codec.proofs.Utf8Runs.{IsRun, run_of_utf8, utf8_of_run}
+use Rattle.gd_grammar.specs.Reading.{Due, start, between, follow, least_after, most_after, may_come, after, byte_if, utf8_from, utf8_at}
+use Rattle.gd_grammar.proofs.Exact.{Exact, Exact-then, Exact-only, Exact-byte, Exact-same, Exact-mapped, OneByte, byte_found, Some_text, Mapped, mapped}
+use Rattle.gd_grammar.proofs.Utf8Runs.{IsRun, run_of_utf8, utf8_of_run}
 
 and_true : (x y : Bool) → (x && y) ≡ true → (x ≡ true) × (y ≡ true)
 and_true true y is = (refl, is)
@@ -159,14 +150,6 @@ utf8_more bytes count at s t b behind few is t_is =
     ∙ ap (λ (l : List ℕ). with_front l (utf8_from n (after s b) behind)) front_is
     ∙ sym (step ∙ front_cons (take at bytes) b (utf8_from n (after s b) behind))
 
--- a byte that may not come
-pub utf8_stops : (e : Stop) (bytes : List ℕ) (count at : ℕ) (s : Due) → at < count → Stopped e (byte_if (may_come (count - 1 - at) s) (drop at bytes)) → Stopped e (with_front (take at bytes) (utf8_from (count - at) s (drop at bytes)))
-utf8_stops e bytes count at s few stopped =
-    let n = count - 1 - at in
-    let here : count - at ≡ suc (count - 1 - at) = omega (arith, few) in
-    subst (λ (k : ℕ). Stopped e (with_front (take at bytes) (utf8_from k s (drop at bytes)))) (sym here)
-    (stopped_then e (utf8_from (suc n) s (drop at bytes)) (λ x. Ok (take at bytes ++ x.0, x.1)) (stopped_then e (byte_if (may_come n s) (drop at bytes)) (λ x. utf8_from n (after s x.0) x.1 >>= λ t. Ok (x.0 ∷ t.0, t.1)) stopped))
-
 -- all bytes are read
 pub utf8_done : (bytes : List ℕ) (count at : ℕ) (s : Due) → count ≤ at → with_front (take at bytes) (utf8_from (count - at) s (drop at bytes)) ≡ Ok (take at bytes, drop at bytes)
 utf8_done bytes count at s many =
@@ -186,13 +169,3 @@ utf8_begun bytes count =
 -- what was read is UTF-8 of that length
 pub utf8_read : (count : ℕ) (bytes t rest : List ℕ) → utf8_at count bytes ≡ Ok (t, rest) → (length t ≡ count) × IsUtf8 t
 utf8_read count bytes t rest is = let (w, (long, utf8, w_is), split) = (Exact-utf8 count).found bytes t rest is in (long, utf8)
-
--- UTF-8 of at most 4,096 bytes is a text
-pub is_text : (t : List ℕ) → length t ≤ 4096 → IsUtf8 t → text_of t ≡ Ok t
-is_text t short utf8 = ap (λ (b : Bool). text_by b (is_utf8 t)) (not_longer (length t) short) ∙ ap (λ (b : Bool). text_by false b) (is_utf8-from_IsUtf8 t utf8)
-  where
-    text_by : Bool → Bool → Result (List ℕ) TextFault
-    text_by a b = if a then Err TooLong else (if b then Ok t else Err (NotUtf8 (utf8_valid_len t)))
-
-    not_longer : (n : ℕ) → n ≤ 4096 → nat_lt 4096 n ≡ false
-    not_longer n h = grind (arith, nat_tests)

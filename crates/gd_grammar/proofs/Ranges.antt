@@ -9,11 +9,8 @@ use Rattle.std.specs.Int.{byte_at, bytes_high_first}
 use Rattle.gd_grammar.specs.Chain.{◌>>=◌}
 use Rattle.gd_grammar.specs.Grammar.{Reads}
 use Rattle.gd_grammar.proofs.Scans.{Then, Only}
-use Rattle.gd_codec.specs.Reading.{Range, may_reach, begins_number, number_goes_on, byte_if, number_from, number_at}
-use Rattle.gd_codec.specs.declared.stop.Stop.{Stop}
-use Rattle.gd_codec.specs.Stop.{Stopped}
-use Rattle.gd_codec.proofs.Stops.{stopped_then}
-use Rattle.gd_codec.proofs.Exact.{Exact, Sound, Exact-then, Exact-only, Exact-byte, Exact-same, OneByte, byte_found}
+use Rattle.gd_grammar.specs.Reading.{Range, may_reach, begins_number, number_goes_on, byte_if, number_from, number_at}
+use Rattle.gd_grammar.proofs.Exact.{Exact, Sound, Exact-then, Exact-only, Exact-byte, Exact-same, OneByte, byte_found}
 
 -- ---- tests
 
@@ -93,12 +90,6 @@ number_more ranges size place n b x rest after more is same =
     let here : size - place ≡ suc (size - 1 - place) = omega (arith, more) in
     ap (λ (k : ℕ). number_from ranges k (256 * n + x) after) fewer ∙ ap (λ (y : ℕ). number_from ranges (size - 1 - place) (256 * n + y) after) same
     ∙ sym (ap (λ (k : ℕ). number_from ranges k n rest) here ∙ ap (λ (r : Reads ℕ). r >>= λ x. number_from ranges (size - 1 - place) (256 * n + x.0) x.1) is)
-
-pub number_stops : (e : Stop) (ranges : List Range) (size place n : ℕ) (rest : List ℕ) → place < size → Stopped e (byte_if (number_goes_on ranges (size - 1 - place) n) rest) → Stopped e (number_from ranges (size - place) n rest)
-number_stops e ranges size place n rest more s =
-    let here : size - place ≡ suc (size - 1 - place) = omega (arith, more) in
-    subst (λ (k : ℕ). Stopped e (number_from ranges k n rest)) (sym here)
-    (stopped_then e (byte_if (number_goes_on ranges (size - 1 - place) n) rest) (λ x. number_from ranges (size - 1 - place) (256 * n + x.0) x.1) s)
 
 -- ---- numbers of ranges
 

@@ -5,7 +5,7 @@ use Rattle.std.specs.List.{AllByRecursion}
 use Rattle.gd_grammar.specs.Chain.{◌>>=◌}
 use Rattle.gd_grammar.specs.Grammar.{Reads, IsText}
 use Rattle.gd_grammar.proofs.Scans.{Ends, Stops, Scans, Then, chain, Only, ok_of, ok_same}
-use Rattle.gd_codec.specs.Reading.{byte_if, items_at}
+use Rattle.gd_grammar.specs.Reading.{byte_if, items_at}
 
 -- The reader gives each text that the bytes begin with, or tells where no text goes on.
 pub record Exact {A : Type 0} (spells : A → List ℕ → Type 0) (read : List ℕ → Reads A) : Type 0 where

@@ -8,9 +8,9 @@ use Rattle.std.proofs.lemmas.Nat.{be_bytes_2, be_bytes_4, be_bytes_8, from_be_by
 use Rattle.gd_grammar.specs.Maybe.{◌>>=◌}
 use Rattle.gd_grammar.specs.Grammar.{IsText}
 use Rattle.gd_grammar.proofs.Scans.{Then, Only}
-use Rattle.gd_bytes.specs.Group.{Reads, bytes_at, u8_at, u16_at, u32_at, u64_at, many_at}
-use Rattle.gd_codec.proofs.Exact.{Mapped}
-use Rattle.gd_codec.proofs.Numbers.{InRange}
+use Rattle.gd_grammar.specs.Options.{Reads, bytes_at, u8_at, u16_at, u32_at, u64_at, many_at}
+use Rattle.gd_grammar.proofs.Exact.{Mapped}
+use Rattle.gd_grammar.proofs.Ranges.{InRange}
 
 -- each is a byte
 abbrev pub AreBytes : List ℕ → Type 0
