@@ -16,7 +16,7 @@ use Rattle.gd_grammar.proofs.Scans.{Then, Only}
 use Rattle.gd_bytes.specs.Group.{text_bytes, TextFits, reference_bytes, ReferenceFits, name_bytes, NameFits, value_bytes, ValueFits}
 use Rattle.gd_grammar.specs.Reading.{number_at, utf8_at, begins_number}
 use Rattle.gd_codec.specs.Groups.{up_to, moments, text_at, precision_from, moment_at, contents_at, value_at, reference_at, name_at}
-use Rattle.gd_grammar.proofs.Exact.{Sound, Sound-then, Sound-only, Sound-same, Sound-mapped, Mapped, mapped, join}
+use Rattle.gd_grammar.proofs.Exact.{Sound, Sound-then, Sound-only, Sound-same, Sound-mapped, Mapped, mapped, join, Announced, announced, Sound-announced}
 use Rattle.gd_grammar.proofs.Ranges.{InRange, Sound-range, Number, Exact-number}
 use Rattle.gd_grammar.proofs.Utf8.{Utf8, Exact-utf8, utf8_some}
 
@@ -58,11 +58,18 @@ pub no_reference : (r : Option ℕ) (w : List ℕ) → Reference false r w → O
 no_reference None w (there, fits, w_is) = (refl, w_is)
 no_reference (Some p) w (there, fits, w_is) = cc
 
+to_reference : (present : Bool) (r : Option ℕ) (w : List ℕ) → Announced present (InRange 0 (2 ^ 32 - 1) 4) r w → Reference present r w
+to_reference true r w placed = place_reference r w placed
+to_reference false r w (same, none) = subst (λ (x : Option ℕ). Reference false x w) (sym same) (refl, tt, none)
+
+from_reference : (present : Bool) (r : Option ℕ) (w : List ℕ) → Reference present r w → Announced present (InRange 0 (2 ^ 32 - 1) 4) r w
+from_reference true r w is = reference_place r w is
+from_reference false r w is = no_reference r w is
+
 pub Sound-reference : (present : Bool) → Sound (Reference present) (reference_at present)
 unfolding reference_at
-Sound-reference false = Sound-same (Only None) (Reference false) (reference_at false) (λ r w (same, none). subst (λ (x : Option ℕ). Reference false x w) (sym same) (refl, tt, none)) no_reference (Sound-only None)
-Sound-reference true = Sound-same Place (Reference true) (reference_at true) place_reference reference_place
-    (Sound-mapped (λ p. Some p) (InRange 0 (2 ^ 32 - 1) 4) (number_at (up_to (2 ^ 32 - 1)) 4) (Sound-range 0 (2 ^ 32 - 1) 4 (omega arith) refl refl))
+Sound-reference present = Sound-same (Announced present (InRange 0 (2 ^ 32 - 1) 4)) (Reference present) (reference_at present) (to_reference present) (from_reference present)
+    (Sound-announced present (InRange 0 (2 ^ 32 - 1) 4) (number_at (up_to (2 ^ 32 - 1)) 4) (Sound-range 0 (2 ^ 32 - 1) 4 (omega arith) refl refl))
 
 -- the bytes of a name that is there or not
 abbrev pub Name : Bool → Option (List ℕ) → List ℕ → Type 0
@@ -82,10 +89,17 @@ pub no_name : (n : Option (List ℕ)) (w : List ℕ) → Name false n w → Only
 no_name None w (there, fits, w_is) = (refl, w_is)
 no_name (Some t) w (there, fits, w_is) = cc
 
+to_name : (present : Bool) (n : Option (List ℕ)) (w : List ℕ) → Announced present Text n w → Name present n w
+to_name true n w given = given_name n w given
+to_name false n w (same, none) = subst (λ (x : Option (List ℕ)). Name false x w) (sym same) (refl, tt, none)
+
+from_name : (present : Bool) (n : Option (List ℕ)) (w : List ℕ) → Name present n w → Announced present Text n w
+from_name true n w is = name_given n w is
+from_name false n w is = no_name n w is
+
 pub Sound-name : (present : Bool) → Sound (Name present) (name_at present)
 unfolding name_at
-Sound-name false = Sound-same (Only None) (Name false) (name_at false) (λ n w (same, none). subst (λ (x : Option (List ℕ)). Name false x w) (sym same) (refl, tt, none)) no_name (Sound-only None)
-Sound-name true = Sound-same Given (Name true) (name_at true) given_name name_given (Sound-mapped (λ t. Some t) Text text_at Sound-text)
+Sound-name present = Sound-same (Announced present Text) (Name present) (name_at present) (to_name present) (from_name present) (Sound-announced present Text text_at Sound-text)
 
 -- ---- values
 

@@ -1,5 +1,5 @@
 -- Readers of grammars in which no text goes on behind another: each is exact, and so is what is made of them.
-use Rattle.std.proofs.Common.{◌≡◌, refl, ◌⊎◌, inl, inr, ⊎_elim, ℕ, zero, suc, ◌+◌, ◌-◌, ◌<◌, ◌≤◌, Bool, true, false, if◌then◌else◌, List, [], ◌∷◌, ◌++◌, length, flat_map, Ok, Err, sym, ◌∙◌, ap, subst, arith, append_assoc}
+use Rattle.std.proofs.Common.{◌≡◌, refl, ◌⊎◌, inl, inr, ⊎_elim, ℕ, zero, suc, ◌+◌, ◌-◌, ◌<◌, ◌≤◌, Bool, true, false, if◌then◌else◌, List, [], ◌∷◌, ◌++◌, length, flat_map, Option, Some, None, Ok, Err, sym, ◌∙◌, ap, subst, arith, append_assoc}
 use Rattle.std.proofs.lemmas.List.{append-nil}
 use Rattle.std.specs.List.{AllByRecursion}
 use Rattle.gd_grammar.specs.Chain.{◌>>=◌}
@@ -298,6 +298,20 @@ Sound-mapped {A} f spells read reads = record { exact = Exact-mapped f spells re
   where
     seen : Some_text spells → Some_text (Mapped f spells)
     seen (a, w, s) = (f a, w, (a, refl, s))
+
+-- ---- a value that a flag announces
+
+-- the value's text where the flag is set, and no bytes where it is not
+abbrev pub Announced : {A : Type 0} → Bool → (A → List ℕ → Type 0) → Option A → List ℕ → Type 0
+Announced true spells = Mapped (λ a. Some a) spells
+Announced false spells = Only None
+
+abbrev pub announced : {A : Type 0} → Bool → (List ℕ → Reads A) → List ℕ → Reads (Option A)
+announced present read bytes = if present then mapped (λ a. Some a) read bytes else Ok (None, bytes)
+
+pub Sound-announced : {A : Type 0} (present : Bool) (spells : A → List ℕ → Type 0) (read : List ℕ → Reads A) → Sound spells read → Sound (Announced present spells) (announced present read)
+Sound-announced true spells read reads = Sound-mapped (λ a. Some a) spells read reads
+Sound-announced false spells read reads = Sound-only None
 
 -- a text of two parts
 pub join : {w v u a b : List ℕ} → w ≡ v ++ u → v ≡ a → u ≡ b → w ≡ a ++ b
