@@ -1,0 +1,64 @@
+"""Writes files of stores, byte by byte as docs/FORMAT.md says. It knows nothing of the program."""
+import struct
+
+HEADER = b"GRAPHD1\n"
+BUILTIN_END = 70
+ROOT, NAME, KEY = 0, 13, 15
+
+
+def text(value):
+    data = value.encode()
+    return b"\x01" + struct.pack(">H", len(data)) + data
+
+
+def primitive(left=None, right=None, typ=None, value=b"\x00"):
+    """A live primitive of its batch's moment, without scope, previous and name."""
+    flags, references = 64, b""
+    for flag, reference in ((1, left), (2, right), (4, typ)):
+        if reference is not None:
+            flags |= flag
+            references += struct.pack(">I", reference)
+    return bytes([flags]) + references + value
+
+
+def batch(primitives, moment=0):
+    return struct.pack(">QH", moment, len(primitives)) + b"".join(primitives)
+
+
+def record(batches):
+    """An open gate, the length, and a group of batches."""
+    payload = struct.pack(">H", len(batches)) + b"".join(batches)
+    return b"\x01" + struct.pack(">I", len(payload)) + payload
+
+
+class StoreFile:
+    """A file to which records are added, and the place of the next primitive."""
+
+    def __init__(self, path):
+        self.file = open(path, "wb")
+        self.file.write(HEADER)
+        self.place = BUILTIN_END
+
+    def add(self, primitives):
+        """One record of one batch; gives the place of its first primitive."""
+        first = self.place
+        self.file.write(record([batch(primitives)]))
+        self.place += len(primitives)
+        return first
+
+    def named(self, name):
+        """An object with a name."""
+        return self.add([primitive(), primitive(left=self.place, typ=NAME, value=text(name))])
+
+    def keyed(self, namespace, key, name):
+        """An object with a key in a namespace and a name."""
+        return self.add([primitive(),
+                         primitive(left=self.place, right=namespace, typ=KEY, value=text(key)),
+                         primitive(left=self.place, typ=NAME, value=text(name))])
+
+    def close(self):
+        """Ends the file with a closed gate, and gives its length."""
+        self.file.write(b"\x00")
+        size = self.file.tell()
+        self.file.close()
+        return size
