@@ -77,10 +77,14 @@ impl Keys {
         ensures by_object { OnOk result ((o : ℕ) → (object_list self.new o).ids ≡ with_entry (is_of object o) id (object_list self.old o).ids) }
         ensures err { OnErr result (SameIds self.old self.new) }
     {
+        let Some(key) = key else {
+            return self.add_to_object(object, id);
+        };
+        let (entered_namespace, entered_object) = (namespace, object);
         self.by_key.make_room(namespace, key)?;
         self.by_object.make_room(object)?;
-        self.by_key.enter(namespace, key, id);
-        self.by_object.enter(object, id);
+        self.by_key.enter(entered_namespace, key, id);
+        self.by_object.enter(entered_object, id);
         Ok(())
     }
 
@@ -93,7 +97,23 @@ impl Keys {
         ensures by_key { (n : ℕ) (k : List ℕ) → (key_list self.new n k).ids ≡ without_entry (is_under namespace (option_copied key.entry) n k) (key_list self.old n k).ids }
         ensures by_object { (o : ℕ) → (object_list self.new o).ids ≡ without_entry (is_of object o) (object_list self.old o).ids }
     {
-        self.by_key.take_back(namespace, key);
+        if let Some(key) = key {
+            self.by_key.take_back(namespace, key);
+        }
         self.by_object.take_back(object);
+    }
+
+    /// Enters a key link that has no key.
+    fn add_to_object(&mut self, object: Option<Id>, id: Id) -> Result<(), Memory>
+        requires small { id < 2_097_151 }
+        requires above { ForSome object (λ o. IsAbove (object_list self.old o).ids id) }
+        ensures by_key { (n : ℕ) (k : List ℕ) → (key_list self.new n k).ids ≡ (key_list self.old n k).ids }
+        ensures by_object { OnOk result ((o : ℕ) → (object_list self.new o).ids ≡ with_entry (is_of object o) id (object_list self.old o).ids) }
+        ensures err { OnErr result ((o : ℕ) → (object_list self.new o).ids ≡ (object_list self.old o).ids) }
+    {
+        let entered = object;
+        self.by_object.make_room(object)?;
+        self.by_object.enter(entered, id);
+        Ok(())
     }
 }
