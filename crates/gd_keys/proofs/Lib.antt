@@ -1,2 +1,2 @@
 pub mod Each
-pub mod Popped
+pub mod Entries

@@ -5,7 +5,7 @@ use Rattle.gd_postings.specs.Postings.{Places}
 use Rattle.gd_keys.specs.Lists.{id_list, nothing}
 use Rattle.gd_keys.specs.Keys.{without_entry}
 use Rattle.gd_keys.proofs.Each.{each_id}
-use Rattle.gd_keys.proofs.Popped.{popped}
+use Rattle.gd_keys.proofs.Entries.{popped}
 use Rattle.gd_keys.proofs.objects.Objects.pop.Goals as goal
 
 pub returns : goal.returns

@@ -6,7 +6,7 @@ use Rattle.gd_postings.specs.Postings.{Places}
 use Rattle.gd_keys.specs.Lists.{text_list, nothing}
 use Rattle.gd_keys.specs.Keys.{without_entry}
 use Rattle.gd_keys.proofs.Each.{each_text}
-use Rattle.gd_keys.proofs.Popped.{popped}
+use Rattle.gd_keys.proofs.Entries.{popped}
 use Rattle.gd_keys.proofs.texts.Texts.pop.Goals as goal
 
 pub returns : goal.returns
