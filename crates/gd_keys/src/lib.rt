@@ -1,0 +1,9 @@
+//! The places of key links, by namespace and key, and by object.
+#![tactic(auto)]
+
+pub mod keys;
+mod names;
+mod objects;
+mod texts;
+#[cfg(test)]
+mod tests;

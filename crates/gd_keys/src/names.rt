@@ -1,0 +1,127 @@
+//! Lists under a namespace and a key.
+ghost use Rattle.std.specs.Prelude.{◌≡◌, ℕ, ◌<◌, ◌==◌, ◌&&◌, List, [], ◌∷◌, ◌++◌, unwrap_or, length, OnOk};
+ghost use Rattle.std.specs.Option.{ForSome, option_copied};
+ghost use Rattle.std.specs.Str.{bytes_eq};
+ghost use Rattle.gd_postings.specs.Postings.{IsAbove};
+ghost use Rattle.gd_keys.specs.Lists.{pair_list, nothing};
+ghost use Rattle.gd_keys.specs.Keys.{is_under, with_entry, without_entry};
+
+use crate::texts::Texts;
+use gd_base::id::Id;
+use gd_base::memory::Memory;
+use gd_base::text::Text;
+use gd_postings::postings::Postings;
+use std::alloc::Global;
+use std::collections::BTreeMap;
+use std::marker::Model;
+
+/// The lists of each namespace. Contracts see the entries, in the order of the namespaces.
+#[derive(Drop)]
+pub(crate) struct Names {
+    texts: BTreeMap<Id, Texts>,
+    alloc: Global,
+}
+
+impl Model for Names {
+    ghost use Rattle.std.specs.Prelude.{ℕ, List};
+    ghost use Rattle.gd_postings.specs.Postings.{Places};
+
+    ghost Value = { List (ℕ × List (List ℕ × Places)) };
+
+    ghost view = { λ names. names.texts.entries };
+}
+
+impl Names {
+    /// No lists.
+    pub(crate) fn new(alloc: Global) -> Names
+        ensures { result ≡ [] }
+    {
+        Names {
+            texts: BTreeMap::new(alloc),
+            alloc,
+        }
+    }
+
+    /// The list of a namespace and a key, if one was made.
+    pub(crate) fn list(&self, namespace: Id, key: &Text) -> Option<&Postings>
+        ensures { unwrap_or (option_copied result) nothing ≡ pair_list self.now namespace key.now }
+    {
+        match self.texts.get(&namespace) {
+            Some(texts) => texts.list(key),
+            None => None,
+        }
+    }
+
+    /// Makes room for one identity more in the list of a namespace and a key.
+    pub(crate) fn reserve(&mut self, namespace: Id, key: &Text) -> Result<(), Memory>
+        ensures room { OnOk result (0 < (pair_list self.new namespace key.now).spare) }
+        ensures same { (n : ℕ) (k : List ℕ) → (pair_list self.new n k).ids ≡ (pair_list self.old n k).ids }
+    {
+        match self.texts.get_mut(&namespace) {
+            Some(texts) => texts.reserve(key),
+            None => {
+                let mut texts = Texts::new(self.alloc);
+                texts.reserve(key)?;
+                self.texts.insert(namespace, texts)?;
+                Ok(())
+            }
+        }
+    }
+
+    /// Adds an identity at the end of the list of a namespace and a key, where room was made. It takes no memory.
+    pub(crate) fn push(&mut self, namespace: Id, key: &Text, id: Id)
+        requires room { 0 < (pair_list self.old namespace key.now).spare }
+        requires small { id < 2_097_151 }
+        requires above { IsAbove (pair_list self.old namespace key.now).ids id }
+        ensures { (n : ℕ) (k : List ℕ) → (pair_list self.new n k).ids ≡ with_entry (namespace == n && bytes_eq k key.now) id (pair_list self.old n k).ids }
+    {
+        match self.texts.get_mut(&namespace) {
+            Some(texts) => texts.push(key, id),
+            None => unreachable!(),
+        }
+    }
+
+    /// Takes the last identity of the list of a namespace and a key away. It takes no memory.
+    pub(crate) fn pop(&mut self, namespace: Id, key: &Text)
+        requires { 0 < length (pair_list self.old namespace key.now).ids }
+        ensures { (n : ℕ) (k : List ℕ) → (pair_list self.new n k).ids ≡ without_entry (namespace == n && bytes_eq k key.now) (pair_list self.old n k).ids }
+    {
+        match self.texts.get_mut(&namespace) {
+            Some(texts) => texts.pop(key),
+            None => unreachable!(),
+        }
+    }
+
+    /// Makes room in the list of a namespace and a key, where both are there.
+    pub(crate) fn make_room(&mut self, namespace: Option<Id>, key: Option<&Text>) -> Result<(), Memory>
+        ensures room { OnOk result (ForSome namespace (λ n. ForSome (option_copied key.entry) (λ k. 0 < (pair_list self.new n k).spare))) }
+        ensures same { (n : ℕ) (k : List ℕ) → (pair_list self.new n k).ids ≡ (pair_list self.old n k).ids }
+    {
+        match (namespace, key) {
+            (Some(namespace), Some(key)) => self.reserve(namespace, key),
+            _ => Ok(()),
+        }
+    }
+
+    /// Adds an identity at the end of the list of a namespace and a key, where both are there.
+    pub(crate) fn enter(&mut self, namespace: Option<Id>, key: Option<&Text>, id: Id)
+        requires room { ForSome namespace (λ n. ForSome (option_copied key) (λ k. 0 < (pair_list self.old n k).spare)) }
+        requires small { id < 2_097_151 }
+        requires above { ForSome namespace (λ n. ForSome (option_copied key) (λ k. IsAbove (pair_list self.old n k).ids id)) }
+        ensures { (n : ℕ) (k : List ℕ) → (pair_list self.new n k).ids ≡ with_entry (is_under namespace (option_copied key.entry) n k) id (pair_list self.old n k).ids }
+    {
+        if let (Some(namespace), Some(key)) = (namespace, key) {
+            self.push(namespace, key, id);
+        }
+    }
+
+    /// Takes the last identity of the list of a namespace and a key away, where both are there.
+    pub(crate) fn take_back(&mut self, namespace: Option<Id>, key: Option<&Text>)
+        requires { ForSome namespace (λ n. ForSome (option_copied key) (λ k. 0 < length (pair_list self.old n k).ids)) }
+        ensures { (n : ℕ) (k : List ℕ) → (pair_list self.new n k).ids ≡ without_entry (is_under namespace (option_copied key.entry) n k) (pair_list self.old n k).ids }
+    {
+        if let (Some(namespace), Some(key)) = (namespace, key) {
+            self.pop(namespace, key);
+        }
+    }
+}
