@@ -16,12 +16,12 @@ both true b ha hb = hb
 both false b ha hb = ha
 
 -- the first of two tests
-first : (a b : Bool) → (a && b) ≡ true → a ≡ true
+pub first : (a b : Bool) → (a && b) ≡ true → a ≡ true
 first true b h = refl
 first false b h = h
 
 -- the second
-second : (a b : Bool) → (a && b) ≡ true → b ≡ true
+pub second : (a b : Bool) → (a && b) ≡ true → b ≡ true
 second true b h = h
 second false b h = cc
 
