@@ -1,5 +1,5 @@
 //! The places of key links.
-ghost use Rattle.std.specs.Prelude.{◌≡◌, ℕ, ◌<◌, List, [], length, OnOk, OnErr};
+ghost use Rattle.std.specs.Prelude.{◌≡◌, ℕ, ◌<◌, List, [], Some, length, OnOk, OnErr};
 ghost use Rattle.std.specs.Option.{ForSome, option_copied};
 ghost use Rattle.gd_postings.specs.Postings.{IsAbove};
 ghost use Rattle.gd_keys.specs.Keys.{key_list, object_list, is_under, is_of, with_entry, without_entry, last_of, SameIds};
@@ -77,11 +77,10 @@ impl Keys {
         ensures by_object { OnOk result ((o : ℕ) → (object_list self.new o).ids ≡ with_entry (is_of object o) id (object_list self.old o).ids) }
         ensures err { OnErr result (SameIds self.old self.new) }
     {
-        self.by_key.make_room(namespace, key)?;
-        self.by_object.make_room(object)?;
-        self.by_key.enter(namespace, key, id);
-        self.by_object.enter(object, id);
-        Ok(())
+        match key {
+            Some(key) => self.add_with_key(namespace, key, object, id),
+            None => self.add_to_object(object, id),
+        }
     }
 
     /// Takes the key link that was entered last away again, from the list of its namespace and key, if it has both,
@@ -93,7 +92,40 @@ impl Keys {
         ensures by_key { (n : ℕ) (k : List ℕ) → (key_list self.new n k).ids ≡ without_entry (is_under namespace (option_copied key.entry) n k) (key_list self.old n k).ids }
         ensures by_object { (o : ℕ) → (object_list self.new o).ids ≡ without_entry (is_of object o) (object_list self.old o).ids }
     {
-        self.by_key.take_back(namespace, key);
         self.by_object.take_back(object);
+        if let Some(key) = key {
+            self.by_key.take_back(namespace, key);
+        }
+    }
+
+    /// Enters a key link that has no key.
+    fn add_to_object(&mut self, object: Option<Id>, id: Id) -> Result<(), Memory>
+        requires small { id < 2_097_151 }
+        requires above { ForSome object (λ o. IsAbove (object_list self.old o).ids id) }
+        ensures by_key { (n : ℕ) (k : List ℕ) → (key_list self.new n k).ids ≡ (key_list self.old n k).ids }
+        ensures by_object { OnOk result ((o : ℕ) → (object_list self.new o).ids ≡ with_entry (is_of object o) id (object_list self.old o).ids) }
+        ensures err { OnErr result ((o : ℕ) → (object_list self.new o).ids ≡ (object_list self.old o).ids) }
+    {
+        let entered = object;
+        self.by_object.make_room(object)?;
+        self.by_object.enter(entered, id);
+        Ok(())
+    }
+
+    /// Enters a key link that has a key.
+    fn add_with_key(&mut self, namespace: Option<Id>, key: &Text, object: Option<Id>, id: Id) -> Result<(), Memory>
+        requires small { id < 2_097_151 }
+        requires above_keys { ForSome namespace (λ n. IsAbove (key_list self.old n key.now).ids id) }
+        requires above_objects { ForSome object (λ o. IsAbove (object_list self.old o).ids id) }
+        ensures by_key { OnOk result ((n : ℕ) (k : List ℕ) → (key_list self.new n k).ids ≡ with_entry (is_under namespace (Some key.now) n k) id (key_list self.old n k).ids) }
+        ensures by_object { OnOk result ((o : ℕ) → (object_list self.new o).ids ≡ with_entry (is_of object o) id (object_list self.old o).ids) }
+        ensures err { OnErr result (SameIds self.old self.new) }
+    {
+        let (entered_namespace, entered_object) = (namespace, object);
+        self.by_key.make_room(namespace, key)?;
+        self.by_object.make_room(object)?;
+        self.by_key.enter(entered_namespace, key, id);
+        self.by_object.enter(entered_object, id);
+        Ok(())
     }
 }

@@ -1,5 +1,5 @@
 //! Lists under a namespace and a key.
-ghost use Rattle.std.specs.Prelude.{◌≡◌, ℕ, ◌<◌, ◌==◌, ◌&&◌, List, [], ◌∷◌, ◌++◌, unwrap_or, length, OnOk};
+ghost use Rattle.std.specs.Prelude.{◌≡◌, ℕ, ◌<◌, ◌==◌, ◌&&◌, List, [], ◌∷◌, ◌++◌, unwrap_or, Some, length, OnOk};
 ghost use Rattle.std.specs.Option.{ForSome, option_copied};
 ghost use Rattle.std.specs.Str.{bytes_eq};
 ghost use Rattle.gd_postings.specs.Postings.{IsAbove};
@@ -92,35 +92,35 @@ impl Names {
         }
     }
 
-    /// Makes room in the list of a namespace and a key, where both are there.
-    pub(crate) fn make_room(&mut self, namespace: Option<Id>, key: Option<&Text>) -> Result<(), Memory>
-        ensures room { OnOk result (ForSome namespace (λ n. ForSome (option_copied key.entry) (λ k. 0 < (pair_list self.new n k).spare))) }
+    /// Makes room in the list of a namespace and a key, where there is a namespace.
+    pub(crate) fn make_room(&mut self, namespace: Option<Id>, key: &Text) -> Result<(), Memory>
+        ensures room { OnOk result (ForSome namespace (λ n. 0 < (pair_list self.new n key.now).spare)) }
         ensures same { (n : ℕ) (k : List ℕ) → (pair_list self.new n k).ids ≡ (pair_list self.old n k).ids }
     {
-        match (namespace, key) {
-            (Some(namespace), Some(key)) => self.reserve(namespace, key),
-            _ => Ok(()),
+        match namespace {
+            Some(namespace) => self.reserve(namespace, key),
+            None => Ok(()),
         }
     }
 
-    /// Adds an identity at the end of the list of a namespace and a key, where both are there.
-    pub(crate) fn enter(&mut self, namespace: Option<Id>, key: Option<&Text>, id: Id)
-        requires room { ForSome namespace (λ n. ForSome (option_copied key) (λ k. 0 < (pair_list self.old n k).spare)) }
+    /// Adds an identity at the end of the list of a namespace and a key, where there is a namespace.
+    pub(crate) fn enter(&mut self, namespace: Option<Id>, key: &Text, id: Id)
+        requires room { ForSome namespace (λ n. 0 < (pair_list self.old n key.now).spare) }
         requires small { id < 2_097_151 }
-        requires above { ForSome namespace (λ n. ForSome (option_copied key) (λ k. IsAbove (pair_list self.old n k).ids id)) }
-        ensures { (n : ℕ) (k : List ℕ) → (pair_list self.new n k).ids ≡ with_entry (is_under namespace (option_copied key.entry) n k) id (pair_list self.old n k).ids }
+        requires above { ForSome namespace (λ n. IsAbove (pair_list self.old n key.now).ids id) }
+        ensures { (n : ℕ) (k : List ℕ) → (pair_list self.new n k).ids ≡ with_entry (is_under namespace (Some key.now) n k) id (pair_list self.old n k).ids }
     {
-        if let (Some(namespace), Some(key)) = (namespace, key) {
+        if let Some(namespace) = namespace {
             self.push(namespace, key, id);
         }
     }
 
-    /// Takes the last identity of the list of a namespace and a key away, where both are there.
-    pub(crate) fn take_back(&mut self, namespace: Option<Id>, key: Option<&Text>)
-        requires { ForSome namespace (λ n. ForSome (option_copied key) (λ k. 0 < length (pair_list self.old n k).ids)) }
-        ensures { (n : ℕ) (k : List ℕ) → (pair_list self.new n k).ids ≡ without_entry (is_under namespace (option_copied key.entry) n k) (pair_list self.old n k).ids }
+    /// Takes the last identity of the list of a namespace and a key away, where there is a namespace.
+    pub(crate) fn take_back(&mut self, namespace: Option<Id>, key: &Text)
+        requires { ForSome namespace (λ n. 0 < length (pair_list self.old n key.now).ids) }
+        ensures { (n : ℕ) (k : List ℕ) → (pair_list self.new n k).ids ≡ without_entry (is_under namespace (Some key.now) n k) (pair_list self.old n k).ids }
     {
-        if let (Some(namespace), Some(key)) = (namespace, key) {
+        if let Some(namespace) = namespace {
             self.pop(namespace, key);
         }
     }
