@@ -25,8 +25,7 @@ pub below_is_front : (ids : List ℕ) (end : ℕ) → IsRising ids → ids_below
 below_is_front [] end rising = refl
 below_is_front (x ∷ xs) end rising = either (nat_lt x end) refl (below_is_front xs end (rest_rising x xs rising))
   where
-    either : (b : Bool) → nat_lt x end ≡ b → ids_below end xs ≡ take (length (ids_below end xs)) xs
-    → cond b (x ∷ ids_below end xs) (ids_below end xs) ≡ take (length (cond b (x ∷ ids_below end xs) (ids_below end xs))) (x ∷ xs)
+    either : (b : Bool) → nat_lt x end ≡ b → ids_below end xs ≡ take (length (ids_below end xs)) xs → cond b (x ∷ ids_below end xs) (ids_below end xs) ≡ take (length (cond b (x ∷ ids_below end xs) (ids_below end xs))) (x ∷ xs)
     either true is front = ap (λ ys. x ∷ ys) front
     either false is front =
         let empty : ids_below end xs ≡ [] = none xs end (rest_above x xs end rising (ltb-false x end is)) in
@@ -102,8 +101,7 @@ at_below (y ∷ xs) end (suc k) x rising is = either (nat_lt y end) refl (at_bel
     place : (suc k < length (y ∷ xs)) × (slice_index (y ∷ xs) (suc k) ≡ x)
     place = at_place (y ∷ xs) (suc k) x is
 
-    either : (b : Bool) → nat_lt y end ≡ b → slice_get (ids_below end xs) k ≡ (if nat_lt x end then Some x else None)
-    → slice_get (cond b (y ∷ ids_below end xs) (ids_below end xs)) (suc k) ≡ (if nat_lt x end then Some x else None)
+    either : (b : Bool) → nat_lt y end ≡ b → slice_get (ids_below end xs) k ≡ (if nat_lt x end then Some x else None) → slice_get (cond b (y ∷ ids_below end xs) (ids_below end xs)) (suc k) ≡ (if nat_lt x end then Some x else None)
     either true less rest = rest
     either false less rest =
         let up : end ≤ y = ltb-false y end less in

@@ -33,7 +33,7 @@ pub(crate) fn at_below<L>(list: &Postings, k: u32, end: Id, steps: &mut Steps<L>
         return None;
     }
     let id = list.at(k, steps);
-    if id < end {
+    if id.place() < end.place() {
         return Some(id);
     }
     None

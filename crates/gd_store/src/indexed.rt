@@ -92,6 +92,23 @@ impl IndexedPrims {
         IndexedPrims::new(alloc, self.prims.copy()?)
     }
 
+    /// Whether some primitive below `end` has this place as `previous`.
+    fn has_successor<L>(&self, id: Id, end: u32, steps: &mut Steps<L>) -> bool
+        ensures found { result ≡ graph.has_successor (take end self.now) id }
+        ensures work { steps.new ≤ steps.old + 1 }
+        ensures later { steps.old ≤ steps.new }
+    {
+        self.indexes.has_successor(id, Id(end), steps)
+    }
+
+    /// The first `end` primitives.
+    pub(crate) fn below(&self, end: u32) -> &[Primitive]
+        requires { end ≤ length self.now }
+        ensures { result.now ≡ take end self.now }
+    {
+        &self.as_slice()[..end as usize]
+    }
+
     /// Whether the primitive at a place below `end` is marked live and none below `end` has it as `previous`. A place
     /// from `end` on is not live.
     pub(crate) fn is_live<L>(&self, id: Id, end: u32, steps: &mut Steps<L>) -> bool
@@ -100,10 +117,9 @@ impl IndexedPrims {
         ensures work { steps.new ≤ steps.old + 2 }
         ensures later { steps.old ≤ steps.new }
     {
-        let prims = &self.prims.as_slice()[..end as usize];
         steps.tick();
-        match prims.get(id.place() as usize) {
-            Some(prim) => prim.live && !self.indexes.has_successor(id, Id(end), steps),
+        match self.below(end).get(id.place() as usize) {
+            Some(prim) => prim.live && !self.has_successor(id, end, steps),
             None => false,
         }
     }

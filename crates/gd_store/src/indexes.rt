@@ -82,7 +82,8 @@ fn enter_version(versions: &mut Versions, prims: &[Primitive], place: usize) -> 
     ensures ok { OnOk result (AreSuccessors versions.new (take (place + 1) prims.now)) }
     ensures err { OnErr result (AreSuccessors versions.new (take place prims.now)) }
 {
-    if let Some(previous) = prims[place].previous {
+    let prim = &prims[place];
+    if let Some(previous) = prim.previous {
         versions.reserve(previous.place() + 1)?;
         versions.add(previous, Id(place as u32));
     }
@@ -96,7 +97,8 @@ fn take_out_version(versions: &mut Versions, prims: &[Primitive], place: usize)
     requires before { AreSuccessors versions.old (take (place + 1) prims.now) }
     ensures { AreSuccessors versions.new (take place prims.now) }
 {
-    if let Some(previous) = prims[place].previous {
+    let prim = &prims[place];
+    if let Some(previous) = prim.previous {
         versions.retract(previous);
     }
 }
