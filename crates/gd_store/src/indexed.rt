@@ -102,7 +102,7 @@ impl IndexedPrims {
     }
 
     /// The first `end` primitives.
-    pub(crate) fn below(&self, end: u32) -> &[Primitive]
+    fn below(&self, end: u32) -> &[Primitive]
         requires { end ≤ length self.now }
         ensures { result.now ≡ take end self.now }
     {

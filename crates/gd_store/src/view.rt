@@ -6,12 +6,11 @@ ghost use Rattle.gd_prim.specs.History.{prims_of};
 ghost use Rattle.gd_prim.specs.Live as graph;
 ghost use Rattle.gd_store.specs.Keys.{is_key_link, is_key_of};
 
-use crate::scan::{count_with, key_of, last_key_link, place_with};
+use crate::scan::{count_with, place_with};
 use crate::store::Store;
 use gd_base::id::Id;
 use gd_base::steps::Steps;
 use gd_base::text::Text;
-use gd_prim::live::live_at;
 use gd_prim::{End, Primitive};
 use std::marker::Model;
 
@@ -95,8 +94,8 @@ impl<'a> View<'a> {
         ensures work { steps.new ≤ steps.old + 2 }
         ensures later { steps.old ≤ steps.new }
     {
-        steps.tick();
-        live_at(self.prims(), id)
+        let store = self.store;
+        store.is_live(self.dateline, id, steps)
     }
 
     /// The last place below the dateline whose primitive is a link of this key into this namespace, if there is one. The
@@ -106,8 +105,8 @@ impl<'a> View<'a> {
         ensures work { steps.new ≤ steps.old + 24 }
         ensures later { steps.old ≤ steps.new }
     {
-        steps.tick();
-        last_key_link(self.prims(), namespace, key)
+        let store = self.store;
+        store.last_key_link(self.dateline, namespace, key, steps)
     }
 
     /// The k-th place below the dateline, from 0 in rising order, whose primitive is a key link of this object, if there
@@ -117,8 +116,8 @@ impl<'a> View<'a> {
         ensures work { steps.new ≤ steps.old + 3 }
         ensures later { steps.old ≤ steps.new }
     {
-        steps.tick();
-        key_of(self.prims(), object, k)
+        let store = self.store;
+        store.key_of(self.dateline, object, k, steps)
     }
 
     /// How many primitives have this node at the end. It takes no memory.
