@@ -102,6 +102,7 @@ impl Postings {
         requires there { k < length self.now.ids }
         ensures id { slice_get self.now.ids k ≡ Some result }
         ensures work { steps.new ≡ min (steps.old + 1) (2 ^ 64 - 1) }
+        ensures later { steps.old ≤ steps.new }
     {
         steps.tick();
         Id(self.ids[k as usize])

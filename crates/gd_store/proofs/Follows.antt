@@ -8,7 +8,8 @@ use Rattle.gd_prim.specs.Limits.{Count, limits, first_full, text_bytes, max_batc
 use Rattle.std.proofs.lemmas.List.{append-nil}
 use Rattle.gd_prim.specs.declared.Primitive.{Primitive}
 use Rattle.gd_prim.specs.declared.Batch.{Batch}
-use Rattle.gd_prim.specs.WellFormed.{may_follow, all_follow}
+use Rattle.gd_prim.specs.WellFormed.{may_follow, all_follow, first_bad, is_well_placed, refers_back, refers_below}
+use Rattle.gd_store.specs.Indexed.{may_enter}
 
 -- both of two tests
 pub both : (a b : Bool) → a ≡ true → b ≡ true → (a && b) ≡ true
@@ -16,12 +17,12 @@ both true b ha hb = hb
 both false b ha hb = ha
 
 -- the first of two tests
-first : (a b : Bool) → (a && b) ≡ true → a ≡ true
+pub first : (a b : Bool) → (a && b) ≡ true → a ≡ true
 first true b h = refl
 first false b h = h
 
 -- the second
-second : (a b : Bool) → (a && b) ≡ true → b ≡ true
+pub second : (a b : Bool) → (a && b) ≡ true → b ≡ true
 second true b h = h
 second false b h = cc
 
@@ -88,3 +89,24 @@ small_batch prims count (c ∷ bs) zero b h is =
     let fits : first_full (limits prims count c.prims) ≡ None = nothing _ (second _ _ (first _ _ h)) in
     subst (λ (x : Batch). length x.prims ≤ max_batch) same (room prims count c.prims fits).batch
 small_batch prims count (c ∷ bs) (suc n) b h is = small_batch (prims ++ c.prims) (count + 1) bs n b (second _ _ h) is
+
+-- a test failed on the way
+not_bad : (b : Bool) (o : Option ℕ) (n : ℕ) → (if b then o else Some n) ≡ None → (b ≡ true) × (o ≡ None)
+not_bad true o n h = (refl, h)
+not_bad false o n h = cc
+
+-- the last of five
+fifth : (a b c d e : Bool) → (a && (b && (c && (d && (e && true))))) ≡ true → e ≡ true
+fifth a b c d e h = first e true (second d (e && true) (second c (d && (e && true)) (second b (c && (d && (e && true))) (second a (b && (c && (d && (e && true)))) h))))
+
+-- the primitives of a well-formed batch may be entered
+pub good_enters : (before : List Primitive) (moment i : ℕ) (ps : List Primitive) → first_bad before moment i ps ≡ None → may_enter before ps ≡ true
+good_enters before moment i [] good = refl
+good_enters before moment i (p ∷ ps) good =
+    let parts : (is_well_placed before moment i p ≡ true) × (first_bad (before ++ p ∷ []) moment (i + 1) ps ≡ None) =
+    not_bad (is_well_placed before moment i p) (first_bad (before ++ p ∷ []) moment (i + 1) ps) (length before) good in
+    let placed : is_well_placed before moment i p ≡ true = parts.0 in
+    let room : nat_lt (length before) max_prims ≡ true = second _ _ (first _ _ (first _ _ placed)) in
+    let back : refers_back (length before) p ≡ true = first _ _ (first _ _ (first _ _ (first _ _ (first _ _ (first _ _ (first _ _ placed)))))) in
+    let below : refers_below (length before) p.previous ≡ true = fifth (refers_below (length before) p.left) (refers_below (length before) p.right) (refers_below (length before) p.typ) (refers_below (length before) p.scope) (refers_below (length before) p.previous) back in
+    both _ _ (both _ _ (both _ _ below (second _ _ placed)) room) (good_enters (before ++ p ∷ []) moment (i + 1) ps parts.1)

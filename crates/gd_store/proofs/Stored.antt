@@ -12,7 +12,9 @@ use Rattle.gd_prim.specs.WellFormed.{bad_place, all_follow}
 use Rattle.gd_store.specs.declared.store.Request.{Request}
 use Rattle.gd_store.specs.Stored.{cut, Rises, batches, end_after, IsStored}
 use Rattle.gd_store.proofs.Cut.{cut_whole, front_whole, length_cut, rises_le, rises_more, rises_front, end_after_le, end_after_next, nth_batch, cut_more, cut-take, last_batch}
-use Rattle.gd_store.proofs.Follows.{Room, room, both, follows_more, follows_take, small_batch}
+use Rattle.gd_store.specs.Indexed.{may_enter}
+use Rattle.gd_store.proofs.History.{front_of_all}
+use Rattle.gd_store.proofs.Follows.{Room, room, both, follows_more, follows_take, small_batch, good_enters}
 
 -- the primitives of batches, opened
 prims_of-is : (bs : List Batch) → prims_of bs ≡ builtin ++ flat_map (λ b. b.prims) bs
@@ -28,6 +30,26 @@ pub all_of_batches : (prims : List Primitive) (requests : List Request) (text : 
 unfolding prims_of
 all_of_batches prims requests text stored =
     ap (λ front. front ++ flat_map (λ b. b.prims) (cut 70 prims requests)) (sym stored.begins) ∙ cut_whole 70 prims requests stored.whole
+
+-- its front of the first requests
+pub front_at : (prims : List Primitive) (requests : List Request) (text : ℕ) (bs : List Batch) (end n : ℕ) → IsStored prims requests text → batches prims requests ≡ bs
+    → end ≡ length (prims_at bs n) → take end prims ≡ prims_at bs n
+front_at prims requests text bs end n stored view is =
+    ap (λ k. take k prims) is ∙ ap (take (length (prims_at bs n))) (sym (all_of_batches prims requests text stored) ∙ ap prims_of view) ∙ front_of_all bs n
+
+-- a batch that is well formed and passes no limit may be entered behind it
+pub batch_fits : (prims more : List Primitive) (requests : List Request) (text : ℕ) (bs : List Batch) (b : Batch) → IsStored prims requests text → batches prims requests ≡ bs
+    → more ≡ b.prims → first_full (limits (prims_of bs) (length bs) b.prims) ≡ None → length prims + length more ≤ 2_097_151
+batch_fits prims more requests text bs b stored view same fits =
+    let whole : prims_of bs ≡ prims = ap prims_of (sym view) ∙ all_of_batches prims requests text stored in
+    let space : length (prims_of bs) + length b.prims ≤ 2_097_151 = (room (prims_of bs) (length bs) b.prims fits).prims_fit in
+    omega (arith, space, ap length whole, ap length same)
+
+pub batch_enters : (prims more : List Primitive) (requests : List Request) (text : ℕ) (bs : List Batch) (b : Batch) → IsStored prims requests text → batches prims requests ≡ bs
+    → more ≡ b.prims → bad_place (prims_of bs) b ≡ None → may_enter prims more ≡ true
+batch_enters prims more requests text bs b stored view same good =
+    ap (may_enter prims) same ∙ ap (λ ps. may_enter ps b.prims) (sym (all_of_batches prims requests text stored) ∙ ap prims_of view)
+    ∙ good_enters (prims_of bs) b.moment 0 b.prims good
 
 -- and they may follow one another
 pub history_of_batches : (prims : List Primitive) (requests : List Request) (text : ℕ) → IsStored prims requests text → is_history (batches prims requests) ≡ true

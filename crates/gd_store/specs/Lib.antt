@@ -1,2 +1,4 @@
+pub mod Indexed
+pub mod Keys
 pub mod Scan
 pub mod Stored

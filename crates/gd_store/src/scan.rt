@@ -8,21 +8,6 @@ use gd_base::steps::Steps;
 use gd_prim::live::refers;
 use gd_prim::{End, Primitive};
 
-/// Whether some primitive of the list has this place as `previous`.
-pub(crate) fn has_successor<L>(prims: &[Primitive], place: Id, steps: &mut Steps<L>) -> bool
-    ensures found { result ≡ graph.has_successor prims.now place }
-    ensures work { steps.new ≤ steps.old + length prims.now }
-    ensures later { steps.old ≤ steps.new }
-{
-    for prim in prims {
-        steps.tick();
-        if refers(prim.previous, place) {
-            return true;
-        }
-    }
-    false
-}
-
 /// Whether the primitive has this node at the end.
 fn has_at(prim: &Primitive, end: End, node: Id) -> bool
     ensures { result ≡ graph.refers (end_of end prim.now) node }

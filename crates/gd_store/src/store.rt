@@ -1,13 +1,20 @@
 //! The store.
 ghost use Rattle.std.specs.Prelude.{◌≡◌, ◌^◌, ◌+◌, ◌-◌, ◌<◌, ◌≤◌, [], ◌∷◌, ◌++◌, None, Some, length, take, drop, slice_get, option_map, sum_by, nat_lt, if◌then◌else◌, Ok, Err, IsTrue, IfOk, IfErr, OnOk, OnErr, MatchResult};
 ghost use Rattle.gd_prim.specs.History.{prims_of, prims_at, is_history};
+ghost use Rattle.std.specs.List.{last_or};
+ghost use Rattle.gd_prim.specs.Live as graph;
 ghost use Rattle.gd_prim.specs.WellFormed.{bad_place};
 ghost use Rattle.gd_prim.specs.Limits.{limits, first_full, text_bytes};
+ghost use Rattle.gd_store.specs.Indexed.{may_enter};
+ghost use Rattle.gd_store.specs.Keys.{is_key_link, is_key_of};
 ghost use Rattle.gd_store.specs.Stored as stored;
 
+use crate::indexed::IndexedPrims;
 use crate::view::View;
 use gd_base::id::Id;
 use gd_base::memory::Memory;
+use gd_base::steps::Steps;
+use gd_base::text::Text;
 use gd_prim::builtin::builtin;
 use gd_prim::limits::{MAX_BATCH, MAX_PRIMS, MAX_REQUESTS, MAX_TEXT, batch_text_bytes};
 use gd_prim::well_formed::{BadBatch, is_well_formed};
@@ -37,7 +44,7 @@ pub(crate) struct Request {
 /// The built-in primitives and those of each request, in one list. Contracts see a store as the list of its batches.
 #[derive(Drop)]
 pub struct Store {
-    prims: Prims,
+    prims: IndexedPrims,
     requests: Vec<Request>,
     text: u64,
 }
@@ -109,11 +116,13 @@ fn from_place(prims: &[Primitive], place: usize) -> &[Primitive]
 
 /// Puts a request and its primitives at the ends, or for want of memory leaves both lists as they were.
 fn append(
-    prims: &mut Prims,
+    prims: &mut IndexedPrims,
     requests: &mut Vec<Request>,
     more: Prims,
     request: Request,
 ) -> Result<(), Memory>
+    requires few { length prims.old + length more ≤ 2_097_151 }
+    requires entered { IsTrue (may_enter prims.old more) }
     ensures prims { MatchResult result (λ _. prims.new ≡ prims.old ++ more) (λ _. prims.new ≡ prims.old) }
     ensures requests { MatchResult result (λ _. requests.new.items ≡ requests.old.items ++ request ∷ [])
         (λ _. requests.new.items ≡ requests.old.items) }
@@ -134,7 +143,7 @@ impl Store {
         let prims = Prims::from(builtin(alloc)?);
         let text = batch_text_bytes(prims.as_slice());
         Ok(Store {
-            prims,
+            prims: IndexedPrims::new(alloc, prims)?,
             requests: Vec::new(alloc),
             text,
         })
@@ -228,9 +237,10 @@ impl Store {
     pub fn copy(&self) -> Result<Store, Memory>
         ensures { IfOk result (λ store. store ≡ self.now) }
     {
+        let alloc = *self.requests.allocator();
         Ok(Store {
-            prims: self.prims.copy()?,
-            requests: self.requests.to_vec(*self.requests.allocator())?,
+            prims: self.prims.copy(alloc)?,
+            requests: self.requests.to_vec(alloc)?,
             text: self.text,
         })
     }
@@ -280,6 +290,38 @@ impl Store {
         ensures few { length result.now ≤ 2_097_151 }
     {
         &self.primitives()[..self.end(dateline) as usize]
+    }
+
+    /// Whether the primitive at a place below a dateline is marked live and none below it has it as `previous`.
+    #[tactic(auto, using(crate::proofs::Stored::all_of_batches, crate::proofs::History::front_of_all, crate::proofs::History::front_le_all))]
+    pub(crate) fn is_live<L>(&self, dateline: u32, id: Id, steps: &mut Steps<L>) -> bool
+        requires { dateline ≤ length self.now }
+        ensures live { result ≡ graph.is_live (prims_at self.now dateline) id }
+        ensures work { steps.new ≤ steps.old + 2 }
+        ensures later { steps.old ≤ steps.new }
+    {
+        self.prims.is_live(id, self.end(dateline), steps)
+    }
+
+    /// The last place below a dateline whose primitive is a link of this key into this namespace.
+    pub(crate) fn last_key_link<L>(&self, dateline: u32, namespace: Id, key: &Text, steps: &mut Steps<L>) -> Option<Id>
+        requires { dateline ≤ length self.now }
+        ensures last { result ≡ last_or None (graph.places_where (is_key_link namespace key.now) (prims_at self.now dateline)) }
+        ensures work { steps.new ≤ steps.old + 23 }
+        ensures later { steps.old ≤ steps.new }
+    {
+        self.prims
+            .last_key_link(namespace, key, self.end(dateline), steps)
+    }
+
+    /// The k-th place below a dateline, from 0, whose primitive is a key link of this object.
+    pub(crate) fn key_of<L>(&self, dateline: u32, object: Id, k: u32, steps: &mut Steps<L>) -> Option<Id>
+        requires { dateline ≤ length self.now }
+        ensures place { result ≡ slice_get (graph.places_where (is_key_of object) (prims_at self.now dateline)) k }
+        ensures work { steps.new ≤ steps.old + 1 }
+        ensures later { steps.old ≤ steps.new }
+    {
+        self.prims.key_of(object, k, self.end(dateline), steps)
     }
 
     /// The store as it was at a dateline, which is a number of whole requests.

@@ -7,7 +7,7 @@ use Rattle.gd_prim.specs.WellFormed.{bad_place}
 use Rattle.gd_store.specs.declared.store.Request.{Request}
 use Rattle.gd_store.specs.Stored.{batches, IsStored}
 use Rattle.gd_store.proofs.Cut.{cut_more}
-use Rattle.gd_store.proofs.Stored.{stored_more, stored_same, batches_same}
+use Rattle.gd_store.proofs.Stored.{stored_more, stored_same, batches_same, batch_fits, batch_enters}
 use Rattle.gd_store.proofs.store.Store.absorb.Goals as goal
 
 -- the fields that the call leaves, by the values of the walk
@@ -29,6 +29,14 @@ appended prims copied ps requests rs text before count bs b kept view same is_be
     batches_same _ ps _ rs (new_prims ∙ ap (λ more. prims ++ more) same) new_requests
     ∙ cut_more 70 prims b.prims requests (record { end = before + count; moment = b.moment }) kept.whole (omega (arith, ap length same))
     ∙ ap (λ cs. cs ++ b ∷ []) view
+
+pub append-requires-clause-few : goal.append-requires-clause-few
+append-requires-clause-few c =
+    batch_fits c.self.inside.prims c.in_ok-more.more c.self.inside.requests.items c.self.inside.text c.args.self.now c.args.batch.now c.self.invariant c.self.view_is c.in_ok-more.ensures c.requires.fits
+
+pub append-requires-clause-entered : goal.append-requires-clause-entered
+append-requires-clause-entered c =
+    batch_enters c.self.inside.prims c.in_ok-more.more c.self.inside.requests.items c.self.inside.text c.args.self.now c.args.batch.now c.self.invariant c.self.view_is c.in_ok-more.ensures c.requires.well_formed
 
 pub invariant_of-self-2 : goal.invariant_of-self-2
 invariant_of-self-2 c =

@@ -38,6 +38,12 @@ overflow_sub-self c =
       ap (λ (ps : List Primitive). sum_by text_bytes (drop c.end_after-end.result ps)) c.as_slice-2.ensures,
     )
 
+pub truncate-requires : goal.truncate-requires
+truncate-requires c =
+    let last : LastPart c.self.inside.prims c.self.inside.requests.items c.self.inside.text c.end_after-end.result =
+    part _ _ c.as_slice.result.now _ c.len-kept.result _ _ c.self.invariant c.self.view_is c.requires c.as_slice.ensures.value (c.len-kept.ensures ∙ sym c.as_slice.ensures.len) c.end_after-end.ensures in
+    last.within
+
 -- the requests that stay
 kept : (requests rs stay : List Request) (len : ℕ) → stay ≡ take (len - 1) requests → len ≡ length rs → rs ≡ requests → stay ≡ take (length requests - 1) requests
 kept requests rs stay len is count same = is ∙ ap (λ n. take (n - 1) requests) count ∙ ap (λ qs. take (length qs - 1) requests) same

@@ -1,0 +1,9 @@
+use Rattle.std.proofs.Common.{◌≤◌, take}
+use Rattle.gd_store.specs.Indexed.{AreIndexes}
+use Rattle.gd_store.proofs.indexes.Indexes.take_out_all.Given as goal
+
+abbrev pub invariant-loop-place : goal.invariant-loop-place
+invariant-loop-place l = record {
+  within : l.start ≤ l.place;
+  entered : AreIndexes l.self (take l.place l.prims);
+}

@@ -1,0 +1,40 @@
+//! What a posting list holds below a place.
+ghost use Rattle.std.specs.Prelude.{◌≡◌, ◌+◌, ◌≤◌, None, slice_get};
+ghost use Rattle.std.specs.List.{last_or};
+ghost use Rattle.gd_postings.specs.Postings.{ids_below};
+
+use gd_base::id::Id;
+use gd_base::steps::Steps;
+use gd_postings::postings::Postings;
+
+/// The last identity that is less than `end`, if there is one.
+pub(crate) fn last_below<L>(list: &Postings, end: Id, steps: &mut Steps<L>) -> Option<Id>
+    ensures last { result ≡ last_or None (ids_below end list.now.ids) }
+    ensures work { steps.new ≤ steps.old + 23 }
+    ensures later { steps.old ≤ steps.new }
+{
+    if list.len() == 0 {
+        return None;
+    }
+    let count = list.len_below(end, steps);
+    if count == 0 {
+        return None;
+    }
+    Some(list.at(count - 1, steps))
+}
+
+/// The k-th of the identities that are less than `end`, from 0, if there is one.
+pub(crate) fn at_below<L>(list: &Postings, k: u32, end: Id, steps: &mut Steps<L>) -> Option<Id>
+    ensures id { result ≡ slice_get (ids_below end list.now.ids) k }
+    ensures work { steps.new ≤ steps.old + 1 }
+    ensures later { steps.old ≤ steps.new }
+{
+    if k >= list.len() {
+        return None;
+    }
+    let id = list.at(k, steps);
+    if id.place() < end.place() {
+        return Some(id);
+    }
+    None
+}

@@ -1,0 +1,144 @@
+//! A list of primitives with its indexes.
+ghost use Rattle.std.specs.Prelude.{◌≡◌, ◌+◌, ◌≤◌, [], ◌++◌, None, length, take, slice_get, IsTrue, IfOk, OnOk, OnErr};
+ghost use Rattle.std.specs.List.{last_or};
+ghost use Rattle.gd_prim.specs.Live as graph;
+ghost use Rattle.gd_store.specs.Indexed.{may_enter};
+ghost use Rattle.gd_store.specs.Keys.{is_key_link, is_key_of};
+
+use crate::indexes::Indexes;
+use gd_base::id::Id;
+use gd_base::memory::Memory;
+use gd_base::steps::Steps;
+use gd_base::text::Text;
+use gd_prim::{Primitive, Prims};
+use std::alloc::Global;
+use std::marker::Model;
+
+/// Primitives in order, and indexes of them. Contracts see the list of the primitives. The previous one of each is
+/// current among those before it.
+#[derive(Drop)]
+pub(crate) struct IndexedPrims {
+    prims: Prims,
+    indexes: Indexes,
+}
+
+impl Model for IndexedPrims {
+    ghost use Rattle.std.specs.Prelude.{List};
+    ghost use Rattle.gd_prim.specs.declared.Primitive.{Primitive};
+    ghost use Rattle.gd_store.specs.Indexed.{IsIndexed};
+
+    ghost Value = { List Primitive };
+
+    ghost view = { λ indexed. indexed.prims };
+
+    ghost invariant = { λ indexed. IsIndexed indexed.indexes indexed.prims };
+}
+
+impl IndexedPrims {
+    /// The list of these primitives.
+    pub(crate) fn new(alloc: Global, prims: Prims) -> Result<IndexedPrims, Memory>
+        requires few { length prims ≤ 2_097_151 }
+        requires entered { IsTrue (may_enter [] prims) }
+        ensures { IfOk result (λ made. made ≡ prims) }
+    {
+        let mut indexes = Indexes::new(alloc);
+        indexes.enter_all(prims.as_slice(), 0)?;
+        Ok(IndexedPrims { prims, indexes })
+    }
+
+    pub(crate) fn as_slice(&self) -> &[Primitive]
+        ensures { result.now ≡ self.now }
+    {
+        self.prims.as_slice()
+    }
+
+    pub(crate) fn len(&self) -> usize
+        ensures { result ≡ length self.now }
+    {
+        self.prims.len()
+    }
+
+    /// Moves these primitives to the end, or for want of memory leaves the list as it was.
+    pub(crate) fn append(&mut self, more: Prims) -> Result<(), Memory>
+        requires few { length self.old + length more ≤ 2_097_151 }
+        requires entered { IsTrue (may_enter self.old more) }
+        ensures ok { OnOk result (self.new ≡ self.old ++ more) }
+        ensures err { OnErr result (self.new ≡ self.old) }
+    {
+        let start = self.prims.len();
+        self.prims.append(more)?;
+        if let Err(fault) = self.indexes.enter_all(self.prims.as_slice(), start) {
+            self.prims.truncate(start);
+            return Err(fault);
+        }
+        Ok(())
+    }
+
+    /// Keeps the first `len` primitives. It takes no memory.
+    pub(crate) fn truncate(&mut self, len: usize)
+        requires { len ≤ length self.old }
+        ensures { self.new ≡ take len self.old }
+    {
+        let end = self.prims.len();
+        self.indexes.take_out_all(self.prims.as_slice(), len, end);
+        self.prims.truncate(len);
+    }
+
+    /// The same primitives again.
+    pub(crate) fn copy(&self, alloc: Global) -> Result<IndexedPrims, Memory>
+        requires { length self.now ≤ 2_097_151 }
+        ensures { IfOk result (λ made. made ≡ self.now) }
+    {
+        IndexedPrims::new(alloc, self.prims.copy()?)
+    }
+
+    /// Whether some primitive below `end` has this place as `previous`.
+    fn has_successor<L>(&self, id: Id, end: u32, steps: &mut Steps<L>) -> bool
+        ensures found { result ≡ graph.has_successor (take end self.now) id }
+        ensures work { steps.new ≤ steps.old + 1 }
+        ensures later { steps.old ≤ steps.new }
+    {
+        self.indexes.has_successor(id, Id(end), steps)
+    }
+
+    /// The first `end` primitives.
+    fn below(&self, end: u32) -> &[Primitive]
+        requires { end ≤ length self.now }
+        ensures { result.now ≡ take end self.now }
+    {
+        &self.as_slice()[..end as usize]
+    }
+
+    /// Whether the primitive at a place below `end` is marked live and none below `end` has it as `previous`. A place
+    /// from `end` on is not live.
+    pub(crate) fn is_live<L>(&self, id: Id, end: u32, steps: &mut Steps<L>) -> bool
+        requires { end ≤ length self.now }
+        ensures live { result ≡ graph.is_live (take end self.now) id }
+        ensures work { steps.new ≤ steps.old + 2 }
+        ensures later { steps.old ≤ steps.new }
+    {
+        steps.tick();
+        match self.below(end).get(id.place() as usize) {
+            Some(prim) => prim.live && !self.has_successor(id, end, steps),
+            None => false,
+        }
+    }
+
+    /// The last place below `end` whose primitive is a link of this key into this namespace, if there is one.
+    pub(crate) fn last_key_link<L>(&self, namespace: Id, key: &Text, end: u32, steps: &mut Steps<L>) -> Option<Id>
+        ensures last { result ≡ last_or None (graph.places_where (is_key_link namespace key.now) (take end self.now)) }
+        ensures work { steps.new ≤ steps.old + 23 }
+        ensures later { steps.old ≤ steps.new }
+    {
+        self.indexes.last_key_link(namespace, key, Id(end), steps)
+    }
+
+    /// The k-th place below `end`, from 0 in rising order, whose primitive is a key link of this object, if there is one.
+    pub(crate) fn key_of<L>(&self, object: Id, k: u32, end: u32, steps: &mut Steps<L>) -> Option<Id>
+        ensures place { result ≡ slice_get (graph.places_where (is_key_of object) (take end self.now)) k }
+        ensures work { steps.new ≤ steps.old + 1 }
+        ensures later { steps.old ≤ steps.new }
+    {
+        self.indexes.key_of(object, k, Id(end), steps)
+    }
+}

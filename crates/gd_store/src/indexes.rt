@@ -1,0 +1,206 @@
+//! Indexes of a list of primitives: which one succeeds which, and where the key links are.
+ghost use Rattle.std.specs.Prelude.{◌≡◌, ◌+◌, ◌<◌, ◌≤◌, [], None, length, take, slice_get, nat_lt, false, IsTrue, OnOk, OnErr};
+ghost use Rattle.std.specs.List.{last_or};
+ghost use Rattle.std.specs.Option.{option_copied, option_map_or};
+ghost use Rattle.gd_prim.specs.Live as graph;
+ghost use Rattle.gd_postings.specs.Postings.{ids_below};
+ghost use Rattle.gd_versions.specs.Versions.{successor_of};
+ghost use Rattle.gd_keys.specs.Keys.{key_list, object_list};
+ghost use Rattle.gd_store.specs.Indexed.{AreSuccessors, AreKeys, AreIndexes, may_enter};
+
+use crate::below::{at_below, last_below};
+use gd_base::datum::Datum;
+use gd_base::id::Id;
+use gd_base::memory::Memory;
+use gd_base::steps::Steps;
+use gd_base::text::Text;
+use gd_keys::keys::Keys;
+use gd_prim::Primitive;
+use gd_prim::live::refers;
+use gd_versions::versions::Versions;
+use std::alloc::Global;
+
+/// The property of key links.
+const KEY: Id = Id(15);
+
+/// Which primitive of a list succeeds which, and the places of its key links.
+#[derive(Drop)]
+pub(crate) struct Indexes {
+    versions: Versions,
+    keys: Keys,
+}
+
+/// The text that the value is.
+fn text_of(value: &Datum) -> Option<&Text>
+    ensures { option_copied result ≡ graph.text_of value.now }
+{
+    match value {
+        Datum::Text(text) => Some(text),
+        _ => None,
+    }
+}
+
+/// Enters the primitive at a place, if it is a key link, or for want of memory leaves each list as it was.
+fn enter_key(keys: &mut Keys, prims: &[Primitive], place: usize) -> Result<(), Memory>
+    requires there { place < length prims.now }
+    requires few { length prims.now ≤ 2_097_151 }
+    requires before { AreKeys keys.old (take place prims.now) }
+    ensures ok { OnOk result (AreKeys keys.new (take (place + 1) prims.now)) }
+    ensures err { OnErr result (AreKeys keys.new (take place prims.now)) }
+{
+    let prim = &prims[place];
+    if refers(prim.typ, KEY) {
+        keys.add(
+            prim.right,
+            text_of(&prim.value),
+            prim.left,
+            Id(place as u32),
+        )?;
+    }
+    Ok(())
+}
+
+/// Takes the primitive at a place away again, if it is a key link. It is the last that was entered.
+fn take_out_key(keys: &mut Keys, prims: &[Primitive], place: usize)
+    requires there { place < length prims.now }
+    requires before { AreKeys keys.old (take (place + 1) prims.now) }
+    ensures { AreKeys keys.new (take place prims.now) }
+{
+    let prim = &prims[place];
+    if refers(prim.typ, KEY) {
+        keys.retract(prim.right, text_of(&prim.value), prim.left);
+    }
+}
+
+/// Enters the primitive at a place as the successor of its previous one, or for want of memory leaves each place's
+/// successor as it was.
+fn enter_version(versions: &mut Versions, prims: &[Primitive], place: usize) -> Result<(), Memory>
+    requires there { place < length prims.now }
+    requires few { length prims.now ≤ 2_097_151 }
+    requires entered { IsTrue (may_enter [] prims.now) }
+    requires before { AreSuccessors versions.old (take place prims.now) }
+    ensures ok { OnOk result (AreSuccessors versions.new (take (place + 1) prims.now)) }
+    ensures err { OnErr result (AreSuccessors versions.new (take place prims.now)) }
+{
+    let prim = &prims[place];
+    if let Some(previous) = prim.previous {
+        versions.reserve(previous.place() + 1)?;
+        versions.add(previous, Id(place as u32));
+    }
+    Ok(())
+}
+
+/// Takes the primitive at a place away again as a successor.
+fn take_out_version(versions: &mut Versions, prims: &[Primitive], place: usize)
+    requires there { place < length prims.now }
+    requires entered { IsTrue (may_enter [] prims.now) }
+    requires before { AreSuccessors versions.old (take (place + 1) prims.now) }
+    ensures { AreSuccessors versions.new (take place prims.now) }
+{
+    let prim = &prims[place];
+    if let Some(previous) = prim.previous {
+        versions.retract(previous);
+    }
+}
+
+impl Indexes {
+    /// The indexes of no primitives. It takes no memory.
+    pub(crate) fn new(alloc: Global) -> Indexes
+        ensures { AreIndexes result [] }
+    {
+        Indexes {
+            versions: Versions::new(alloc),
+            keys: Keys::new(alloc),
+        }
+    }
+
+    /// Enters the primitive at a place behind all those before it, or for want of memory leaves the indexes those of
+    /// the ones before it.
+    fn enter(&mut self, prims: &[Primitive], place: usize) -> Result<(), Memory>
+        requires there { place < length prims.now }
+        requires few { length prims.now ≤ 2_097_151 }
+        requires entered { IsTrue (may_enter [] prims.now) }
+        requires before { AreIndexes self.old (take place prims.now) }
+        ensures ok { OnOk result (AreIndexes self.new (take (place + 1) prims.now)) }
+        ensures err { OnErr result (AreIndexes self.new (take place prims.now)) }
+    {
+        enter_version(&mut self.versions, prims, place)?;
+        if let Err(fault) = enter_key(&mut self.keys, prims, place) {
+            take_out_version(&mut self.versions, prims, place);
+            return Err(fault);
+        }
+        Ok(())
+    }
+
+    /// Takes the primitive at a place, which is the last that was entered, away again. It takes no memory.
+    fn take_out(&mut self, prims: &[Primitive], place: usize)
+        requires there { place < length prims.now }
+        requires entered { IsTrue (may_enter [] prims.now) }
+        requires before { AreIndexes self.old (take (place + 1) prims.now) }
+        ensures { AreIndexes self.new (take place prims.now) }
+    {
+        take_out_key(&mut self.keys, prims, place);
+        take_out_version(&mut self.versions, prims, place);
+    }
+
+    /// Takes the primitives between two places away again, which are the last that were entered. It takes no memory.
+    pub(crate) fn take_out_all(&mut self, prims: &[Primitive], start: usize, end: usize)
+        requires order { start ≤ end }
+        requires there { end ≤ length prims.now }
+        requires entered { IsTrue (may_enter [] prims.now) }
+        requires before { AreIndexes self.old (take end prims.now) }
+        ensures { AreIndexes self.new (take start prims.now) }
+    {
+        for place in (start..end).rev() {
+            self.take_out(prims, place);
+        }
+    }
+
+    /// Enters the primitives from a place on, or for want of memory leaves the indexes those of the ones before it.
+    pub(crate) fn enter_all(&mut self, prims: &[Primitive], start: usize) -> Result<(), Memory>
+        requires start { start ≤ length prims.now }
+        requires few { length prims.now ≤ 2_097_151 }
+        requires entered { IsTrue (may_enter [] prims.now) }
+        requires before { AreIndexes self.old (take start prims.now) }
+        ensures ok { OnOk result (AreIndexes self.new prims.now) }
+        ensures err { OnErr result (AreIndexes self.new (take start prims.now)) }
+    {
+        for place in start..prims.len() {
+            if let Err(fault) = self.enter(prims, place) {
+                self.take_out_all(prims, start, place);
+                return Err(fault);
+            }
+        }
+        Ok(())
+    }
+
+    /// The last place below `end` that has a link of this key into this namespace, if there is one.
+    pub(crate) fn last_key_link<L>(&self, namespace: Id, key: &Text, end: Id, steps: &mut Steps<L>) -> Option<Id>
+        ensures last { result ≡ last_or None (ids_below end (key_list self.now.keys namespace key.now).ids) }
+        ensures work { steps.new ≤ steps.old + 23 }
+        ensures later { steps.old ≤ steps.new }
+    {
+        last_below(self.keys.by_key(namespace, key), end, steps)
+    }
+
+    /// The k-th place below `end`, from 0, that has a key link of this object, if there is one.
+    pub(crate) fn key_of<L>(&self, object: Id, k: u32, end: Id, steps: &mut Steps<L>) -> Option<Id>
+        ensures place { result ≡ slice_get (ids_below end (object_list self.now.keys object).ids) k }
+        ensures work { steps.new ≤ steps.old + 1 }
+        ensures later { steps.old ≤ steps.new }
+    {
+        at_below(self.keys.by_object(object), k, end, steps)
+    }
+
+    /// Whether the successor of a place is below `end`.
+    pub(crate) fn has_successor<L>(&self, id: Id, end: Id, steps: &mut Steps<L>) -> bool
+        ensures found { result ≡ option_map_or (λ next. nat_lt next end) (successor_of self.now.versions id) false }
+        ensures work { steps.new ≤ steps.old + 1 }
+        ensures later { steps.old ≤ steps.new }
+    {
+        match self.versions.successor(id, steps) {
+            Some(next) => next < end,
+            None => false,
+        }
+    }
+}
