@@ -1,3 +1,5 @@
 pub mod Printed
+pub mod Counted
+pub mod Settled
 pub mod Served
 pub mod Known
