@@ -25,10 +25,6 @@ pub rose_once : (told : Bool) (a b : ℕ) → (told ≡ true → Rose a b) → a
 rose_once true a b cause later = cause refl
 rose_once false a b cause later = omega (arith, later)
 
--- the count of a device added to that of its shelf
-pub rose_added : (before mid device after n : ℕ) → before ≤ mid → RoseBy 0 device n → mid + device ≤ after → RoseBy before after n
-rose_added before mid device after n later rose added = omega (arith, later, rose, added)
-
 -- ---- replies
 
 pub printed-append : (xs ys : List (List ℕ)) → printed (xs ++ ys) ≡ printed xs ++ printed ys

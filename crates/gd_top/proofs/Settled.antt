@@ -1,6 +1,7 @@
 -- What stands for a run that is served stands for its history.
 use Rattle.std.proofs.Common.{◌≡◌, ℕ, suc, zero, ◌+◌, ◌≤◌, List, [], ◌∷◌, ◌++◌, Option, Some, None, IsSome, slice_get, refl, sym, subst, ap, ◌∙◌, inl, inr, ⊎_elim, ◌⊎◌, arith, append_assoc, map, Bool}
 use Rattle.std.proofs.lemmas.List.{map-append}
+use Rattle.std.specs.Option.{ForSome}
 use Rattle.gd_prim.specs.declared.Batch.{Batch}
 use Rattle.gd_bytes.specs.File.{StandsFor, MayStandFor}
 use Rattle.gd_runs.specs.Legal.{Entry, History, batches, with_entry, with_entries, IsLegal}
@@ -9,7 +10,9 @@ use Rattle.gd_runs.specs.Explained.{Numbered, Run, MayBe, Holds, IsExplainedBy, 
 use Rattle.gd_runs.proofs.Rounds.{some_same, no_some, one_round_more}
 use Rattle.gd_serving.specs.Served.{Progress, Doubt, IsServed, IsDoubted, IsDoubtOf}
 use Rattle.gd_serving.specs.Running.{Running, doubted_groups, StandsForRun, HoldsRun, IsBacked}
-use Rattle.gd_top.specs.Held.{HoldsAs, SameStore}
+use Rattle.gd_journal.specs.State.{Journaled}
+use Rattle.gd_log.specs.State.{IsHeld}
+use Rattle.gd_top.specs.Held.{HoldsAs, Leaves, Loads, SameStore}
 
 module _ (loaded : List Batch) (may : ℕ → Bool) (given : List Numbered) (output : List ℕ) (h : History) (runs : List Run) (ex : IsExplainedBy is_built loaded may given output h runs) where
   -- the write in doubt, as an entry more
@@ -79,5 +82,30 @@ backed_by content images gate None bs (Some d) held file is = absurd held
 backed_by content images gate (Some next) bs None held file is = absurd held
 backed_by content images gate (Some next) bs (Some d) held file is = held.means file is
 
-pub backed : {D : Type 0} (content : D → Option (List ℕ)) (images : D → List ℕ → Type 0) (r : Running D) → IsBacked content images r → (file : List ℕ) → images r.log.disk file → StandsForRun r.progress file
+backed : {D : Type 0} (content : D → Option (List ℕ)) (images : D → List ℕ → Type 0) (r : Running D) → IsBacked content images r → (file : List ℕ) → images r.log.disk file → StandsForRun r.progress file
 backed content images r held file is = backed_by (content r.log.disk) (images r.log.disk) r.log.gate r.log.doubt r.progress.batches r.progress.doubt held file is
+
+-- ---- a run over a store that was just opened
+
+-- its disk holds it
+backed_first : {D : Type 0} (content : D → Option (List ℕ)) (images : D → List ℕ → Type 0) (r : Running D) (log : Journaled D) (store : List Batch) → r.log ≡ log → r.progress ≡ record { batches = store; lines = 0; kept = 0; doubt = None }
+    → log.doubt ≡ None → IsHeld (content log.disk) (images log.disk) log.gate store → IsBacked content images r
+backed_first {D} content images r log store log_is progress_is sure held =
+    subst (λ (p : Progress). HoldsRun (content r.log.disk) (images r.log.disk) r.log.gate r.log.doubt p.batches p.doubt) (sym progress_is)
+    (subst (λ (l : Journaled D). HoldsRun (content l.disk) (images l.disk) l.gate l.doubt store None) (sym log_is)
+    (subst (λ (next : Option ℕ). HoldsRun (content log.disk) (images log.disk) log.gate next store None) (sym sure) held))
+
+-- it begins with what the file stood for
+pub loads : (told : Option (List ℕ)) (store : List Batch) (p : Progress) → p ≡ record { batches = store; lines = 0; kept = 0; doubt = None } → ForSome told (λ file. StandsFor file store) → (loaded : List Batch) → loaded ≡ p.batches → Loads told loaded
+loads told store p is stands loaded same file told_is = subst (StandsFor file) (sym (same ∙ ap (λ (q : Progress). q.batches) is)) (stands file told_is)
+
+untold : IsSome {T = List ℕ} None → ⊥
+untold some = cc
+
+-- and what its disk is left with stands for its history
+pub leaves : {D : Type 0} (content : D → Option (List ℕ)) (images : D → List ℕ → Type 0) (told : Option (List ℕ)) (log : Journaled D) (store : List Batch) (old new : Running D) (disk : D) → old.log ≡ log
+    → old.progress ≡ record { batches = store; lines = 0; kept = 0; doubt = None } → log.doubt ≡ None → ForSome told (λ file. IsHeld (content log.disk) (images log.disk) log.gate store)
+    → (IsBacked content images old → IsBacked content images new) → disk ≡ new.log.disk → (h : History) (runs : List Run) → HoldsAs new.progress h runs → Leaves told (images disk) h runs
+leaves content images None log store old new disk log_is progress_is sure held keeps same h runs holds some file is = absurd (untold some)
+leaves {D} content images (Some first) log store old new disk log_is progress_is sure held keeps same h runs holds some file is =
+    holds file (backed content images new (keeps (backed_first content images old log store log_is progress_is sure (held first refl))) file (subst (λ (d : D). images d file) same is))

@@ -1,9 +1,10 @@
 //! The store is opened, and a run is served over it.
-ghost use Rattle.std.specs.Prelude.{◌≡◌, ◌≢◌, ◌≤◌, ◌^◌, ℕ, List, false, [], Unit, length, IfSome, Some};
+ghost use Rattle.std.specs.Prelude.{◌≡◌, ◌≢◌, ◌≤◌, ◌^◌, ℕ, List, false, [], length, IfSome};
 ghost use Rattle.gd_base.specs.Counts.{Rose};
 ghost use Rattle.gd_bytes.specs.Disk.{HoldsSame};
 ghost use Rattle.gd_top.specs.Ends.{IsIdle, Prints, Causes};
-ghost use Rattle.gd_top.specs.Held.{Loads, Leaves, MayMean, DoesMean, RoseBy};
+ghost use Rattle.gd_serving.specs.Running.{IsBacked};
+ghost use Rattle.gd_top.specs.Held.{Loads, Leaves, MayMean, DoesMean, RoseBy, HoldsAs, IsAtStart};
 
 use crate::rounds::serve_rounds;
 use crate::status::Status;
@@ -17,6 +18,31 @@ use gd_outside::sink::Sink;
 use gd_outside::source::Source;
 use gd_serving::serving::Serving;
 use std::alloc::Global;
+
+/// Serves the whole input, and says how that ended.
+fn serve_all<D: Disk, S: Source, K: Sink, C: Clock>(
+    alloc: Global,
+    serving: &mut Serving<D>,
+    source: &mut S,
+    sink: &mut K,
+    clock: &mut C,
+) -> Status
+    requires { IsAtStart serving.old.progress }
+    ensures prints { Prints result (C.may clock.old) (λ loaded. loaded ≡ serving.old.progress.batches)
+        (HoldsAs serving.new.progress) (RoseBy (D.faults serving.old.log.disk) (D.faults serving.new.log.disk)) ⊥
+        (S.left source.old) (S.left source.new) (K.held sink.old) (K.held sink.new) }
+    ensures causes { Causes result (Rose (S.faults source.old) (S.faults source.new))
+        (Rose (K.faults sink.old) (K.faults sink.new)) ⊥
+        (IfSome (S.left source.old) (λ input. 2 ^ 40 ≤ length input)) (λ _. ⊥) (λ _. ⊥) }
+    ensures used { result ≢ Status.Usage }
+    ensures backed { IsBacked D.content D.images serving.old → IsBacked D.content D.images serving.new }
+    ensures later { D.faults serving.old.log.disk ≤ D.faults serving.new.log.disk }
+{
+    match serve_rounds(alloc, serving, source, sink, clock) {
+        Ok(()) => Status::Done,
+        Err(stop) => Status::of_stop(stop),
+    }
+}
 
 /// Opens the store that a disk holds, before the first line is read, and serves the whole input over it. The disk is
 /// handed back, however it ends.
@@ -39,10 +65,7 @@ fn serve_over<D: Disk, S: Source, K: Sink, C: Clock>(
     match open_log(alloc, disk) {
         Ok((log, store)) => {
             let mut serving = Serving::new(log, store);
-            let status = match serve_rounds(alloc, &mut serving, source, sink, clock) {
-                Ok(()) => Status::Done,
-                Err(stop) => Status::of_stop(stop),
-            };
+            let status = serve_all(alloc, &mut serving, source, sink, clock);
             (status, serving.into_disk())
         }
         Err((fault, disk)) => (Status::of_store(fault), disk),
