@@ -5,3 +5,4 @@ pub mod Served
 pub mod Known
 pub mod Weaker
 pub mod Complete
+pub mod Shelved

@@ -141,3 +141,7 @@ pub fn graphd<S: Source, K: Sink, F: Shelf, C: Clock + Drop>(
     }
 }
 
+#[cfg(test)]
+mod file_tests;
+#[cfg(test)]
+mod tests;
