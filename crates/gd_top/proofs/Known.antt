@@ -1,7 +1,8 @@
 -- The same where the input is known, and nothing where it is not.
-use Rattle.std.proofs.Common.{◌≡◌, ℕ, ◌+◌, ◌*◌, ◌<◌, ◌≤◌, Bool, true, List, [], length, Option, Some, None, IfSome, refl, sym, subst, ap, ◌∙◌, arith, length-append, Result, Ok, Err, IsErrAnd}
+use Rattle.std.proofs.Common.{◌≡◌, ℕ, ◌+◌, ◌*◌, ◌<◌, ◌≤◌, Bool, true, false, List, [], length, Option, Some, None, IfSome, refl, sym, subst, ap, ◌∙◌, arith, length-append, Result, Ok, Err, IsErrAnd}
 use Rattle.std.specs.Io.KnownBytes.{prepend_known}
 use Rattle.std.proofs.KnownBytes.{Consumes-nil}
+use Rattle.gd_prim.specs.declared.Batch.{Batch}
 use Rattle.gd_input.specs.declared.line.RoundLine.{RoundLine}
 use Rattle.gd_input.specs.declared.round.Round.{Round}
 use Rattle.gd_input.specs.Held.{Held, IsBounded}
@@ -13,57 +14,57 @@ use Rattle.gd_input.specs.declared.fault.InputFault.TheVariants as input
 use Rattle.gd_top.specs.declared.stop.Stop.{Stop}
 use Rattle.gd_top.specs.declared.stop.Stop.TheVariants as stop
 use Rattle.gd_top.specs.Stops.{stop_of}
-use Rattle.gd_serving.proofs.Going.{served_at_first}
+use Rattle.gd_top.specs.Held.{HoldsAs, IsAtStart, RoseBy}
 use Rattle.gd_top.specs.Serves.{Serves, ServesFront, ServesRounds, Answers, AnswersFront, ServedUpto}
 use Rattle.gd_top.proofs.Served.{served_none, served_more, served_all, served_rounds, front_of_rounds, front_in_round}
 
-module _ (may now : ℕ → Bool) (same : now ≡ may) (old mid new : Option (List ℕ)) (p q : Progress) where
-  moved : (taken : Round) (lines : List RoundLine) → lines ≡ taken.lines.items → ((texts : List (List ℕ)) → AreKept lines texts → Answers now p q texts mid new)
-      → (texts : List (List ℕ)) → AreKept taken.lines.items texts → Answers may p q texts mid new
-  moved taken lines is answers texts kept = subst (λ (m : ℕ → Bool). Answers m p q texts mid new) same (answers texts (subst (λ (ls : List RoundLine). AreKept ls texts) (sym is) kept))
+module _ (loaded : List Batch) (may now : ℕ → Bool) (same : now ≡ may) (old mid new : Option (List ℕ)) (a b c : ℕ) (p q : Progress) where
+  moved : (taken : Round) (lines : List RoundLine) → lines ≡ taken.lines.items → ((texts : List (List ℕ)) → AreKept lines texts → Answers now p q texts mid new b c)
+      → (texts : List (List ℕ)) → AreKept taken.lines.items texts → Answers may p q texts mid new b c
+  moved taken lines is answers texts kept = subst (λ (m : ℕ → Bool). Answers m p q texts mid new b c) same (answers texts (subst (λ (ls : List RoundLine). AreKept ls texts) (sym is) kept))
 
   -- one round more
-  pub more_known : (a b c : Option (List ℕ)) (taken : Round) (lines : List RoundLine) → lines ≡ taken.lines.items → Known a b (ServedUpto may old mid p) → Known b c (TakesRound taken)
-      → ((texts : List (List ℕ)) → AreKept lines texts → Answers now p q texts mid new) → Known a c (ServedUpto may old new q)
-  more_known None b c taken lines is upto takes answers = tt
-  more_known (Some x) None c taken lines is upto takes answers = absurd upto
+  pub more_known : (x y z : Option (List ℕ)) (taken : Round) (lines : List RoundLine) → lines ≡ taken.lines.items → Known x y (ServedUpto loaded may old mid a b p) → Known y z (TakesRound taken)
+      → ((texts : List (List ℕ)) → AreKept lines texts → Answers now p q texts mid new b c) → Known x z (ServedUpto loaded may old new a c q)
+  more_known None y z taken lines is upto takes answers = tt
+  more_known (Some x) None z taken lines is upto takes answers = absurd upto
   more_known (Some x) (Some y) None taken lines is upto takes answers = absurd takes
-  more_known (Some x) (Some y) (Some z) taken lines is upto takes answers = served_more may old mid new p q x y z taken upto takes (moved taken lines is answers)
+  more_known (Some x) (Some y) (Some z) taken lines is upto takes answers = served_more loaded may old mid new a b c p q x y z taken upto takes (moved taken lines is answers)
 
   -- the last one
-  pub done_known : (a b c : Option (List ℕ)) (taken : Round) (lines : List RoundLine) → lines ≡ taken.lines.items → Known a b (ServedUpto may old mid p) → Known b c (TakesRound taken)
-      → ((texts : List (List ℕ)) → AreKept lines texts → Answers now p q texts mid new) → taken.ended ≡ true → IfSome a (Serves may old new)
-  done_known None b c taken lines is upto takes answers ended = tt
-  done_known (Some x) None c taken lines is upto takes answers ended = absurd upto
+  pub done_known : (x y z : Option (List ℕ)) (taken : Round) (lines : List RoundLine) → lines ≡ taken.lines.items → Known x y (ServedUpto loaded may old mid a b p) → Known y z (TakesRound taken)
+      → ((texts : List (List ℕ)) → AreKept lines texts → Answers now p q texts mid new b c) → taken.ended ≡ true → IfSome x (Serves may (λ l. l ≡ loaded) (HoldsAs q) (RoseBy a c) old new)
+  done_known None y z taken lines is upto takes answers ended = tt
+  done_known (Some x) None z taken lines is upto takes answers ended = absurd upto
   done_known (Some x) (Some y) None taken lines is upto takes answers ended = absurd takes
   done_known (Some x) (Some y) (Some z) taken lines is upto takes answers ended =
-      served_all may old new q x z (served_more may old mid new p q x y z taken upto takes (moved taken lines is answers)) (takes.ended ended)
+      served_all loaded may old new a c q x z (served_more loaded may old mid new a b c p q x y z taken upto takes (moved taken lines is answers)) (takes.ended ended)
 
   -- a part of one
-  pub part_known : (a b c : Option (List ℕ)) (taken : Round) (lines : List RoundLine) → lines ≡ taken.lines.items → Known a b (ServedUpto may old mid p) → Known b c (TakesRound taken)
-      → ((texts : List (List ℕ)) → AreKept lines texts → AnswersFront now p texts mid new) → IfSome a (ServesFront may old new)
-  part_known None b c taken lines is upto takes fronts = tt
-  part_known (Some x) None c taken lines is upto takes fronts = absurd upto
+  pub part_known : (x y z : Option (List ℕ)) (taken : Round) (lines : List RoundLine) → lines ≡ taken.lines.items → Known x y (ServedUpto loaded may old mid a b p) → Known y z (TakesRound taken)
+      → ((texts : List (List ℕ)) → AreKept lines texts → AnswersFront now p q texts mid new b c) → IfSome x (ServesFront may (λ l. l ≡ loaded) (HoldsAs q) (RoseBy a c) old new)
+  part_known None y z taken lines is upto takes fronts = tt
+  part_known (Some x) None z taken lines is upto takes fronts = absurd upto
   part_known (Some x) (Some y) None taken lines is upto takes fronts = absurd takes
-  part_known (Some x) (Some y) (Some z) taken lines is upto takes fronts = front_in_round may old mid new p x y z taken upto takes
-      (λ texts kept. subst (λ (m : ℕ → Bool). AnswersFront m p texts mid new) same (fronts texts (subst (λ (ls : List RoundLine). AreKept ls texts) (sym is) kept)))
+  part_known (Some x) (Some y) (Some z) taken lines is upto takes fronts = front_in_round loaded may old mid new a b c p q x y z taken upto takes
+      (λ texts kept. subst (λ (m : ℕ → Bool). AnswersFront m p q texts mid new b c) same (fronts texts (subst (λ (ls : List RoundLine). AreKept ls texts) (sym is) kept)))
 
-module _ (may : ℕ → Bool) (old new : Option (List ℕ)) (p : Progress) where
-  -- before the first round
-  pub start_known : (a : Option (List ℕ)) → IsServed [] may [] [] p → Known a (prepend_known [] a) (ServedUpto may old old p)
-  start_known None served = tt
-  start_known (Some x) served = served_none may old p x served
-
+module _ (loaded : List Batch) (may : ℕ → Bool) (old new : Option (List ℕ)) (a b : ℕ) (p : Progress) where
   -- whole rounds
-  pub rounds_known : (a b : Option (List ℕ)) → Known a b (ServedUpto may old new p) → IfSome a (ServesRounds may old new)
-  rounds_known None b upto = tt
+  pub rounds_known : (x y : Option (List ℕ)) → Known x y (ServedUpto loaded may old new a b p) → IfSome x (ServesRounds may (λ l. l ≡ loaded) (HoldsAs p) (RoseBy a b) old new)
+  rounds_known None y upto = tt
   rounds_known (Some x) None upto = absurd upto
-  rounds_known (Some x) (Some y) upto = served_rounds may old new p x y upto
+  rounds_known (Some x) (Some y) upto = served_rounds loaded may old new a b p x y upto
 
-  pub front_known : (a b : Option (List ℕ)) → Known a b (ServedUpto may old new p) → IfSome a (ServesFront may old new)
-  front_known None b upto = tt
+  pub front_known : (x y : Option (List ℕ)) → Known x y (ServedUpto loaded may old new a b p) → IfSome x (ServesFront may (λ l. l ≡ loaded) (HoldsAs p) (RoseBy a b) old new)
+  front_known None y upto = tt
   front_known (Some x) None upto = absurd upto
-  front_known (Some x) (Some y) upto = front_of_rounds may old new p x y upto
+  front_known (Some x) (Some y) upto = front_of_rounds loaded may old new a b p x y upto
+
+-- before the first round
+start_known : (may : ℕ → Bool) (held : Option (List ℕ)) (n : ℕ) (p : Progress) (x : Option (List ℕ)) → IsAtStart p → Known x (prepend_known [] x) (ServedUpto p.batches may held held n n p)
+start_known may held n p None start = tt
+start_known may held n p (Some x) start = served_none may held n p x start.none (start.served may)
 
 -- nothing was taken yet
 pub advances_none : (a : Option (List ℕ)) → Advances a (prepend_known [] a) 0 0
@@ -78,10 +79,6 @@ taken_known (Some x) (Some y) n m advances below =
     let parts = ap length advances.consumed in
     omega (arith, parts, length-append advances.bytes y, advances.counted, below)
 
--- nothing was printed
-pub nothing_known : (may : ℕ → Bool) (held a : Option (List ℕ)) → IfSome a (ServesFront may held held)
-nothing_known may held a = front_known may held held _ a (prepend_known [] a) (start_known may held held _ a (served_at_first [] may refl))
-
 -- the count of lines stays small
 pub counted_on : (lines few now before after : ℕ) → lines ≤ 256 * before → few ≤ 256 → before < after → now ≡ lines + few → now ≤ 256 * after
 counted_on lines few now before after counted small forward is = omega (arith, counted, small, forward, is)
@@ -93,18 +90,17 @@ too_much_is input.TooMuch why is same = refl
 too_much_is input.Memory why is same = cc
 
 -- the start of the loop
-pub record Begun (may : ℕ → Bool) (held : Option (List ℕ)) (p : Progress) (reader : Held) (a : Option (List ℕ)) : Type 0 where
-  pub upto : Known a (prepend_known reader.bytes a) (ServedUpto may held held p)
+pub record Begun (may : ℕ → Bool) (held : Option (List ℕ)) (n : ℕ) (p : Progress) (reader : Held) (a : Option (List ℕ)) : Type 0 where
+  pub upto : Known a (prepend_known reader.bytes a) (ServedUpto p.batches may held held n n p)
   pub advances : Advances a (prepend_known reader.bytes a) 0 reader.consumed
   pub counted : p.lines ≤ 256 * reader.consumed
   pub bounded : IsBounded reader
 
-pub begun : (may : ℕ → Bool) (held : Option (List ℕ)) (p : Progress) (reader : Held) (a : Option (List ℕ)) → reader ≡ record { bytes = []; consumed = 0 } → IsServed [] may [] [] p
-    → p ≡ record { batches = []; lines = 0; kept = 0; doubt = None } → Begun may held p reader a
-begun may held p reader a new served empty = subst (λ (r : Held). Begun may held p r a) (sym new) (record {
-  upto = start_known may held held p a served;
+pub begun : (may : ℕ → Bool) (held : Option (List ℕ)) (n : ℕ) (p : Progress) (reader : Held) (a : Option (List ℕ)) → reader ≡ record { bytes = []; consumed = 0 } → IsAtStart p → Begun may held n p reader a
+begun may held n p reader a new start = subst (λ (r : Held). Begun may held n p r a) (sym new) (record {
+  upto = start_known may held n p a start;
   advances = advances_none a;
-  counted = omega (arith, ap (λ (q : Progress). q.lines) empty);
+  counted = omega (arith, start.none);
   bounded = record { buffered = omega arith; taken = omega arith };
 })
 

@@ -1,3 +1,8 @@
 pub mod Printed
+pub mod Counted
+pub mod Settled
 pub mod Served
 pub mod Known
+pub mod Weaker
+pub mod Complete
+pub mod Shelved

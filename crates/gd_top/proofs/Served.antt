@@ -1,13 +1,16 @@
 -- How what is printed for the lines of rounds becomes what is printed for an input.
-use Rattle.std.proofs.Common.{◌≡◌, ℕ, zero, suc, ◌+◌, ◌<◌, ◌≤◌, Bool, true, false, List, [], ◌∷◌, ◌++◌, length, take, drop, Option, Some, slice_get, refl, sym, subst, ap, ◌∙◌, arith, append-nil, append_assoc, take_all, get_or, if◌then◌else◌, nat_lt, lt-ltb, filter}
+use Rattle.std.proofs.Common.{◌≡◌, ℕ, zero, suc, ◌+◌, ◌<◌, ◌≤◌, Bool, true, false, List, [], ◌∷◌, ◌++◌, length, take, drop, Option, Some, slice_get, refl, sym, subst, ap, ◌∙◌, arith, append-nil, append_assoc, zero-add, length-append, take_all, get_or, if◌then◌else◌, nat_lt, lt-ltb, filter}
 use Rattle.std.specs.Prelude.{◌==◌}
 use Rattle.std.proofs.KnownBytes.{Appends-trans, Appends-nil, Appends-kept}
 use Rattle.std.proofs.lemmas.Bool.Decides.{nat_tests}
 use Rattle.std.proofs.lemmas.List.Elements.{filter-append}
 use Rattle.std.proofs.lemmas.Option.{slice_get-get_or}
 use Rattle.std.specs.Io.KnownBytes.{Appends, Keeps}
+use Rattle.gd_base.specs.Counts.{Rose}
+use Rattle.gd_prim.specs.declared.Batch.{Batch}
+use Rattle.gd_runs.specs.Legal.{History}
 use Rattle.gd_runs.specs.Built.{is_built}
-use Rattle.gd_runs.specs.Explained.{Numbered, pieces, numbered, lines_of, max_round, memory_line, IsExplainedBy}
+use Rattle.gd_runs.specs.Explained.{Numbered, Run, pieces, numbered, lines_of, lines_within, max_round, memory_line, IsExplainedBy, tells_fault, fault_count}
 use Rattle.gd_runs.proofs.Rounds.{no_some}
 use Rattle.gd_input.specs.declared.line.RoundLine.{RoundLine}
 use Rattle.gd_input.specs.declared.round.Round.{Round}
@@ -16,7 +19,10 @@ use Rattle.gd_input.specs.Rounds.{AreKept, in_round, TakesRound}
 use Rattle.gd_serving.specs.Served.{Progress, IsServed, AreUpto, GoesOn}
 use Rattle.gd_serving.proofs.Steps.{next}
 use Rattle.gd_serving.proofs.Going.{goes_nowhere, goes_without_memory, goes_further, upto_more, after, memory_lines, goes_unanswered}
-use Rattle.gd_top.specs.Serves.{Serves, ServesFront, ServesRounds, GainsFront, Answers, AnswersFront, ServedUpto}
+use Rattle.gd_top.specs.Held.{HoldsAs, RoseBy, SameStore}
+use Rattle.gd_top.specs.Serves.{printed, Accounts, Serves, ServesFront, ServesRounds, GainsFront, Answers, AnswersFront, ServedUpto}
+use Rattle.gd_top.proofs.Counted.{rose_none, rose_then, rose_later, rose_once, printed-append, printed-one, fault_count-append, memory_replies, memory_printed, memory_count, memory_many, same_store, same_after, same_then}
+use Rattle.gd_top.proofs.Settled.{holds_as, holds_same}
 
 -- ---- lines of a round
 
@@ -44,43 +50,87 @@ plus_one : (i : ℕ) → i + 1 ≡ suc i
 plus_one i = omega arith
 
 -- no line was answered yet
-pub no_lines : (may : ℕ → Bool) (p : Progress) (held : Option (List ℕ)) (texts : List (List ℕ)) → Answers may p p (take 0 texts) held held
-no_lines may p held texts = record { output = []; goes = goes_nowhere may p; gained = Appends-nil held }
+pub no_lines : (may : ℕ → Bool) (p : Progress) (held : Option (List ℕ)) (n : ℕ) (texts : List (List ℕ)) → Answers may p p (take 0 texts) held held n n
+no_lines may p held n texts = record { replies = []; many = omega arith; goes = goes_nowhere may p; gained = Appends-nil held; rose = rose_none n n (omega arith) }
 
--- one line more was
-pub one_more : (may now : ℕ → Bool) (p q r : Progress) (ls : List RoundLine) (texts : List (List ℕ)) (i : ℕ) (l : RoundLine) (old mid new : Option (List ℕ)) → AreKept ls texts → slice_get ls i ≡ Some l → now ≡ may
-    → Answers may p q (take i texts) old mid → ((bytes : List ℕ) → IsKept 262_144 l bytes → Answers now q r (bytes ∷ []) mid new) → Answers may p r (take (i + 1) texts) old new
-one_more may now p q r ls texts i l old mid new kept is same before answers =
-    let here = at ls texts i l kept is in
-    let line = subst (λ (m : ℕ → Bool). Answers m q r (here.text ∷ []) mid new) same (answers here.text here.kept) in
+-- lines and then others
+then_lines : (may : ℕ → Bool) (p q r : Progress) (xs ys : List (List ℕ)) (old mid new : Option (List ℕ)) (a b c : ℕ) → Answers may p q xs old mid a b → Answers may q r ys mid new b c → Answers may p r (xs ++ ys) old new a c
+then_lines may p q r xs ys old mid new a b c first second =
+    let both = printed-append first.replies second.replies in
+    let counts : fault_count p.lines (first.replies ++ second.replies) ≡ fault_count p.lines first.replies + fault_count q.lines second.replies =
+    fault_count-append p.lines first.replies second.replies ∙ ap (λ (k : ℕ). fault_count p.lines first.replies + fault_count k second.replies) (sym first.many) in
     record {
-      output = before.output ++ line.output;
-      goes = subst (λ (xs : List (List ℕ)). GoesOn may p r xs (before.output ++ line.output)) (sym (ap (λ (n : ℕ). take n texts) (plus_one i) ∙ here.upto))
-          (goes_further may p q r (take i texts) (here.text ∷ []) before.output line.output before.goes line.goes);
-      gained = Appends-trans old mid new before.output line.output before.gained line.gained;
+      replies = first.replies ++ second.replies;
+      many = omega (arith, first.many, second.many, length-append first.replies second.replies);
+      goes = subst (λ (out : List ℕ). GoesOn may p r (xs ++ ys) out) (sym both) (goes_further may p q r xs ys (printed first.replies) (printed second.replies) first.goes second.goes);
+      gained = subst (λ (out : List ℕ). Appends old new out) (sym both) (Appends-trans old mid new (printed first.replies) (printed second.replies) first.gained second.gained);
+      rose = subst (λ (n : ℕ). RoseBy a c n) (sym counts) (rose_then a b c (fault_count p.lines first.replies) (fault_count q.lines second.replies) first.rose second.rose);
     }
+
+-- lines, and then a front of others
+then_front : (may : ℕ → Bool) (p q r : Progress) (xs ys : List (List ℕ)) (old mid new : Option (List ℕ)) (a b c : ℕ) → Answers may p q xs old mid a b → AnswersFront may q r ys mid new b c → AnswersFront may p r (xs ++ ys) old new a c
+then_front may p q r xs ys old mid new a b c first second =
+    let both : (printed first.replies ++ second.output) ++ second.rest ≡ printed (first.replies ++ second.replies) =
+    append_assoc (printed first.replies) second.output second.rest ∙ (ap (λ (out : List ℕ). printed first.replies ++ out) second.whole ∙ sym (printed-append first.replies second.replies)) in
+    let counts : fault_count p.lines (first.replies ++ second.replies) ≡ fault_count p.lines first.replies + fault_count q.lines second.replies =
+    fault_count-append p.lines first.replies second.replies ∙ ap (λ (k : ℕ). fault_count p.lines first.replies + fault_count k second.replies) (sym first.many) in
+    record {
+      output = printed first.replies ++ second.output;
+      rest = second.rest;
+      last = second.last;
+      replies = first.replies ++ second.replies;
+      whole = both;
+      many = omega (arith, first.many, second.many, length-append first.replies second.replies);
+      same = second.same;
+      goes = subst (λ (out : List ℕ). GoesOn may p second.last (xs ++ ys) out) (sym (append_assoc (printed first.replies) second.output second.rest))
+          (goes_further may p q second.last xs ys (printed first.replies) (second.output ++ second.rest) first.goes second.goes);
+      gained = Appends-trans old mid new (printed first.replies) second.output first.gained second.gained;
+      rose = subst (λ (n : ℕ). RoseBy a c n) (sym counts) (rose_then a b c (fault_count p.lines first.replies) (fault_count q.lines second.replies) first.rose second.rose);
+    }
+
+-- a front of lines, and others that are not answered
+front_then : (may : ℕ → Bool) (p q : Progress) (xs ys : List (List ℕ)) (old new : Option (List ℕ)) (a b : ℕ) → AnswersFront may p q xs old new a b → AnswersFront may p q (xs ++ ys) old new a b
+front_then may p q xs ys old new a b front =
+    let last = front.last in
+    let more = memory_replies last.lines ys in
+    let out = printed front.replies in
+    let both : front.output ++ (front.rest ++ memory_lines last.lines ys) ≡ printed (front.replies ++ more) =
+    sym (append_assoc front.output front.rest (memory_lines last.lines ys)) ∙ (ap (λ (o : List ℕ). o ++ memory_lines last.lines ys) front.whole
+    ∙ (ap (λ (o : List ℕ). out ++ o) (sym (memory_printed last.lines ys)) ∙ sym (printed-append front.replies more))) in
+    let counts : fault_count p.lines (front.replies ++ more) ≡ fault_count p.lines front.replies =
+    fault_count-append p.lines front.replies more ∙ (ap (λ (k : ℕ). fault_count p.lines front.replies + fault_count k more) (sym front.many)
+    ∙ (ap (λ (n : ℕ). fault_count p.lines front.replies + n) (memory_count last.lines ys) ∙ omega arith)) in
+    record {
+      output = front.output;
+      rest = front.rest ++ memory_lines last.lines ys;
+      last = after last ys;
+      replies = front.replies ++ more;
+      whole = both;
+      many = omega (arith, front.many, memory_many last ys, length-append front.replies more);
+      same = same_then q last (after last ys) front.same (same_after last ys);
+      goes = subst (λ (o : List ℕ). GoesOn may p (after last ys) (xs ++ ys) o) (append_assoc front.output front.rest (memory_lines last.lines ys))
+          (goes_further may p last (after last ys) xs ys (front.output ++ front.rest) (memory_lines last.lines ys) front.goes (goes_unanswered may last ys));
+      gained = front.gained;
+      rose = subst (λ (n : ℕ). RoseBy a b n) (sym counts) front.rose;
+    }
+
+-- one line more was answered
+pub one_more : (may now : ℕ → Bool) (p q r : Progress) (ls : List RoundLine) (texts : List (List ℕ)) (i : ℕ) (l : RoundLine) (old mid new : Option (List ℕ)) (a b c : ℕ) → AreKept ls texts → slice_get ls i ≡ Some l → now ≡ may
+    → Answers may p q (take i texts) old mid a b → ((bytes : List ℕ) → IsKept 262_144 l bytes → Answers now q r (bytes ∷ []) mid new b c) → Answers may p r (take (i + 1) texts) old new a c
+one_more may now p q r ls texts i l old mid new a b c kept is same before answers =
+    let here = at ls texts i l kept is in
+    let line = subst (λ (m : ℕ → Bool). Answers m q r (here.text ∷ []) mid new b c) same (answers here.text here.kept) in
+    subst (λ (xs : List (List ℕ)). Answers may p r xs old new a c) (sym (ap (λ (n : ℕ). take n texts) (plus_one i) ∙ here.upto))
+    (then_lines may p q r (take i texts) (here.text ∷ []) old mid new a b c before line)
 
 -- a line was not answered in full, and those after it were not
-pub stopped_at : (may now : ℕ → Bool) (p q : Progress) (ls : List RoundLine) (texts : List (List ℕ)) (i : ℕ) (l : RoundLine) (old mid new : Option (List ℕ)) → AreKept ls texts → slice_get ls i ≡ Some l → now ≡ may
-    → Answers may p q (take i texts) old mid → ((bytes : List ℕ) → IsKept 262_144 l bytes → AnswersFront now q (bytes ∷ []) mid new) → AnswersFront may p texts old new
-stopped_at may now p q ls texts i l old mid new kept is this before front =
+pub stopped_at : (may now : ℕ → Bool) (p q r : Progress) (ls : List RoundLine) (texts : List (List ℕ)) (i : ℕ) (l : RoundLine) (old mid new : Option (List ℕ)) (a b c : ℕ) → AreKept ls texts → slice_get ls i ≡ Some l → now ≡ may
+    → Answers may p q (take i texts) old mid a b → ((bytes : List ℕ) → IsKept 262_144 l bytes → AnswersFront now q r (bytes ∷ []) mid new b c) → AnswersFront may p r texts old new a c
+stopped_at may now p q r ls texts i l old mid new a b c kept is this before front =
     let here = at ls texts i l kept is in
-    let line = subst (λ (m : ℕ → Bool). AnswersFront m q (here.text ∷ []) mid new) this (front here.text here.kept) in
-    let later = drop (suc i) texts in
-    let unanswered = memory_lines line.after.lines later in
-    let last = after line.after later in
-    let on = goes_further may q line.after last (here.text ∷ []) later (line.output ++ line.rest) unanswered line.goes (goes_unanswered may line.after later) in
-    let all = goes_further may p q last (take i texts) (here.text ∷ later) before.output ((line.output ++ line.rest) ++ unanswered) before.goes on in
-    let same : before.output ++ ((line.output ++ line.rest) ++ unanswered) ≡ (before.output ++ line.output) ++ (line.rest ++ unanswered) =
-    ap (λ (xs : List ℕ). before.output ++ xs) (append_assoc line.output line.rest unanswered) ∙ sym (append_assoc before.output line.output (line.rest ++ unanswered)) in
-    record {
-      output = before.output ++ line.output;
-      rest = line.rest ++ unanswered;
-      after = last;
-      goes = subst (λ (xs : List (List ℕ)). GoesOn may p last xs ((before.output ++ line.output) ++ (line.rest ++ unanswered))) (sym here.parts)
-          (subst (λ (out : List ℕ). GoesOn may p last (take i texts ++ here.text ∷ later) out) same all);
-      gained = Appends-trans old mid new before.output line.output before.gained line.gained;
-    }
+    let line = subst (λ (m : ℕ → Bool). AnswersFront m q r (here.text ∷ []) mid new b c) this (front here.text here.kept) in
+    subst (λ (xs : List (List ℕ)). AnswersFront may p r xs old new a c) (sym here.parts)
+    (then_front may p q r (take i texts) (here.text ∷ drop (suc i) texts) old mid new a b c before (front_then may q r (here.text ∷ []) (drop (suc i) texts) mid new b c line))
 
 -- all were
 same_count : (ls : List RoundLine) (texts : List (List ℕ)) → AreKept ls texts → length texts ≡ length ls
@@ -89,42 +139,89 @@ same_count [] (t ∷ ts) kept = absurd kept
 same_count (l ∷ ls) [] kept = absurd kept
 same_count (l ∷ ls) (t ∷ ts) (here, later) = ap suc (same_count ls ts later)
 
-pub all_lines : (may : ℕ → Bool) (p q : Progress) (ls : List RoundLine) (texts : List (List ℕ)) (i : ℕ) (old new : Option (List ℕ)) → AreKept ls texts → length ls ≤ i
-    → Answers may p q (take i texts) old new → Answers may p q texts old new
-all_lines may p q ls texts i old new kept long answers =
+pub all_lines : (may : ℕ → Bool) (p q : Progress) (ls : List RoundLine) (texts : List (List ℕ)) (i : ℕ) (old new : Option (List ℕ)) (a b : ℕ) → AreKept ls texts → length ls ≤ i
+    → Answers may p q (take i texts) old new a b → Answers may p q texts old new a b
+all_lines may p q ls texts i old new a b kept long answers =
     let count = same_count ls texts kept in
-    subst (λ (xs : List (List ℕ)). Answers may p q xs old new) (take_all i texts (omega (arith, count, long))) answers
+    subst (λ (xs : List (List ℕ)). Answers may p q xs old new a b) (take_all i texts (omega (arith, count, long))) answers
+
+-- a line that was answered and printed
+pub line_all : (may : ℕ → Bool) (p q : Progress) (bytes reply : List ℕ) (old new : Option (List ℕ)) (a b : ℕ) → GoesOn may p q (bytes ∷ []) (reply ++ 10 ∷ []) → q.lines ≡ p.lines + 1
+    → (tells_fault p.lines reply ≡ true → Rose a b) → a ≤ b → Appends old new (reply ++ 10 ∷ []) → Answers may p q (bytes ∷ []) old new a b
+line_all may p q bytes reply old new a b goes many cause later gained = record {
+  replies = reply ∷ [];
+  many = many;
+  goes = subst (λ (out : List ℕ). GoesOn may p q (bytes ∷ []) out) (sym (printed-one reply)) goes;
+  gained = subst (λ (out : List ℕ). Appends old new out) (sym (printed-one reply)) gained;
+  rose = rose_once (tells_fault p.lines reply) a b cause later;
+}
 
 -- a line that was answered and not printed in full
-pub line_front : (may : ℕ → Bool) (p q : Progress) (bytes reply : List ℕ) (old new : Option (List ℕ)) → GoesOn may p q (bytes ∷ []) (reply ++ 10 ∷ []) → GainsFront old new (reply ++ 10 ∷ [])
-    → AnswersFront may p (bytes ∷ []) old new
-line_front may p q bytes reply old new goes front = record {
+pub line_front : (may : ℕ → Bool) (p q : Progress) (bytes reply : List ℕ) (old new : Option (List ℕ)) (a b : ℕ) → GoesOn may p q (bytes ∷ []) (reply ++ 10 ∷ []) → q.lines ≡ p.lines + 1
+    → (tells_fault p.lines reply ≡ true → Rose a b) → a ≤ b → GainsFront old new (reply ++ 10 ∷ []) → AnswersFront may p q (bytes ∷ []) old new a b
+line_front may p q bytes reply old new a b goes many cause later front = record {
   output = front.piece;
   rest = front.rest;
-  after = q;
+  last = q;
+  replies = reply ∷ [];
+  whole = front.parts ∙ sym (printed-one reply);
+  many = many;
+  same = same_store q;
   goes = subst (λ (out : List ℕ). GoesOn may p q (bytes ∷ []) out) (sym front.parts) goes;
   gained = front.gained;
+  rose = rose_once (tells_fault p.lines reply) a b cause later;
 }
 
 -- lines that were not answered at all
-pub none_answered : (may : ℕ → Bool) (p : Progress) (texts : List (List ℕ)) (held : Option (List ℕ)) → AnswersFront may p texts held held
-none_answered may p texts held = record { output = []; rest = memory_lines p.lines texts; after = after p texts; goes = goes_unanswered may p texts; gained = Appends-nil held }
+none_answered : (may : ℕ → Bool) (p : Progress) (texts : List (List ℕ)) (held : Option (List ℕ)) (a b : ℕ) → a ≤ b → AnswersFront may p p texts held held a b
+none_answered may p texts held a b later = record {
+  output = [];
+  rest = memory_lines p.lines texts;
+  last = after p texts;
+  replies = memory_replies p.lines texts;
+  whole = sym (memory_printed p.lines texts);
+  many = memory_many p texts;
+  same = same_after p texts;
+  goes = goes_unanswered may p texts;
+  gained = Appends-nil held;
+  rose = subst (λ (n : ℕ). RoseBy a b n) (sym (memory_count p.lines texts)) (rose_none a b later);
+}
+
+pub not_answered : (may : ℕ → Bool) (p q : Progress) (texts : List (List ℕ)) (held : Option (List ℕ)) (a b : ℕ) → q ≡ p → a ≤ b → AnswersFront may p q texts held held a b
+not_answered may p q texts held a b same later = subst (λ (r : Progress). AnswersFront may p r texts held held a b) (sym same) (none_answered may p texts held a b later)
 
 -- what was answered in full is a front too
-pub whole_front : (may : ℕ → Bool) (p q : Progress) (texts : List (List ℕ)) (old new : Option (List ℕ)) → Answers may p q texts old new → AnswersFront may p texts old new
-whole_front may p q texts old new answers = record {
-  output = answers.output;
-  rest = [];
-  after = q;
-  goes = subst (λ (out : List ℕ). GoesOn may p q texts out) (sym (append-nil answers.output)) answers.goes;
-  gained = answers.gained;
-}
+pub whole_front : (may : ℕ → Bool) (p q : Progress) (texts : List (List ℕ)) (old new : Option (List ℕ)) (a b : ℕ) → Answers may p q texts old new a b → AnswersFront may p q texts old new a b
+whole_front may p q texts old new a b answers =
+    let all = append-nil (printed answers.replies) in
+    record {
+      output = printed answers.replies;
+      rest = [];
+      last = q;
+      replies = answers.replies;
+      whole = all;
+      many = answers.many;
+      same = same_store q;
+      goes = subst (λ (out : List ℕ). GoesOn may p q texts out) (sym all) answers.goes;
+      gained = answers.gained;
+      rose = answers.rose;
+    }
 
 -- ---- whole rounds
 
 -- before the first round
-pub served_none : (may : ℕ → Bool) (held : Option (List ℕ)) (p : Progress) (input : List ℕ) → IsServed [] may [] [] p → ServedUpto may held held p input input
-served_none may held p input served = record { round = 0; given = []; output = []; lines = refl; earlier = λ k l is. no_some is; served = served; gained = Appends-nil held }
+pub served_none : (may : ℕ → Bool) (held : Option (List ℕ)) (n : ℕ) (p : Progress) (input : List ℕ) → p.lines ≡ 0 → IsServed p.batches may [] [] p → ServedUpto p.batches may held held n n p input input
+served_none may held n p input none served = record {
+  round = 0;
+  given = [];
+  replies = [];
+  lines = refl;
+  earlier = λ k l is. no_some is;
+  served = served;
+  many = none;
+  gained = Appends-nil held;
+  rose = rose_none n n (omega arith);
+}
 
 upto_of : (given : List Numbered) (round : ℕ) → ((k : ℕ) (l : Numbered) → slice_get given k ≡ Some l → l.round < round) → AreUpto given round
 upto_of given round earlier k l is = let before = earlier k l is in omega (arith, before)
@@ -134,25 +231,51 @@ earlier_more : (given : List Numbered) (round : ℕ) (texts : List (List ℕ)) �
 earlier_more given round texts earlier k l is = let upto = upto_more given round texts (upto_of given round earlier) k l is in omega (arith, upto)
 
 -- one round more
-pub served_more : (may : ℕ → Bool) (old mid new : Option (List ℕ)) (p q : Progress) (input left after : List ℕ) (taken : Round) → ServedUpto may old mid p input left → TakesRound taken left after
-    → ((texts : List (List ℕ)) → AreKept taken.lines.items texts → Answers may p q texts mid new) → ServedUpto may old new q input after
-served_more may old mid new p q input left after taken upto takes answers =
+pub served_more : (loaded : List Batch) (may : ℕ → Bool) (old mid new : Option (List ℕ)) (a b c : ℕ) (p q : Progress) (input left after : List ℕ) (taken : Round) → ServedUpto loaded may old mid a b p input left → TakesRound taken left after
+    → ((texts : List (List ℕ)) → AreKept taken.lines.items texts → Answers may p q texts mid new b c) → ServedUpto loaded may old new a c q input after
+served_more loaded may old mid new a b c p q input left after taken upto takes answers =
     let here = answers takes.lines takes.kept in
+    let both = printed-append upto.replies here.replies in
+    let counts : fault_count 0 (upto.replies ++ here.replies) ≡ fault_count 0 upto.replies + fault_count p.lines here.replies =
+    fault_count-append 0 upto.replies here.replies ∙ ap (λ (k : ℕ). fault_count 0 upto.replies + fault_count k here.replies) (zero-add (length upto.replies) ∙ sym upto.many) in
     record {
       round = upto.round + 1;
       given = upto.given ++ in_round upto.round takes.lines;
-      output = upto.output ++ here.output;
+      replies = upto.replies ++ here.replies;
       lines = upto.lines ∙ (ap (λ (ls : List Numbered). upto.given ++ ls) (takes.rounds upto.round) ∙ sym (append_assoc upto.given (in_round upto.round takes.lines) (numbered (upto.round + 1) 0 (pieces [] after))));
       earlier = earlier_more upto.given upto.round takes.lines upto.earlier;
-      served = here.goes [] upto.given upto.output upto.round upto.served (upto_of upto.given upto.round upto.earlier);
-      gained = Appends-trans old mid new upto.output here.output upto.gained here.gained;
+      served = subst (λ (out : List ℕ). IsServed loaded may (upto.given ++ in_round upto.round takes.lines) out q) (sym both)
+          (here.goes loaded upto.given (printed upto.replies) upto.round upto.served (upto_of upto.given upto.round upto.earlier));
+      many = omega (arith, upto.many, here.many, length-append upto.replies here.replies);
+      gained = subst (λ (out : List ℕ). Appends old new out) (sym both) (Appends-trans old mid new (printed upto.replies) (printed here.replies) upto.gained here.gained);
+      rose = subst (λ (n : ℕ). RoseBy a c n) (sym counts) (rose_then a b c (fault_count 0 upto.replies) (fault_count p.lines here.replies) upto.rose here.rose);
     }
 
+-- an output that a run is served with is accounted for
+accounts : (loaded : List Batch) (may : ℕ → Bool) (a b : ℕ) (p q : Progress) (given lines : List Numbered) (output : List ℕ) (replies : List (List ℕ)) → IsServed loaded may given output q → SameStore p q → lines ≡ given
+    → output ≡ printed replies → RoseBy a b (fault_count 0 replies) → Accounts may (λ l. l ≡ loaded) (HoldsAs p) (RoseBy a b) lines output
+accounts loaded may a b p q given lines output replies served same is prints rose = record {
+  loaded = loaded;
+  history = served.history;
+  runs = served.runs;
+  replies = replies;
+  begun = refl;
+  explained = subst (λ (ls : List Numbered). IsExplainedBy is_built loaded may ls output served.history served.runs) (sym is) served.explained;
+  left = holds_same p q served.history served.runs same (holds_as loaded may given output q served);
+  lines = prints;
+  counted = rose;
+}
+
 -- at the end of the input
-pub served_all : (may : ℕ → Bool) (old new : Option (List ℕ)) (p : Progress) (input left : List ℕ) → ServedUpto may old new p input left → left ≡ [] → Serves may old new input
-served_all may old new p input left upto end =
+pub served_all : (loaded : List Batch) (may : ℕ → Bool) (old new : Option (List ℕ)) (a b : ℕ) (p : Progress) (input left : List ℕ) → ServedUpto loaded may old new a b p input left → left ≡ []
+    → Serves may (λ l. l ≡ loaded) (HoldsAs p) (RoseBy a b) old new input
+served_all loaded may old new a b p input left upto end =
     let lines : lines_of input ≡ upto.given = upto.lines ∙ (ap (λ (bytes : List ℕ). upto.given ++ numbered upto.round 0 (pieces [] bytes)) end ∙ append-nil upto.given) in
-    (upto.output, upto.served.history, (upto.served.runs, subst (λ (ls : List Numbered). IsExplainedBy is_built [] may ls upto.output upto.served.history upto.served.runs) (sym lines) upto.served.explained), upto.gained)
+    record {
+      output = printed upto.replies;
+      accounts = accounts loaded may a b p p upto.given (lines_of input) (printed upto.replies) upto.replies upto.served (same_store p) lines refl upto.rose;
+      gained = upto.gained;
+    }
 
 -- ---- the first rounds of an input
 
@@ -174,97 +297,128 @@ kept_none ((c ∷ cs) ∷ ps) rounds round k late = rw (not_within round rounds 
     either false next this = this
 
 -- the rounds that were answered
-pub served_rounds : (may : ℕ → Bool) (old new : Option (List ℕ)) (p : Progress) (input left : List ℕ) → ServedUpto may old new p input left → ServesRounds may old new input
-served_rounds may old new p input left upto =
-    let lines : filter (λ (l : Numbered). nat_lt l.round upto.round) (lines_of input) ≡ upto.given =
+pub served_rounds : (loaded : List Batch) (may : ℕ → Bool) (old new : Option (List ℕ)) (a b : ℕ) (p : Progress) (input left : List ℕ) → ServedUpto loaded may old new a b p input left
+    → ServesRounds may (λ l. l ≡ loaded) (HoldsAs p) (RoseBy a b) old new input
+served_rounds loaded may old new a b p input left upto =
+    let lines : lines_within upto.round input ≡ upto.given =
     ap (filter (λ (l : Numbered). nat_lt l.round upto.round)) upto.lines
     ∙ (filter-append (λ (l : Numbered). nat_lt l.round upto.round) upto.given (numbered upto.round 0 (pieces [] left))
     ∙ (ap (λ (xs : List Numbered). xs ++ filter (λ (l : Numbered). nat_lt l.round upto.round) (numbered upto.round 0 (pieces [] left))) (kept_all upto.given upto.round upto.earlier)
     ∙ (ap (λ (xs : List Numbered). upto.given ++ xs) (kept_none (pieces [] left) upto.round upto.round 0 (omega arith)) ∙ append-nil upto.given))) in
-    (upto.round, upto.output, upto.served.history, (upto.served.runs, subst (λ (ls : List Numbered). IsExplainedBy is_built [] may ls upto.output upto.served.history upto.served.runs) (sym lines) upto.served.explained), upto.gained)
+    record {
+      rounds = upto.round;
+      output = printed upto.replies;
+      accounts = accounts loaded may a b p p upto.given (lines_within upto.round input) (printed upto.replies) upto.replies upto.served (same_store p) lines refl upto.rose;
+      gained = upto.gained;
+    }
 
 -- ---- fronts
 
--- a run that is served, and what would be printed for lines that are not answered
-record Unanswered (may : ℕ → Bool) (given : List Numbered) (output : List ℕ) (more : List Numbered) : Type 0 where
-  rest : List ℕ
-  after : Progress
-  served : IsServed [] may (given ++ more) (output ++ rest) after
+-- A run that could go on with these lines, whose replies tell no fault, and with the same store.
+record Unanswered (loaded : List Batch) (may : ℕ → Bool) (given : List Numbered) (output : List ℕ) (p : Progress) (more : List Numbered) : Type 0 where
+  pub replies : List (List ℕ)
+  pub last : Progress
+  pub same : SameStore p last
+  pub served : IsServed loaded may (given ++ more) (output ++ printed replies) last
+  pub quiet : fault_count p.lines replies ≡ 0
 
-later_upto : (given : List Numbered) (m n : ℕ) → m ≤ n → AreUpto given m → AreUpto given n
-later_upto given m n below upto k l is = let here = upto k l is in omega (arith, here, below)
-
-none_more : (may : ℕ → Bool) (given : List Numbered) (output : List ℕ) (p : Progress) → IsServed [] may given output p → Unanswered may given output []
-none_more may given output p served = record {
-  rest = [];
-  after = p;
-  served = subst (λ (ls : List Numbered). IsServed [] may ls (output ++ []) p) (sym (append-nil given)) (subst (λ (out : List ℕ). IsServed [] may given out p) (sym (append-nil output)) served);
+none_more : (loaded : List Batch) (may : ℕ → Bool) (given : List Numbered) (output : List ℕ) (p : Progress) → IsServed loaded may given output p → Unanswered loaded may given output p []
+none_more loaded may given output p served = record {
+  replies = [];
+  last = p;
+  same = same_store p;
+  served = subst (λ (ls : List Numbered). IsServed loaded may ls (output ++ []) p) (sym (append-nil given)) (subst (λ (out : List ℕ). IsServed loaded may given out p) (sym (append-nil output)) served);
+  quiet = refl;
 }
 
-with_line : (may : ℕ → Bool) (given : List Numbered) (output line : List ℕ) (l : Numbered) (more : List Numbered) → Unanswered may (given ++ l ∷ []) (output ++ line) more → Unanswered may given output (l ∷ more)
-with_line may given output line l more u = record {
-  rest = line ++ u.rest;
-  after = u.after;
-  served = subst (λ (ls : List Numbered). IsServed [] may ls (output ++ (line ++ u.rest)) u.after) (append_assoc given (l ∷ []) more)
-      (subst (λ (out : List ℕ). IsServed [] may ((given ++ l ∷ []) ++ more) out u.after) (append_assoc output line u.rest) u.served);
+with_line : (loaded : List Batch) (may : ℕ → Bool) (given : List Numbered) (output : List ℕ) (p : Progress) (l : Numbered) (more : List Numbered) → Unanswered loaded may (given ++ l ∷ []) (output ++ (memory_line p.lines ++ 10 ∷ [])) (next p) more
+    → Unanswered loaded may given output p (l ∷ more)
+with_line loaded may given output p l more u = record {
+  replies = memory_line p.lines ∷ u.replies;
+  last = u.last;
+  same = record { stored = u.same.stored; doubted = u.same.doubted };
+  served = subst (λ (ls : List Numbered). IsServed loaded may ls (output ++ ((memory_line p.lines ++ 10 ∷ []) ++ printed u.replies)) u.last) (append_assoc given (l ∷ []) more)
+      (subst (λ (out : List ℕ). IsServed loaded may ((given ++ l ∷ []) ++ more) out u.last) (append_assoc output (memory_line p.lines ++ 10 ∷ []) (printed u.replies)) u.served);
+  quiet = zero-add (fault_count (p.lines + 1) u.replies) ∙ u.quiet;
 }
 
-either : (may : ℕ → Bool) (given : List Numbered) (output : List ℕ) (xs ys : List Numbered) (b : Bool) → Unanswered may given output xs → Unanswered may given output ys → Unanswered may given output (if b then xs else ys)
-either may given output xs ys true x y = x
-either may given output xs ys false x y = y
+either_more : (loaded : List Batch) (may : ℕ → Bool) (given : List Numbered) (output : List ℕ) (p : Progress) (xs ys : List Numbered) (b : Bool) → Unanswered loaded may given output p xs → Unanswered loaded may given output p ys
+    → Unanswered loaded may given output p (if b then xs else ys)
+either_more loaded may given output p xs ys true x y = x
+either_more loaded may given output p xs ys false x y = y
 
-unanswered : (ps : List (List ℕ)) (may : ℕ → Bool) (given : List Numbered) (output : List ℕ) (p : Progress) (round k : ℕ) → IsServed [] may given output p → AreUpto given round
-    → Unanswered may given output (numbered round k ps)
-unanswered [] may given output p round k served upto = none_more may given output p served
-unanswered ([] ∷ ps) may given output p round k served upto = unanswered ps may given output p (round + 1) 0 served (later_upto given round (round + 1) (omega arith) upto)
-unanswered ((c ∷ cs) ∷ ps) may given output p round k served upto =
+later_upto : (given : List Numbered) (round later : ℕ) → round ≤ later → AreUpto given round → AreUpto given later
+later_upto given round later after upto k l is = let before = upto k l is in omega (arith, before, after)
+
+unanswered : (ps : List (List ℕ)) (loaded : List Batch) (may : ℕ → Bool) (given : List Numbered) (output : List ℕ) (p : Progress) (round k : ℕ) → IsServed loaded may given output p → AreUpto given round
+    → Unanswered loaded may given output p (numbered round k ps)
+unanswered [] loaded may given output p round k served upto = none_more loaded may given output p served
+unanswered ([] ∷ ps) loaded may given output p round k served upto = unanswered ps loaded may given output p (round + 1) 0 served (later_upto given round (round + 1) (omega arith) upto)
+unanswered ((c ∷ cs) ∷ ps) loaded may given output p round k served upto =
     let l : Numbered = record { bytes = c ∷ cs; round = round } in
     let line = memory_line p.lines ++ 10 ∷ [] in
-    let more = goes_without_memory may p (c ∷ cs) [] given output round served upto in
+    let more = goes_without_memory may p (c ∷ cs) loaded given output round served upto in
     let here = upto_more given round ((c ∷ cs) ∷ []) upto in
-    with_line may given output line l _ (either may (given ++ l ∷ []) (output ++ line) (numbered (round + 1) 0 ps) (numbered round (k + 1) ps) (k + 1 == max_round)
-    (unanswered ps may (given ++ l ∷ []) (output ++ line) (next p) (round + 1) 0 more (later_upto (given ++ l ∷ []) round (round + 1) (omega arith) here))
-    (unanswered ps may (given ++ l ∷ []) (output ++ line) (next p) round (k + 1) more here))
+    with_line loaded may given output p l _ (either_more loaded may (given ++ l ∷ []) (output ++ line) (next p) (numbered (round + 1) 0 ps) (numbered round (k + 1) ps) (k + 1 == max_round)
+    (unanswered ps loaded may (given ++ l ∷ []) (output ++ line) (next p) (round + 1) 0 more (later_upto (given ++ l ∷ []) round (round + 1) (omega arith) here))
+    (unanswered ps loaded may (given ++ l ∷ []) (output ++ line) (next p) round (k + 1) more here))
 
 -- a run that is served up to here, with a front of what was due for it
-front_at : (may : ℕ → Bool) (old new : Option (List ℕ)) (input left : List ℕ) (given : List Numbered) (round : ℕ) (output rest : List ℕ) (p : Progress) → lines_of input ≡ given ++ numbered round 0 (pieces [] left)
-    → AreUpto given round → IsServed [] may given (output ++ rest) p → Appends old new output → ServesFront may old new input
-front_at may old new input left given round output rest p lines upto served gained =
-    let u = unanswered (pieces [] left) may given (output ++ rest) p round 0 served upto in (
-      output,
-      u.served.history,
-      (
-        rest ++ u.rest,
-        (
-          u.served.runs,
-          subst (λ (ls : List Numbered). IsExplainedBy is_built [] may ls (output ++ (rest ++ u.rest)) u.served.history u.served.runs) (sym lines)
-              (subst (λ (out : List ℕ). IsExplainedBy is_built [] may (given ++ numbered round 0 (pieces [] left)) out u.served.history u.served.runs) (append_assoc output rest u.rest) u.served.explained),
-        ),
-      ),
-      gained,
-    )
+front_at : (loaded : List Batch) (may : ℕ → Bool) (old new : Option (List ℕ)) (a b : ℕ) (input left : List ℕ) (given : List Numbered) (round : ℕ) (output rest : List ℕ) (replies : List (List ℕ)) (p q : Progress)
+    → lines_of input ≡ given ++ numbered round 0 (pieces [] left) → AreUpto given round → IsServed loaded may given (output ++ rest) q → SameStore p q → output ++ rest ≡ printed replies → q.lines ≡ length replies
+    → RoseBy a b (fault_count 0 replies) → Appends old new output → ServesFront may (λ l. l ≡ loaded) (HoldsAs p) (RoseBy a b) old new input
+front_at loaded may old new a b input left given round output rest replies p q lines upto served same prints many rose gained =
+    let u = unanswered (pieces [] left) loaded may given (output ++ rest) q round 0 served upto in
+    let due = rest ++ printed u.replies in
+    let whole : output ++ due ≡ printed (replies ++ u.replies) =
+    sym (append_assoc output rest (printed u.replies)) ∙ (ap (λ (o : List ℕ). o ++ printed u.replies) prints ∙ sym (printed-append replies u.replies)) in
+    let counts : fault_count 0 (replies ++ u.replies) ≡ fault_count 0 replies =
+    fault_count-append 0 replies u.replies ∙ (ap (λ (k : ℕ). fault_count 0 replies + fault_count k u.replies) (zero-add (length replies) ∙ sym many) ∙ (ap (λ (n : ℕ). fault_count 0 replies + n) u.quiet ∙ omega arith)) in
+    record {
+      output = output;
+      rest = due;
+      accounts = accounts loaded may a b p u.last (given ++ numbered round 0 (pieces [] left)) (lines_of input) (output ++ due) (replies ++ u.replies)
+          (subst (λ (out : List ℕ). IsServed loaded may (given ++ numbered round 0 (pieces [] left)) out u.last) (append_assoc output rest (printed u.replies)) u.served)
+          (same_then p q u.last same u.same) lines whole (subst (λ (n : ℕ). RoseBy a b n) (sym counts) rose);
+      gained = gained;
+    }
 
 -- whole rounds and nothing of the next one
-pub front_of_rounds : (may : ℕ → Bool) (old new : Option (List ℕ)) (p : Progress) (input left : List ℕ) → ServedUpto may old new p input left → ServesFront may old new input
-front_of_rounds may old new p input left upto =
-    front_at may old new input left upto.given upto.round upto.output [] p upto.lines (upto_of upto.given upto.round upto.earlier)
-    (subst (λ (out : List ℕ). IsServed [] may upto.given out p) (sym (append-nil upto.output)) upto.served) upto.gained
+pub front_of_rounds : (loaded : List Batch) (may : ℕ → Bool) (old new : Option (List ℕ)) (a b : ℕ) (p : Progress) (input left : List ℕ) → ServedUpto loaded may old new a b p input left
+    → ServesFront may (λ l. l ≡ loaded) (HoldsAs p) (RoseBy a b) old new input
+front_of_rounds loaded may old new a b p input left upto =
+    let all = append-nil (printed upto.replies) in
+    front_at loaded may old new a b input left upto.given upto.round (printed upto.replies) [] upto.replies p p upto.lines (upto_of upto.given upto.round upto.earlier)
+    (subst (λ (out : List ℕ). IsServed loaded may upto.given out p) (sym all) upto.served) (same_store p) all upto.many upto.rose upto.gained
 
 -- whole rounds and a part of the next one
-pub front_in_round : (may : ℕ → Bool) (old mid new : Option (List ℕ)) (p : Progress) (input left after : List ℕ) (taken : Round) → ServedUpto may old mid p input left → TakesRound taken left after
-    → ((texts : List (List ℕ)) → AreKept taken.lines.items texts → AnswersFront may p texts mid new) → ServesFront may old new input
-front_in_round may old mid new p input left after taken upto takes fronts =
+pub front_in_round : (loaded : List Batch) (may : ℕ → Bool) (old mid new : Option (List ℕ)) (a b c : ℕ) (p q : Progress) (input left after : List ℕ) (taken : Round) → ServedUpto loaded may old mid a b p input left → TakesRound taken left after
+    → ((texts : List (List ℕ)) → AreKept taken.lines.items texts → AnswersFront may p q texts mid new b c) → ServesFront may (λ l. l ≡ loaded) (HoldsAs q) (RoseBy a c) old new input
+front_in_round loaded may old mid new a b c p q input left after taken upto takes fronts =
     let here = fronts takes.lines takes.kept in
     let upto_here = upto_of upto.given upto.round upto.earlier in
-    front_at may old new input after (upto.given ++ in_round upto.round takes.lines) (upto.round + 1) (upto.output ++ here.output) here.rest here.after
+    let first = printed upto.replies in
+    let whole : (first ++ here.output) ++ here.rest ≡ printed (upto.replies ++ here.replies) =
+    append_assoc first here.output here.rest ∙ (ap (λ (o : List ℕ). first ++ o) here.whole ∙ sym (printed-append upto.replies here.replies)) in
+    let counts : fault_count 0 (upto.replies ++ here.replies) ≡ fault_count 0 upto.replies + fault_count p.lines here.replies =
+    fault_count-append 0 upto.replies here.replies ∙ ap (λ (k : ℕ). fault_count 0 upto.replies + fault_count k here.replies) (zero-add (length upto.replies) ∙ sym upto.many) in
+    front_at loaded may old new a c input after (upto.given ++ in_round upto.round takes.lines) (upto.round + 1) (first ++ here.output) here.rest (upto.replies ++ here.replies) q here.last
     (upto.lines ∙ (ap (λ (ls : List Numbered). upto.given ++ ls) (takes.rounds upto.round) ∙ sym (append_assoc upto.given (in_round upto.round takes.lines) (numbered (upto.round + 1) 0 (pieces [] after)))))
     (later_upto (upto.given ++ in_round upto.round takes.lines) upto.round (upto.round + 1) (omega arith) (upto_more upto.given upto.round takes.lines upto_here))
-    (subst (λ (out : List ℕ). IsServed [] may (upto.given ++ in_round upto.round takes.lines) out here.after) (sym (append_assoc upto.output here.output here.rest)) (here.goes [] upto.given upto.output upto.round upto.served upto_here))
-    (Appends-trans old mid new upto.output here.output upto.gained here.gained)
+    (subst (λ (out : List ℕ). IsServed loaded may (upto.given ++ in_round upto.round takes.lines) out here.last) (sym (append_assoc first here.output here.rest)) (here.goes loaded upto.given first upto.round upto.served upto_here))
+    here.same whole (omega (arith, upto.many, here.many, length-append upto.replies here.replies))
+    (subst (λ (n : ℕ). RoseBy a c n) (sym counts) (rose_then a b c (fault_count 0 upto.replies) (fault_count p.lines here.replies) upto.rose here.rose))
+    (Appends-trans old mid new first here.output upto.gained here.gained)
 
 -- what was answered stays after a flush
-pub held_on : (may : ℕ → Bool) (p q : Progress) (texts : List (List ℕ)) (old mid new : Option (List ℕ)) → Answers may p q texts old mid → Keeps mid new → Answers may p q texts old new
-held_on may p q texts old mid new answers kept = record { output = answers.output; goes = answers.goes; gained = Appends-kept old mid new answers.output answers.gained kept }
+pub held_on : (may : ℕ → Bool) (p q : Progress) (texts : List (List ℕ)) (old mid new : Option (List ℕ)) (a b : ℕ) → Answers may p q texts old mid a b → Keeps mid new → Answers may p q texts old new a b
+held_on may p q texts old mid new a b answers kept = record {
+  replies = answers.replies;
+  many = answers.many;
+  goes = answers.goes;
+  gained = Appends-kept old mid new (printed answers.replies) answers.gained kept;
+  rose = answers.rose;
+}
 
 -- the element that a loop is at
 pub item_is : (ls : List RoundLine) (i : ℕ) (l : RoundLine) → i < length ls → l ≡ get_or ls i l → slice_get ls i ≡ Some l

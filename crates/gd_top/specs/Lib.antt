@@ -1,3 +1,5 @@
+pub mod Ends
+pub mod Held
 pub mod Serves
 pub mod Stops
 pub mod Words

@@ -1,22 +1,48 @@
 -- What a run prints for its input.
-use Rattle.std.specs.Prelude.{◌≡◌, ℕ, ◌<◌, List, [], ◌++◌, Bool, Option, Some, slice_get}
+use Rattle.std.specs.Prelude.{◌≡◌, ℕ, ◌+◌, ◌<◌, List, [], ◌∷◌, ◌++◌, length, flat_map, Bool, Option, Some, slice_get}
 use Rattle.std.specs.Io.KnownBytes.{Appends}
+use Rattle.gd_prim.specs.declared.Batch.{Batch}
 use Rattle.gd_runs.specs.Legal.{History}
 use Rattle.gd_runs.specs.Built.{is_built}
-use Rattle.gd_runs.specs.Explained.{Numbered, pieces, numbered, lines_of, Explains, ExplainsFront, ExplainsRounds}
+use Rattle.gd_runs.specs.Explained.{Numbered, Run, pieces, numbered, lines_of, lines_within, IsExplainedBy, fault_count}
 use Rattle.gd_serving.specs.Served.{Progress, IsServed, GoesOn}
+use Rattle.gd_top.specs.Held.{RoseBy, SameStore}
 
--- the sink gained an output for the input that a legal history explains, which begins empty, with moments that the clock may give
-abbrev pub Serves : (ℕ → Bool) → Option (List ℕ) → Option (List ℕ) → List ℕ → Type 0
-Serves may old new input = (output : List ℕ) × (h : History) × Explains is_built [] may input output h × Appends old new output
+-- replies as they are printed, each with its newline
+abbrev pub printed : List (List ℕ) → List ℕ
+printed replies = flat_map (λ reply. reply ++ 10 ∷ []) replies
+
+-- One legal history explains this output for these lines. It begins with a list that the run may begin with, its moments are such as the clock may give, the store is left by it, and the faults that the replies tell are among those that were counted.
+pub record Accounts (may : ℕ → Bool) (begins : List Batch → Type 0) (leaves : History → List Run → Type 0) (rises : ℕ → Type 0) (given : List Numbered) (output : List ℕ) : Type 0 where
+  pub loaded : List Batch
+  pub history : History
+  pub runs : List Run
+  pub replies : List (List ℕ)
+  pub begun : begins loaded
+  pub explained : IsExplainedBy is_built loaded may given output history runs
+  pub left : leaves history runs
+  pub lines : output ≡ printed replies
+  pub counted : rises (fault_count 0 replies)
+
+-- the sink gained an output for the input that a legal history explains
+pub record Serves (may : ℕ → Bool) (begins : List Batch → Type 0) (leaves : History → List Run → Type 0) (rises : ℕ → Type 0) (old new : Option (List ℕ)) (input : List ℕ) : Type 0 where
+  pub output : List ℕ
+  pub accounts : Accounts may begins leaves rises (lines_of input) output
+  pub gained : Appends old new output
 
 -- the sink gained a front of such an output
-abbrev pub ServesFront : (ℕ → Bool) → Option (List ℕ) → Option (List ℕ) → List ℕ → Type 0
-ServesFront may old new input = (output : List ℕ) × (h : History) × ExplainsFront is_built [] may input output h × Appends old new output
+pub record ServesFront (may : ℕ → Bool) (begins : List Batch → Type 0) (leaves : History → List Run → Type 0) (rises : ℕ → Type 0) (old new : Option (List ℕ)) (input : List ℕ) : Type 0 where
+  pub output : List ℕ
+  pub rest : List ℕ
+  pub accounts : Accounts may begins leaves rises (lines_of input) (output ++ rest)
+  pub gained : Appends old new output
 
 -- the sink gained such an output for the first so many rounds of the input
-abbrev pub ServesRounds : (ℕ → Bool) → Option (List ℕ) → Option (List ℕ) → List ℕ → Type 0
-ServesRounds may old new input = (rounds : ℕ) × (output : List ℕ) × (h : History) × ExplainsRounds rounds is_built [] may input output h × Appends old new output
+pub record ServesRounds (may : ℕ → Bool) (begins : List Batch → Type 0) (leaves : History → List Run → Type 0) (rises : ℕ → Type 0) (old new : Option (List ℕ)) (input : List ℕ) : Type 0 where
+  pub rounds : ℕ
+  pub output : List ℕ
+  pub accounts : Accounts may begins leaves rises (lines_within rounds input) output
+  pub gained : Appends old new output
 
 -- ---- on the way
 
@@ -27,26 +53,35 @@ pub record GainsFront (old new : Option (List ℕ)) (whole : List ℕ) : Type 0 
   pub parts : piece ++ rest ≡ whole
   pub gained : Appends old new piece
 
--- the run went on with these lines of a round, and the sink gained what was printed for them
-pub record Answers (may : ℕ → Bool) (p q : Progress) (lines : List (List ℕ)) (old new : Option (List ℕ)) : Type 0 where
-  pub output : List ℕ
-  pub goes : GoesOn may p q lines output
-  pub gained : Appends old new output
+-- The run went on with these lines of a round, the sink gained what was printed for them, and the faults that it tells were counted.
+pub record Answers (may : ℕ → Bool) (p q : Progress) (texts : List (List ℕ)) (old new : Option (List ℕ)) (before after : ℕ) : Type 0 where
+  pub replies : List (List ℕ)
+  pub many : q.lines ≡ p.lines + length replies
+  pub goes : GoesOn may p q texts (printed replies)
+  pub gained : Appends old new (printed replies)
+  pub rose : RoseBy before after (fault_count p.lines replies)
 
--- the run could go on with these lines of a round, and the sink gained a front of what is printed for them then
-pub record AnswersFront (may : ℕ → Bool) (p : Progress) (lines : List (List ℕ)) (old new : Option (List ℕ)) : Type 0 where
+-- The run came to the second progress, and could go on from there with the other lines of a round and the same store; the sink gained a front of what is printed for all of them then.
+pub record AnswersFront (may : ℕ → Bool) (p q : Progress) (texts : List (List ℕ)) (old new : Option (List ℕ)) (before after : ℕ) : Type 0 where
   pub output : List ℕ
   pub rest : List ℕ
-  pub after : Progress
-  pub goes : GoesOn may p after lines (output ++ rest)
+  pub last : Progress
+  pub replies : List (List ℕ)
+  pub whole : output ++ rest ≡ printed replies
+  pub many : last.lines ≡ p.lines + length replies
+  pub same : SameStore q last
+  pub goes : GoesOn may p last texts (output ++ rest)
   pub gained : Appends old new output
+  pub rose : RoseBy before after (fault_count p.lines replies)
 
--- Before what is left of the input stand whole rounds: the run was served with their lines, and the sink gained what was printed for them.
-pub record ServedUpto (may : ℕ → Bool) (old new : Option (List ℕ)) (p : Progress) (input left : List ℕ) : Type 0 where
+-- Before what is left of the input stand whole rounds: the run was served with their lines, the sink gained what was printed for them, and the faults that it tells were counted.
+pub record ServedUpto (loaded : List Batch) (may : ℕ → Bool) (old new : Option (List ℕ)) (before after : ℕ) (p : Progress) (input left : List ℕ) : Type 0 where
   pub round : ℕ
   pub given : List Numbered
-  pub output : List ℕ
+  pub replies : List (List ℕ)
   pub lines : lines_of input ≡ given ++ numbered round 0 (pieces [] left)
   pub earlier : (k : ℕ) (l : Numbered) → slice_get given k ≡ Some l → l.round < round
-  pub served : IsServed [] may given output p
-  pub gained : Appends old new output
+  pub served : IsServed loaded may given (printed replies) p
+  pub many : p.lines ≡ length replies
+  pub gained : Appends old new (printed replies)
+  pub rose : RoseBy before after (fault_count 0 replies)

@@ -1,6 +1,10 @@
--- Why a run stops.
+-- Why a run stops, and why it does not begin.
 use Rattle.gd_input.specs.declared.fault.InputFault.{InputFault}
 use Rattle.gd_input.specs.declared.fault.InputFault.TheVariants as input
+use Rattle.gd_disk.specs.declared.shelf.ShelfFault.{ShelfFault}
+use Rattle.gd_disk.specs.declared.shelf.ShelfFault.TheVariants as shelf
+use Rattle.gd_journal.specs.declared.fault.JournalFault.{JournalFault}
+use Rattle.gd_journal.specs.declared.fault.JournalFault.TheVariants as journal
 use Rattle.gd_top.specs.declared.stop.Stop.{Stop}
 use Rattle.gd_top.specs.declared.stop.Stop.TheVariants as stop
 use Rattle.gd_top.specs.declared.status.Status.{Status}
@@ -18,3 +22,15 @@ status_of stop.ReadFault = status.ReadFault
 status_of stop.SinkFault = status.SinkFault
 status_of stop.Memory = status.Memory
 status_of stop.TooMuch = status.TooMuch
+
+-- the status of a run whose file the shelf did not open
+abbrev pub status_of_shelf : ShelfFault → Status
+status_of_shelf shelf.Failed = status.DiskFault
+status_of_shelf shelf.Memory = status.Memory
+
+-- the status of a run whose store was not opened
+abbrev pub status_of_store : JournalFault → Status
+status_of_store journal.DiskFault = status.DiskFault
+status_of_store journal.NotStore = status.NotStore
+status_of_store (journal.Damaged offset) = status.Damaged offset
+status_of_store journal.Memory = status.Memory

@@ -1,9 +1,10 @@
-//! The program as a function of its words, its input and its output.
+//! The program as a function of its words, its input, its output, its files and its clock.
 #![tactic(auto)]
 
+pub mod opening;
 pub mod printing;
 pub mod rounds;
 pub mod serve;
 pub mod status;
+pub mod steady;
 pub mod stop;
-pub mod words;

@@ -1,16 +1,17 @@
 //! Rounds: their lines are read, answered and printed.
-ghost use Rattle.std.specs.Prelude.{◌≡◌, ◌≤◌, ◌<◌, ◌+◌, ◌^◌, ◌∷◌, [], ℕ, List, length, Err, IfSome, OnOk, OnErr};
+ghost use Rattle.std.specs.Prelude.{◌≡◌, ◌≤◌, ◌<◌, ◌+◌, ◌^◌, ◌∷◌, [], ℕ, List, Bool, length, Err, IfSome, OnOk, OnErr};
 ghost use Rattle.std.specs.List.{All};
 ghost use Rattle.std.specs.Io.KnownBytes.{IsAtEnd};
 ghost use Rattle.gd_base.specs.Counts.{Rose};
-ghost use Rattle.gd_prim.specs.History.{prims_of};
-ghost use Rattle.gd_runs.specs.Built.{SaysName};
 ghost use Rattle.gd_input.specs.Line.{IsKept, IsShort};
 ghost use Rattle.gd_input.specs.Rounds.{AreKept};
+ghost use Rattle.gd_serving.specs.Running.{IsBacked};
+ghost use Rattle.gd_top.specs.Held.{HoldsAs, IsAtStart, RoseBy};
 ghost use Rattle.gd_top.specs.Serves.{Answers, AnswersFront, Serves, ServesFront, ServesRounds};
 
 use crate::printing::print_line;
 use crate::stop::Stop;
+use gd_disk::disk::Disk;
 use gd_input::line::RoundLine;
 use gd_input::reader::Reader;
 use gd_outside::clock::Clock;
@@ -21,27 +22,29 @@ use std::alloc::Global;
 
 /// Answers the next line and prints what it comes to. `SinkFault`: a front of that is printed. `Memory`: the line
 /// was not answered.
-fn answer_line<K: Sink, C: Clock>(
+fn answer_line<D: Disk, K: Sink, C: Clock>(
     alloc: Global,
-    serving: &mut Serving,
+    serving: &mut Serving<D>,
     clock: &mut C,
     line: &RoundLine,
     sink: &mut K,
 ) -> Result<(), Stop>
-    requires lines { serving.old.lines < 2 ^ 63 }
-    requires says { SaysName (prims_of serving.old.batches) }
+    requires lines { serving.old.progress.lines < 2 ^ 63 }
     requires short { IsShort line.now }
     ensures all { (bytes : List ℕ) → IsKept 262_144 line.now bytes → OnOk result
-        (Answers (C.may clock.old) serving.old serving.new (bytes ∷ []) (K.held sink.old) (K.held sink.new)) }
+        (Answers (C.may clock.old) serving.old.progress serving.new.progress (bytes ∷ []) (K.held sink.old) (K.held sink.new)
+        (D.faults serving.old.log.disk) (D.faults serving.new.log.disk)) }
     ensures front { (bytes : List ℕ) → IsKept 262_144 line.now bytes → OnErr result
-        (AnswersFront (C.may clock.old) serving.old (bytes ∷ []) (K.held sink.old) (K.held sink.new)) }
-    ensures next { OnOk result (serving.new.lines ≡ serving.old.lines + 1) }
-    ensures says { SaysName (prims_of serving.new.batches) }
+        (AnswersFront (C.may clock.old) serving.old.progress serving.new.progress (bytes ∷ []) (K.held sink.old) (K.held sink.new)
+        (D.faults serving.old.log.disk) (D.faults serving.new.log.disk)) }
+    ensures next { OnOk result (serving.new.progress.lines ≡ serving.old.progress.lines + 1) }
+    ensures backed { IsBacked D.content D.images serving.old → IsBacked D.content D.images serving.new }
     ensures clock { C.may clock.new ≡ C.may clock.old }
     ensures read_fault { result ≡ Err Stop.ReadFault → ⊥ }
     ensures too_much { result ≡ Err Stop.TooMuch → ⊥ }
     ensures sink_fault { result ≡ Err Stop.SinkFault → Rose (K.faults sink.old) (K.faults sink.new) }
     ensures later { K.faults sink.old ≤ K.faults sink.new }
+    ensures disk_later { D.faults serving.old.log.disk ≤ D.faults serving.new.log.disk }
 {
     let reply = serving.answer(alloc, clock, line)?;
     print_line(sink, &reply)?;
@@ -50,27 +53,29 @@ fn answer_line<K: Sink, C: Clock>(
 
 /// Answers the lines of a round, one after another, and prints what each comes to. `SinkFault`: a front of that is
 /// printed. `Memory`: a line was not answered, nor those after it.
-fn answer_lines<K: Sink, C: Clock>(
+fn answer_lines<D: Disk, K: Sink, C: Clock>(
     alloc: Global,
-    serving: &mut Serving,
+    serving: &mut Serving<D>,
     clock: &mut C,
     lines: &[RoundLine],
     sink: &mut K,
 ) -> Result<(), Stop>
-    requires lines { serving.old.lines + length lines.now < 2 ^ 63 }
-    requires says { SaysName (prims_of serving.old.batches) }
+    requires lines { serving.old.progress.lines + length lines.now < 2 ^ 63 }
     requires short { All IsShort lines.now }
     ensures all { (texts : List (List ℕ)) → AreKept lines.now texts → OnOk result
-        (Answers (C.may clock.old) serving.old serving.new texts (K.held sink.old) (K.held sink.new)) }
+        (Answers (C.may clock.old) serving.old.progress serving.new.progress texts (K.held sink.old) (K.held sink.new)
+        (D.faults serving.old.log.disk) (D.faults serving.new.log.disk)) }
     ensures front { (texts : List (List ℕ)) → AreKept lines.now texts → OnErr result
-        (AnswersFront (C.may clock.old) serving.old texts (K.held sink.old) (K.held sink.new)) }
-    ensures next { OnOk result (serving.new.lines ≡ serving.old.lines + length lines.now) }
-    ensures says { SaysName (prims_of serving.new.batches) }
+        (AnswersFront (C.may clock.old) serving.old.progress serving.new.progress texts (K.held sink.old) (K.held sink.new)
+        (D.faults serving.old.log.disk) (D.faults serving.new.log.disk)) }
+    ensures next { OnOk result (serving.new.progress.lines ≡ serving.old.progress.lines + length lines.now) }
+    ensures backed { IsBacked D.content D.images serving.old → IsBacked D.content D.images serving.new }
     ensures clock { C.may clock.new ≡ C.may clock.old }
     ensures read_fault { result ≡ Err Stop.ReadFault → ⊥ }
     ensures too_much { result ≡ Err Stop.TooMuch → ⊥ }
     ensures sink_fault { result ≡ Err Stop.SinkFault → Rose (K.faults sink.old) (K.faults sink.new) }
     ensures later { K.faults sink.old ≤ K.faults sink.new }
+    ensures disk_later { D.faults serving.old.log.disk ≤ D.faults serving.new.log.disk }
 {
     for line in lines {
         answer_line(alloc, serving, clock, line, sink)?;
@@ -79,59 +84,69 @@ fn answer_lines<K: Sink, C: Clock>(
 }
 
 /// Answers the lines of a round, prints what they come to and flushes.
-fn answer_round<K: Sink, C: Clock>(
+fn answer_round<D: Disk, K: Sink, C: Clock>(
     alloc: Global,
-    serving: &mut Serving,
+    serving: &mut Serving<D>,
     clock: &mut C,
     lines: &[RoundLine],
     sink: &mut K,
 ) -> Result<(), Stop>
-    requires lines { serving.old.lines + length lines.now < 2 ^ 63 }
-    requires says { SaysName (prims_of serving.old.batches) }
+    requires lines { serving.old.progress.lines + length lines.now < 2 ^ 63 }
     requires short { All IsShort lines.now }
     ensures all { (texts : List (List ℕ)) → AreKept lines.now texts → OnOk result
-        (Answers (C.may clock.old) serving.old serving.new texts (K.held sink.old) (K.held sink.new)) }
+        (Answers (C.may clock.old) serving.old.progress serving.new.progress texts (K.held sink.old) (K.held sink.new)
+        (D.faults serving.old.log.disk) (D.faults serving.new.log.disk)) }
     ensures front { (texts : List (List ℕ)) → AreKept lines.now texts → OnErr result
-        (AnswersFront (C.may clock.old) serving.old texts (K.held sink.old) (K.held sink.new)) }
-    ensures next { OnOk result (serving.new.lines ≡ serving.old.lines + length lines.now) }
-    ensures says { SaysName (prims_of serving.new.batches) }
+        (AnswersFront (C.may clock.old) serving.old.progress serving.new.progress texts (K.held sink.old) (K.held sink.new)
+        (D.faults serving.old.log.disk) (D.faults serving.new.log.disk)) }
+    ensures next { OnOk result (serving.new.progress.lines ≡ serving.old.progress.lines + length lines.now) }
+    ensures backed { IsBacked D.content D.images serving.old → IsBacked D.content D.images serving.new }
     ensures clock { C.may clock.new ≡ C.may clock.old }
     ensures read_fault { result ≡ Err Stop.ReadFault → ⊥ }
     ensures too_much { result ≡ Err Stop.TooMuch → ⊥ }
     ensures sink_fault { result ≡ Err Stop.SinkFault → Rose (K.faults sink.old) (K.faults sink.new) }
     ensures later { K.faults sink.old ≤ K.faults sink.new }
+    ensures disk_later { D.faults serving.old.log.disk ≤ D.faults serving.new.log.disk }
 {
     answer_lines(alloc, serving, clock, lines, sink)?;
     sink.flush()?;
     Ok(())
 }
 
-/// Serves the whole input, round by round, from the empty store on. `ReadFault` and `TooMuch`: the lines of the
-/// unfinished round were not answered. `SinkFault`, `Memory`: what was printed is a front of what was due.
-pub fn serve_rounds<S: Source, K: Sink, C: Clock>(
+/// Serves the whole input, round by round, from a run on that is before its first line. `ReadFault` and `TooMuch`:
+/// the lines of the unfinished round were not answered. `SinkFault`, `Memory`: what was printed is a front of what was
+/// due.
+pub fn serve_rounds<D: Disk, S: Source, K: Sink, C: Clock>(
     alloc: Global,
+    serving: &mut Serving<D>,
     source: &mut S,
     sink: &mut K,
     clock: &mut C,
 ) -> Result<(), Stop>
-    ensures done { OnOk result (IfSome (S.left source.old)
-        (Serves (C.may clock.old) (K.held sink.old) (K.held sink.new))) }
+    requires { IsAtStart serving.old.progress }
+    ensures done { OnOk result (IfSome (S.left source.old) (Serves (C.may clock.old)
+        (λ loaded. loaded ≡ serving.old.progress.batches) (HoldsAs serving.new.progress)
+        (RoseBy (D.faults serving.old.log.disk) (D.faults serving.new.log.disk)) (K.held sink.old) (K.held sink.new))) }
     ensures at_end { OnOk result (IsAtEnd (S.left source.new)) }
-    ensures rounds { result ≡ Err Stop.ReadFault → IfSome (S.left source.old)
-        (ServesRounds (C.may clock.old) (K.held sink.old) (K.held sink.new)) }
-    ensures rounds_taken { result ≡ Err Stop.TooMuch → IfSome (S.left source.old)
-        (ServesRounds (C.may clock.old) (K.held sink.old) (K.held sink.new)) }
-    ensures front { OnErr result (IfSome (S.left source.old)
-        (ServesFront (C.may clock.old) (K.held sink.old) (K.held sink.new))) }
+    ensures rounds { result ≡ Err Stop.ReadFault → IfSome (S.left source.old) (ServesRounds (C.may clock.old)
+        (λ loaded. loaded ≡ serving.old.progress.batches) (HoldsAs serving.new.progress)
+        (RoseBy (D.faults serving.old.log.disk) (D.faults serving.new.log.disk)) (K.held sink.old) (K.held sink.new)) }
+    ensures rounds_taken { result ≡ Err Stop.TooMuch → IfSome (S.left source.old) (ServesRounds (C.may clock.old)
+        (λ loaded. loaded ≡ serving.old.progress.batches) (HoldsAs serving.new.progress)
+        (RoseBy (D.faults serving.old.log.disk) (D.faults serving.new.log.disk)) (K.held sink.old) (K.held sink.new)) }
+    ensures front { OnErr result (IfSome (S.left source.old) (ServesFront (C.may clock.old)
+        (λ loaded. loaded ≡ serving.old.progress.batches) (HoldsAs serving.new.progress)
+        (RoseBy (D.faults serving.old.log.disk) (D.faults serving.new.log.disk)) (K.held sink.old) (K.held sink.new))) }
+    ensures backed { IsBacked D.content D.images serving.old → IsBacked D.content D.images serving.new }
     ensures read_fault { result ≡ Err Stop.ReadFault → Rose (S.faults source.old) (S.faults source.new) }
     ensures sink_fault { result ≡ Err Stop.SinkFault → Rose (K.faults sink.old) (K.faults sink.new) }
     ensures too_much { result ≡ Err Stop.TooMuch → IfSome (S.left source.old) (λ input. 2 ^ 40 ≤ length input) }
+    ensures disk_later { D.faults serving.old.log.disk ≤ D.faults serving.new.log.disk }
 {
-    let mut serving = Serving::new(alloc)?;
     let mut reader = Reader::new(alloc);
     loop {
         let round = reader.read_round(source)?;
-        answer_round(alloc, &mut serving, clock, &round.lines, sink)?;
+        answer_round(alloc, serving, clock, &round.lines, sink)?;
         if round.ended {
             return Ok(());
         }

@@ -1,69 +1,147 @@
 //! The top call.
-ghost use Rattle.std.specs.Prelude.{◌≡◌, ◌≢◌, ◌↔◌, ◌≤◌, ◌<◌, ◌⊎◌, ◌^◌, length, true, false, IfSome, IsSomeAnd};
-ghost use Rattle.std.specs.Io.KnownBytes.{Keeps, IsAtEnd};
+ghost use Rattle.std.specs.Prelude.{◌≡◌, ◌≢◌, ◌↔◌, ◌≤◌, ◌<◌, ◌⊎◌, ◌^◌, ℕ, List, length, option_map, true, false, None, Some, IfSome, IsSomeAnd};
+ghost use Rattle.std.specs.Io.KnownBytes.{IsAtEnd};
 ghost use Rattle.gd_base.specs.Counts.{Rose};
+ghost use Rattle.gd_bytes.specs.Disk.{HoldsSame};
+ghost use Rattle.gd_bytes.specs.File.{not_store, damaged};
+ghost use Rattle.gd_words.specs.Words.{command_of};
+ghost use Rattle.gd_top.specs.Ends.{IsHindered, IsIdle, Prints, Causes, is_refused, is_stopped};
+ghost use Rattle.gd_top.specs.Held.{BeginsWith, EndsWith, MayMeanAt, DoesMean, IsSoundAt, RoseBy, told_at};
 ghost use Rattle.gd_top.specs.Serves.{Serves, ServesFront, ServesRounds};
-ghost use Rattle.gd_top.specs.Words.{is_serve as is_serve_of};
+ghost use Rattle.gd_top.specs.Words.{path_of};
 
-use crate::rounds::serve_rounds;
+use crate::opening::{serve_in_file, serve_in_memory};
 use crate::status::Status;
-use crate::words::is_serve;
 use gd_base::text::Text;
+use gd_disk::shelf::Shelf;
 use gd_outside::clock::Clock;
 use gd_outside::sink::Sink;
 use gd_outside::source::Source;
+use gd_words::reader::command;
+use gd_words::verbs::Command;
 use std::alloc::Global;
 
-/// Runs the program: with the words `serve` it reads the input to its end, round by round, from the empty store on,
-/// and prints one reply line for each line that is not blank: to a read at the dateline of the store, to a write at
-/// the moment of the clock, to any other line its refusal. Where no memory is left for a reply, the reply line that
-/// says so is printed in its place. The sink is flushed at the end of each round. The status says how the run ended.
-pub fn graphd<S: Source, K: Sink, C: Clock + Drop>(
+/// Serves the whole input over the store of a file, or, without one, over an empty store in memory.
+fn serve<S: Source, K: Sink, F: Shelf, C: Clock>(
+    alloc: Global,
+    file: Option<&Text>,
+    source: &mut S,
+    sink: &mut K,
+    shelf: &mut F,
+    clock: &mut C,
+) -> Status
+    requires { (path : List ℕ) → F.is_out shelf.old path ≡ false }
+    ensures back { (path : List ℕ) → F.is_out shelf.new path ≡ false }
+    ensures prints { let path = option_map (λ t. t.now) file.entry in
+        Prints result (C.may clock.old) (BeginsWith (F.content shelf.old) path)
+        (EndsWith (F.content shelf.old) (F.images shelf.new) path)
+        (RoseBy (F.faults shelf.old) (F.faults shelf.new)) (IsIdle source.old source.new sink.old sink.new)
+        (S.left source.old) (S.left source.new) (K.held sink.old) (K.held sink.new) }
+    ensures causes { let path = option_map (λ t. t.now) file.entry in
+        Causes result (Rose (S.faults source.old) (S.faults source.new))
+        (Rose (K.faults sink.old) (K.faults sink.new)) (Rose (F.faults shelf.old) (F.faults shelf.new))
+        (IfSome (S.left source.old) (λ input. 2 ^ 40 ≤ length input))
+        (MayMeanAt (F.content shelf.old) path) (DoesMean (told_at (F.content shelf.old) path)) }
+    ensures used { result ≢ Status.Usage }
+    ensures others { (other : List ℕ) → option_map (λ t. t.now) file.entry ≢ Some other
+        → HoldsSame (F.content shelf.old other) (F.content shelf.new other)
+        (F.images shelf.old other) (F.images shelf.new other) }
+{
+    match file {
+        Some(path) => serve_in_file(alloc, path, source, sink, shelf, clock),
+        None => serve_in_memory(alloc, source, sink, clock),
+    }
+}
+
+/// Runs the program. With the words `serve` and its options it opens the store in the file that they name, or an empty
+/// one in memory, reads the input to its end, round by round, and prints one reply line for each line that is not
+/// blank: to a read at the dateline of the store, to a write at the moment of the clock, to any other line its
+/// refusal. Where no memory is left for a reply, the reply line that says so is printed in its place; where the disk
+/// fails at a write, the line that says so. The sink is flushed at the end of each round. The status says how the run
+/// ended. The device of the file is put back on the shelf, however it ended.
+pub fn graphd<S: Source, K: Sink, F: Shelf, C: Clock + Drop>(
     alloc: Global,
     words: &[Text],
     source: &mut S,
     sink: &mut K,
+    shelf: &mut F,
     clock: C,
 ) -> Status
-    // The words are out of the grammar, and then nothing was printed.
-    ensures usage { (result ≡ Status.Usage) ↔ (is_serve_of words.now ≡ false) }
-    ensures nothing { result ≡ Status.Usage → Keeps (K.held sink.old) (K.held sink.new) }
+    requires { (path : List ℕ) → F.is_out shelf.old path ≡ false }
+    ensures back { (path : List ℕ) → F.is_out shelf.new path ≡ false }
 
-    // The input was read to its end, and one legal history explains the whole output for it.
-    ensures done { result ≡ Status.Done → IfSome (S.left source.old)
-        (Serves (C.may clock) (K.held sink.old) (K.held sink.new)) }
+    // The words are out of the grammar.
+    ensures usage { (result ≡ Status.Usage) → command_of words.now ≡ None }
+    ensures usage_found { command_of words.now ≡ None → (result ≡ Status.Usage) ⊎ (result ≡ Status.Memory) }
+
+    // Where the run did not begin, nothing was read and nothing printed.
+    ensures nothing { is_refused result ≡ true → IsIdle source.old source.new sink.old sink.new }
+
+    // The input was read to its end, and one legal history explains the whole output for it. It begins with what the
+    // file stood for; the file is left so that it stands for this history, with or without the write that is in doubt;
+    // and the shelf counted as many faults as lines tell.
+    ensures done { result ≡ Status.Done → IfSome (S.left source.old) (Serves (C.may clock)
+        (BeginsWith (F.content shelf.old) (path_of words.now))
+        (EndsWith (F.content shelf.old) (F.images shelf.new) (path_of words.now))
+        (RoseBy (F.faults shelf.old) (F.faults shelf.new)) (K.held sink.old) (K.held sink.new)) }
     ensures at_end { result ≡ Status.Done → IsAtEnd (S.left source.new) }
 
-    // Each fault has its cause.
-    ensures read_fault { result ≡ Status.ReadFault
-        → Rose (S.faults source.old) (S.faults source.new) }
-    ensures sink_fault { result ≡ Status.SinkFault
-        → Rose (K.faults sink.old) (K.faults sink.new) }
-    ensures too_much { result ≡ Status.TooMuch
-        → IfSome (S.left source.old) (λ input. 2 ^ 40 ≤ length input) }
-
-    // Where the input could not be read further, the lines of whole rounds were answered and no other; at any other
-    // end but Done what was printed is a front of an output that a legal history explains.
+    // Where the input could not be read further, the lines of whole rounds were answered so, and no other.
     ensures rounds { (result ≡ Status.ReadFault) ⊎ (result ≡ Status.TooMuch) → IfSome (S.left source.old)
-        (ServesRounds (C.may clock) (K.held sink.old) (K.held sink.new)) }
-    ensures front { result ≢ Status.Done → result ≢ Status.Usage → IfSome (S.left source.old)
-        (ServesFront (C.may clock) (K.held sink.old) (K.held sink.new)) }
+        (ServesRounds (C.may clock) (BeginsWith (F.content shelf.old) (path_of words.now))
+        (EndsWith (F.content shelf.old) (F.images shelf.new) (path_of words.now))
+        (RoseBy (F.faults shelf.old) (F.faults shelf.new)) (K.held sink.old) (K.held sink.new)) }
 
-    // With words of the grammar, no fault and input of a known length below 2^40, all is done but for want of memory.
-    ensures complete { is_serve_of words.now ≡ true → ¬ Rose (S.faults source.old) (S.faults source.new)
+    // At any stop what was printed is a front of an output that is explained so. Without memory the run may also not
+    // have begun.
+    ensures front { is_stopped result ≡ true → IfSome (S.left source.old)
+        (ServesFront (C.may clock) (BeginsWith (F.content shelf.old) (path_of words.now))
+        (EndsWith (F.content shelf.old) (F.images shelf.new) (path_of words.now))
+        (RoseBy (F.faults shelf.old) (F.faults shelf.new)) (K.held sink.old) (K.held sink.new)) }
+    ensures memory { result ≡ Status.Memory → IsIdle source.old source.new sink.old sink.new
+        ⊎ IfSome (S.left source.old)
+        (ServesFront (C.may clock) (BeginsWith (F.content shelf.old) (path_of words.now))
+        (EndsWith (F.content shelf.old) (F.images shelf.new) (path_of words.now))
+        (RoseBy (F.faults shelf.old) (F.faults shelf.new)) (K.held sink.old) (K.held sink.new)) }
+
+    // Each fault has its cause.
+    ensures read_fault { result ≡ Status.ReadFault → Rose (S.faults source.old) (S.faults source.new) }
+    ensures sink_fault { result ≡ Status.SinkFault → Rose (K.faults sink.old) (K.faults sink.new) }
+    ensures disk_fault { result ≡ Status.DiskFault → Rose (F.faults shelf.old) (F.faults shelf.new) }
+    ensures too_much { result ≡ Status.TooMuch → IfSome (S.left source.old) (λ input. 2 ^ 40 ≤ length input) }
+
+    // What is said of the file is so, and is said where it is so, but for a failure of the disk or want of memory.
+    ensures not_store { result ≡ Status.NotStore → MayMeanAt (F.content shelf.old) (path_of words.now) not_store }
+    ensures damaged { (offset : ℕ) → result ≡ Status.Damaged offset
+        → MayMeanAt (F.content shelf.old) (path_of words.now) (damaged offset) }
+    ensures not_store_found { DoesMean (told_at (F.content shelf.old) (path_of words.now)) not_store
+        → (result ≡ Status.NotStore) ⊎ IsHindered result }
+    ensures damaged_found { (offset : ℕ) → DoesMean (told_at (F.content shelf.old) (path_of words.now)) (damaged offset)
+        → (result ≡ Status.Damaged offset) ⊎ IsHindered result }
+
+    // The shelf keeps every other path.
+    ensures others { (other : List ℕ) → path_of words.now ≢ Some other
+        → HoldsSame (F.content shelf.old other) (F.content shelf.new other)
+        (F.images shelf.old other) (F.images shelf.new other) }
+
+    // With words of the grammar, no fault, a file that is told and stands for some batches or none at all, and input of
+    // a known length below 2^40, all is done but for want of memory.
+    ensures complete { command_of words.now ≢ None → ¬ Rose (S.faults source.old) (S.faults source.new)
         → ¬ Rose (K.faults sink.old) (K.faults sink.new)
+        → ¬ Rose (F.faults shelf.old) (F.faults shelf.new)
+        → IsSoundAt (F.content shelf.old) (path_of words.now)
         → IsSomeAnd (S.left source.old) (λ input. length input < 2 ^ 40)
         → (result ≡ Status.Done) ⊎ (result ≡ Status.Memory) }
 {
-    if !is_serve(words) {
-        return Status::Usage;
-    }
     let mut clock = clock;
-    match serve_rounds(alloc, source, sink, &mut clock) {
-        Ok(()) => Status::Done,
-        Err(stop) => Status::of_stop(stop),
+    match command(alloc, words) {
+        Ok(Some(Command::Serve(settings))) => serve(alloc, settings.file.as_ref(), source, sink, shelf, &mut clock),
+        Ok(None) => Status::Usage,
+        Err(_refused) => Status::Memory,
     }
 }
 
+#[cfg(test)]
+mod file_tests;
 #[cfg(test)]
 mod tests;

@@ -1,8 +1,11 @@
 //! How a run ends.
 ghost use Rattle.std.specs.Prelude.{◌≡◌};
-ghost use Rattle.gd_top.specs.Stops.{status_of};
+ghost use Rattle.gd_top.specs.Stops.{status_of, status_of_shelf, status_of_store};
 
 use crate::stop::Stop;
+use gd_disk::shelf::ShelfFault;
+use gd_journal::fault::JournalFault;
+use std::fmt;
 
 /// How a run ended.
 #[derive(Clone, Copy, Debug, PartialEq, Eq)]
@@ -15,8 +18,14 @@ pub enum Status {
     ReadFault,
     /// The sink failed. What was printed is a front of what was due.
     SinkFault,
-    /// There was no memory to read a round, or even for the reply that says so. What was printed is a front of what
-    /// was due.
+    /// The disk failed while the store was opened. Nothing was read or printed.
+    DiskFault,
+    /// The file is no store. Nothing was read or printed.
+    NotStore,
+    /// The first damaged record of the file has its gate at this offset. Nothing was read or printed.
+    Damaged { offset: u64 },
+    /// There was no memory to open the store, to read a round, or even for the reply that says so. What was printed is
+    /// a front of what was due.
     Memory,
     /// 2^40 bytes of input were taken. The lines of whole rounds before that were answered, and no other.
     TooMuch,
@@ -35,6 +44,28 @@ impl Status {
         }
     }
 
+    /// The status of a run whose file was not opened.
+    pub fn of_shelf(fault: ShelfFault) -> Status
+        ensures { result ≡ status_of_shelf fault }
+    {
+        match fault {
+            ShelfFault::Failed => Status::DiskFault,
+            ShelfFault::Memory => Status::Memory,
+        }
+    }
+
+    /// The status of a run whose file was opened and gave no store.
+    pub fn of_store(fault: JournalFault) -> Status
+        ensures { result ≡ status_of_store fault }
+    {
+        match fault {
+            JournalFault::DiskFault => Status::DiskFault,
+            JournalFault::NotStore => Status::NotStore,
+            JournalFault::Damaged { offset } => Status::Damaged { offset },
+            JournalFault::Memory => Status::Memory,
+        }
+    }
+
     /// The exit status of the program.
     pub fn code(self) -> u8 {
         match self {
@@ -42,20 +73,28 @@ impl Status {
             Status::Usage => 2,
             Status::ReadFault => 3,
             Status::SinkFault => 4,
+            Status::DiskFault => 5,
+            Status::NotStore => 6,
+            Status::Damaged { offset: _ } => 7,
             Status::Memory => 8,
             Status::TooMuch => 10,
         }
     }
+}
 
-    /// What the program says of it, without its name.
-    pub fn message(self) -> &'static str {
+/// What the program says of it, without its name.
+impl fmt::Display for Status {
+    fn fmt<W: fmt::Write>(&self, f: &mut fmt::Formatter<W>) -> fmt::Result {
         match self {
-            Status::Done => "done",
-            Status::Usage => "usage: graphd VERB [--NAME VALUE]",
-            Status::ReadFault => "input failed",
-            Status::SinkFault => "output failed",
-            Status::Memory => "out of memory",
-            Status::TooMuch => "too much input",
+            Status::Done => write!(f, "done"),
+            Status::Usage => write!(f, "usage: graphd VERB [--NAME VALUE]"),
+            Status::ReadFault => write!(f, "input failed"),
+            Status::SinkFault => write!(f, "output failed"),
+            Status::DiskFault => write!(f, "disk failed"),
+            Status::NotStore => write!(f, "not a store"),
+            Status::Damaged { offset } => write!(f, "damaged at {offset}"),
+            Status::Memory => write!(f, "out of memory"),
+            Status::TooMuch => write!(f, "too much input"),
         }
     }
 }

@@ -1,6 +1,9 @@
-ghost use Rattle.std.specs.Prelude.{None};
+ghost use Rattle.std.specs.Prelude.{◌≡◌, List, ℕ, None, false, IfOk};
+ghost use Rattle.gd_disk.specs.Shelved.{slot_at, is_out_in};
 
 use super::*;
+use gd_disk::memory_disk::MemoryDisk;
+use gd_disk::memory_shelf::MemoryShelf;
 use gd_outside::Failed;
 use gd_outside::clock::FixedClock;
 use gd_outside::memory::{MemorySink, MemorySource};
@@ -62,17 +65,60 @@ impl Source for SlowSource {
 }
 
 #[derive(Drop)]
-struct Ended {
-    status: Status,
-    output: Vec<u8>,
+pub(super) struct Ended {
+    pub(super) status: Status,
+    pub(super) output: Vec<u8>,
 }
 
-fn texts(alloc: Global, words: &[&str]) -> Result<Vec<Text>, Fail> {
+pub(super) fn texts(alloc: Global, words: &[&str]) -> Result<Vec<Text>, Fail> {
     let mut texts = Vec::new(alloc);
     for word in words {
         texts.push(Text::new(alloc, word.as_bytes())?)?;
     }
     Ok(texts)
+}
+
+/// The path of the file that a shelf holds.
+pub(super) const PATH: &str = "a/store";
+
+/// A shelf with a file of these bytes, and nothing elsewhere. Of the disk and of the shelf the calls with these numbers
+/// fail.
+pub(super) fn shelf_with(
+    alloc: Global,
+    bytes: &[u8],
+    failing: &[u64],
+    openings: &[u64],
+) -> Result<MemoryShelf, Fail>
+    ensures { IfOk result (λ shelf. (path : List ℕ) → is_out_in (slot_at shelf.slots path) ≡ false) }
+{
+    let path = Text::of(alloc, PATH)?;
+    let disk = MemoryDisk::new(alloc, bytes, failing)?;
+    Ok(MemoryShelf::new(alloc, &path, disk, openings)?)
+}
+
+/// A run on this shelf. The clock stands still at 0.
+pub(super) fn run_on<F: Shelf>(
+    alloc: Global,
+    words: &[&str],
+    input: &str,
+    shelf: &mut F,
+) -> Result<Ended, Fail>
+    requires { (path : List ℕ) → F.is_out shelf.old path ≡ false }
+    ensures { (path : List ℕ) → F.is_out shelf.new path ≡ false }
+{
+    let words = texts(alloc, words)?;
+    let mut source = MemorySource::new(alloc, input.as_bytes(), &[])?;
+    let mut sink = MemorySink::new(alloc, &[])?;
+    let status = graphd(
+        alloc,
+        &words,
+        &mut source,
+        &mut sink,
+        shelf,
+        FixedClock::new(0),
+    );
+    let output = sink.bytes().to_vec(alloc)?;
+    Ok(Ended { status, output })
 }
 
 /// A run whose reads and writes of these numbers fail. The clock stands still.
@@ -86,8 +132,9 @@ fn run(
     let words = texts(alloc, words)?;
     let mut source = MemorySource::new(alloc, input, reads)?;
     let mut sink = MemorySink::new(alloc, writes)?;
+    let mut shelf = shelf_with(alloc, b"", &[], &[])?;
     let clock = FixedClock::new(1_700_000_000_000);
-    let status = graphd(alloc, &words, &mut source, &mut sink, clock);
+    let status = graphd(alloc, &words, &mut source, &mut sink, &mut shelf, clock);
     let output = sink.bytes().to_vec(alloc)?;
     Ok(Ended { status, output })
 }
@@ -191,15 +238,41 @@ fn refuses_a_reply_that_is_too_large(rt: HostRuntime) -> Result<(), Fail> {
     Ok(())
 }
 
-/// Words, the reads and the writes that fail, the status, and how much is printed.
+/// Words that are out of the grammar, and words with options.
+#[test]
+fn takes_the_words_of_the_grammar(rt: HostRuntime) -> Result<(), Fail> {
+    let refused: [&[&str]; 7] = [
+        &[],
+        &["Serve"],
+        &["serve", "extra"],
+        &["serve", "--file"],
+        &["serve", "--file="],
+        &["serve", "--file", "a", "--file", "a"],
+        &["serve", "--workers", "17"],
+    ];
+    for words in refused {
+        let ended = run(rt.alloc(), words, READ.as_bytes(), &[], &[])?;
+        assert_eq!(rt; ended.status, Status::Usage);
+        assert_eq!(rt; ended.output.len(), 0);
+    }
+    let taken: [&[&str]; 3] = [
+        &["serve", "--workers", "16"],
+        &["serve", "--budget=1"],
+        &["serve", "--budget", "1", "--file", "new", "--workers=1"],
+    ];
+    for words in taken {
+        let ended = run(rt.alloc(), words, READ.as_bytes(), &[], &[])?;
+        assert_eq!(rt; ended.status, Status::Done);
+        assert_eq!(rt; ended.output.as_slice(), REPLY.as_bytes());
+    }
+    Ok(())
+}
+
+/// The reads and the writes that fail, the status, and how much is printed.
 #[test]
 fn ends_with_its_status(rt: HostRuntime) -> Result<(), Fail> {
     let serve = ["serve"];
     let read = READ.as_bytes();
-    let none = run(rt.alloc(), &[], read, &[], &[])?;
-    assert_eq!(rt; none.status, Status::Usage);
-    let extra = run(rt.alloc(), &["serve", "extra"], read, &[], &[])?;
-    assert_eq!(rt; extra.status, Status::Usage);
     let unread = run(rt.alloc(), &serve, read, &[0], &[])?;
     assert_eq!(rt; unread.status, Status::ReadFault);
     assert_eq!(rt; unread.output.len(), 0);
@@ -231,11 +304,13 @@ fn reads_and_prints_byte_by_byte(rt: HostRuntime) -> Result<(), Fail> {
         bytes: Vec::new(rt.alloc()),
         faults: 0,
     };
+    let mut shelf = shelf_with(rt.alloc(), b"", &[], &[])?;
     let status = graphd(
         rt.alloc(),
         &words,
         &mut source,
         &mut sink,
+        &mut shelf,
         FixedClock::new(0),
     );
     assert_eq!(rt; status, Status::Done);
@@ -244,17 +319,22 @@ fn reads_and_prints_byte_by_byte(rt: HostRuntime) -> Result<(), Fail> {
 }
 
 #[test]
-fn tells_each_status(rt: HostRuntime) {
+fn tells_each_status(rt: HostRuntime) -> Result<(), Fail> {
     let rows = [
         (Status::Done, 0, "done"),
         (Status::Usage, 2, "usage: graphd VERB [--NAME VALUE]"),
         (Status::ReadFault, 3, "input failed"),
         (Status::SinkFault, 4, "output failed"),
+        (Status::DiskFault, 5, "disk failed"),
+        (Status::NotStore, 6, "not a store"),
+        (Status::Damaged { offset: 8 }, 7, "damaged at 8"),
         (Status::Memory, 8, "out of memory"),
         (Status::TooMuch, 10, "too much input"),
     ];
     for (status, code, message) in rows {
         assert_eq!(rt; status.code(), code);
-        assert_eq!(rt; status.message(), message);
+        let said = format!(in rt.alloc(); "{status}")?;
+        assert_eq!(rt; said.as_str(), message);
     }
+    Ok(())
 }

@@ -1,0 +1,25 @@
+use Rattle.gd_top.specs.Held.{Leaves, Loads, RoseBy}
+use Rattle.gd_top.proofs.Weaker.{prints_weaker, causes_same, loads_same, leaves_same, rose_added, rose_device}
+use Rattle.gd_top.proofs.opening.serve_in_file.Goals as goal
+
+pub returns-in-Ok-clause-prints : goal.returns-in-Ok-clause-prints
+returns-in-Ok-clause-prints g c =
+    let kept = g.F.Shelf.content c.args.shelf.now c.args.path.now in
+    let told = g.F.Device.Disk.content c.in-Ok.device in
+    let before = g.F.Device.Disk.faults c.in-Ok.device in
+    let after = g.F.Device.Disk.faults c.serve_over-status.result.1 in
+    let left = g.F.Shelf.images c.put_back.new.self c.args.path.now in
+    let old = g.F.Shelf.faults c.args.shelf.now in
+    let new = g.F.Shelf.faults c.put_back.new.self in
+    prints_weaker (g.C.Clock.may c.args.clock.now) (Loads told) (Loads kept) (Leaves told (g.F.Device.Disk.images c.serve_over-status.result.1)) (Leaves kept left) (RoseBy before after) (RoseBy old new)
+    (loads_same kept told c.in-Ok.ensures.holds.content)
+    (leaves_same kept told (g.F.Device.Disk.images c.serve_over-status.result.1) left c.in-Ok.ensures.holds.content c.put_back.ensures.holds.fewer)
+    (λ n. rose_added old (g.F.Shelf.faults c.open_at.new.self) new before after n c.open_at.ensures.later c.in-Ok.ensures.count c.put_back.ensures.count)
+    c.serve_over-status.result.0 _ _ _ _ _ _ (λ idle. idle) c.serve_over-status.ensures.prints
+
+pub returns-in-Ok-clause-causes : goal.returns-in-Ok-clause-causes
+returns-in-Ok-clause-causes g c =
+    causes_same c.serve_over-status.result.0 _ _ _ _ _ (g.F.Shelf.content c.args.shelf.now c.args.path.now) (g.F.Device.Disk.content c.in-Ok.device) c.in-Ok.ensures.holds.content
+    (rose_device (g.F.Shelf.faults c.args.shelf.now) (g.F.Shelf.faults c.open_at.new.self) (g.F.Shelf.faults c.put_back.new.self) (g.F.Device.Disk.faults c.in-Ok.device) (g.F.Device.Disk.faults c.serve_over-status.result.1)
+    c.open_at.ensures.later c.in-Ok.ensures.count c.put_back.ensures.count)
+    c.serve_over-status.ensures.causes

@@ -1,0 +1,73 @@
+-- What a run finds in the file of its store, and what it leaves there.
+use Rattle.std.specs.Prelude.{◌≡◌, ℕ, ◌+◌, ◌-◌, ◌^◌, ◌≤◌, min, List, [], Bool, Option, None, Some, IsSome, IsSomeAnd, option_and_then}
+use Rattle.std.specs.Option.{ForSome}
+use Rattle.gd_prim.specs.declared.Batch.{Batch}
+use Rattle.gd_bytes.specs.File.{Meaning, meaning, StandsFor}
+use Rattle.gd_runs.specs.Legal.{History}
+use Rattle.gd_runs.specs.Explained.{Run, Holds}
+use Rattle.gd_serving.specs.Served.{Progress, IsServed}
+use Rattle.gd_serving.specs.Running.{StandsForRun}
+
+-- ---- one file, whose content is told or not
+
+-- where the content is told, it stands for these batches
+abbrev pub Loads : Option (List ℕ) → List Batch → Type 0
+Loads told loaded = ForSome told (λ file. StandsFor file loaded)
+
+-- where the content was told, all that a stop leaves stands for the history, or for it with the write that is in doubt
+abbrev pub Leaves : Option (List ℕ) → (List ℕ → Type 0) → History → List Run → Type 0
+Leaves told images h runs = IsSome told → (file : List ℕ) → images file → Holds h runs file
+
+-- where the content is told, it means this
+abbrev pub MayMean : Option (List ℕ) → Meaning → Type 0
+MayMean told m = ForSome told (λ file. meaning file ≡ m)
+
+-- the content is told, and means this
+abbrev pub DoesMean : Option (List ℕ) → Meaning → Type 0
+DoesMean told m = IsSomeAnd told (λ file. meaning file ≡ m)
+
+-- ---- the file that the words name, on a shelf
+
+-- its content, where there is such a file and the shelf tells it
+abbrev pub told_at : (List ℕ → Option (List ℕ)) → Option (List ℕ) → Option (List ℕ)
+told_at content path = option_and_then content path
+
+-- the list that a run begins with: without a file the empty one
+abbrev pub BeginsWith : (List ℕ → Option (List ℕ)) → Option (List ℕ) → List Batch → Type 0
+BeginsWith content None loaded = loaded ≡ []
+BeginsWith content (Some path) loaded = Loads (content path) loaded
+
+-- what the shelf holds at the path after a run with this history
+abbrev pub EndsWith : (List ℕ → Option (List ℕ)) → (List ℕ → List ℕ → Type 0) → Option (List ℕ) → History → List Run → Type 0
+EndsWith content images None h runs = Unit {0}
+EndsWith content images (Some path) h runs = Leaves (content path) (images path) h runs
+
+-- there is a file, and where it is told it means this
+abbrev pub MayMeanAt : (List ℕ → Option (List ℕ)) → Option (List ℕ) → Meaning → Type 0
+MayMeanAt content None m = ⊥
+MayMeanAt content (Some path) m = MayMean (content path) m
+
+-- there is no file, or it is told and stands for some batches
+abbrev pub IsSoundAt : (List ℕ → Option (List ℕ)) → Option (List ℕ) → Type 0
+IsSoundAt content None = Unit {0}
+IsSoundAt content (Some path) = IsSomeAnd (content path) (λ file. (bs : List Batch) × StandsFor file bs)
+
+-- ---- on the way
+
+-- the count of faults rose by so many, or stands at its type's end
+abbrev pub RoseBy : ℕ → ℕ → ℕ → Type 0
+RoseBy before after n = min (before + n) (2 ^ 64 - 1) ≤ after
+
+-- what stands for the progress of a run stands for this history, or for it with the write that is in doubt
+abbrev pub HoldsAs : Progress → History → List Run → Type 0
+HoldsAs p h runs = (file : List ℕ) → StandsForRun p file → Holds h runs file
+
+-- two progresses have the same batches, and the same write in doubt
+pub record SameStore (p q : Progress) : Type 0 where
+  pub stored : q.batches ≡ p.batches
+  pub doubted : q.doubt ≡ p.doubt
+
+-- the run is before its first line
+pub record IsAtStart (p : Progress) : Type 0 where
+  pub none : p.lines ≡ 0
+  pub served : (may : ℕ → Bool) → IsServed p.batches may [] [] p

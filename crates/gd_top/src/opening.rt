@@ -1,0 +1,130 @@
+//! The store is opened, and a run is served over it.
+ghost use Rattle.std.specs.Prelude.{◌≡◌, ◌≢◌, ◌≤◌, ◌^◌, ℕ, List, false, [], length, IfSome};
+ghost use Rattle.gd_base.specs.Counts.{Rose};
+ghost use Rattle.gd_bytes.specs.Disk.{HoldsSame};
+ghost use Rattle.gd_top.specs.Ends.{IsIdle, Prints, Causes};
+ghost use Rattle.gd_serving.specs.Running.{IsBacked};
+ghost use Rattle.gd_top.specs.Held.{Loads, Leaves, MayMean, DoesMean, RoseBy, HoldsAs, IsAtStart};
+
+use crate::rounds::serve_rounds;
+use crate::status::Status;
+use crate::steady::SteadyDisk;
+use gd_base::text::Text;
+use gd_disk::disk::Disk;
+use gd_disk::shelf::Shelf;
+use gd_log::opening::open_log;
+use gd_outside::clock::Clock;
+use gd_outside::sink::Sink;
+use gd_outside::source::Source;
+use gd_serving::serving::Serving;
+use std::alloc::Global;
+
+/// Serves the whole input, and says how that ended.
+fn serve_all<D: Disk, S: Source, K: Sink, C: Clock>(
+    alloc: Global,
+    serving: &mut Serving<D>,
+    source: &mut S,
+    sink: &mut K,
+    clock: &mut C,
+) -> Status
+    requires { IsAtStart serving.old.progress }
+    ensures prints { Prints result (C.may clock.old) (λ loaded. loaded ≡ serving.old.progress.batches)
+        (HoldsAs serving.new.progress) (RoseBy (D.faults serving.old.log.disk) (D.faults serving.new.log.disk)) ⊥
+        (S.left source.old) (S.left source.new) (K.held sink.old) (K.held sink.new) }
+    ensures causes { Causes result (Rose (S.faults source.old) (S.faults source.new))
+        (Rose (K.faults sink.old) (K.faults sink.new)) ⊥
+        (IfSome (S.left source.old) (λ input. 2 ^ 40 ≤ length input)) (λ _. ⊥) (λ _. ⊥) }
+    ensures used { result ≢ Status.Usage }
+    ensures backed { IsBacked D.content D.images serving.old → IsBacked D.content D.images serving.new }
+    ensures later { D.faults serving.old.log.disk ≤ D.faults serving.new.log.disk }
+{
+    match serve_rounds(alloc, serving, source, sink, clock) {
+        Ok(()) => Status::Done,
+        Err(stop) => Status::of_stop(stop),
+    }
+}
+
+/// Opens the store that a disk holds, before the first line is read, and serves the whole input over it. The disk is
+/// handed back, however it ends.
+fn serve_over<D: Disk, S: Source, K: Sink, C: Clock>(
+    alloc: Global,
+    disk: D,
+    source: &mut S,
+    sink: &mut K,
+    clock: &mut C,
+) -> (Status, D)
+    ensures prints { Prints result.0 (C.may clock.old) (Loads (D.content disk)) (Leaves (D.content disk) (D.images result.1))
+        (RoseBy (D.faults disk) (D.faults result.1)) (IsIdle source.old source.new sink.old sink.new)
+        (S.left source.old) (S.left source.new) (K.held sink.old) (K.held sink.new) }
+    ensures causes { Causes result.0 (Rose (S.faults source.old) (S.faults source.new))
+        (Rose (K.faults sink.old) (K.faults sink.new)) (Rose (D.faults disk) (D.faults result.1))
+        (IfSome (S.left source.old) (λ input. 2 ^ 40 ≤ length input)) (MayMean (D.content disk)) (DoesMean (D.content disk)) }
+    ensures used { result.0 ≢ Status.Usage }
+    ensures later { D.faults disk ≤ D.faults result.1 }
+{
+    match open_log(alloc, disk) {
+        Ok((log, store)) => {
+            let mut serving = Serving::new(log, store);
+            let status = serve_all(alloc, &mut serving, source, sink, clock);
+            (status, serving.into_disk())
+        }
+        Err((fault, disk)) => (Status::of_store(fault), disk),
+    }
+}
+
+/// Serves the whole input over the store that a path of a shelf holds. The device is put back, however it ends.
+pub fn serve_in_file<S: Source, K: Sink, F: Shelf, C: Clock>(
+    alloc: Global,
+    path: &Text,
+    source: &mut S,
+    sink: &mut K,
+    shelf: &mut F,
+    clock: &mut C,
+) -> Status
+    requires { (other : List ℕ) → F.is_out shelf.old other ≡ false }
+    ensures back { (other : List ℕ) → F.is_out shelf.new other ≡ false }
+    ensures prints { Prints result (C.may clock.old) (Loads (F.content shelf.old path.now))
+        (Leaves (F.content shelf.old path.now) (F.images shelf.new path.now))
+        (RoseBy (F.faults shelf.old) (F.faults shelf.new)) (IsIdle source.old source.new sink.old sink.new)
+        (S.left source.old) (S.left source.new) (K.held sink.old) (K.held sink.new) }
+    ensures causes { Causes result (Rose (S.faults source.old) (S.faults source.new))
+        (Rose (K.faults sink.old) (K.faults sink.new)) (Rose (F.faults shelf.old) (F.faults shelf.new))
+        (IfSome (S.left source.old) (λ input. 2 ^ 40 ≤ length input))
+        (MayMean (F.content shelf.old path.now)) (DoesMean (F.content shelf.old path.now)) }
+    ensures used { result ≢ Status.Usage }
+    ensures others { (other : List ℕ) → other ≢ path.now → HoldsSame (F.content shelf.old other) (F.content shelf.new other)
+        (F.images shelf.old other) (F.images shelf.new other) }
+{
+    match shelf.open_at(path) {
+        Ok(device) => {
+            let (status, device) = serve_over(alloc, device, source, sink, clock);
+            shelf.put_back(path, device);
+            status
+        }
+        Err(fault) => Status::of_shelf(fault),
+    }
+}
+
+/// Serves the whole input over an empty store that is kept in memory alone.
+pub fn serve_in_memory<S: Source, K: Sink, C: Clock>(
+    alloc: Global,
+    source: &mut S,
+    sink: &mut K,
+    clock: &mut C,
+) -> Status
+    ensures prints { Prints result (C.may clock.old) (λ loaded. loaded ≡ []) (λ _ _. Unit {0}) (RoseBy 0 0)
+        (IsIdle source.old source.new sink.old sink.new)
+        (S.left source.old) (S.left source.new) (K.held sink.old) (K.held sink.new) }
+    ensures causes { Causes result (Rose (S.faults source.old) (S.faults source.new))
+        (Rose (K.faults sink.old) (K.faults sink.new)) ⊥
+        (IfSome (S.left source.old) (λ input. 2 ^ 40 ≤ length input)) (λ _. ⊥) (λ _. ⊥) }
+    ensures used { result ≢ Status.Usage }
+{
+    match SteadyDisk::new(alloc) {
+        Ok(disk) => {
+            let (status, _disk) = serve_over(alloc, disk, source, sink, clock);
+            status
+        }
+        Err(_refused) => Status::Memory,
+    }
+}
