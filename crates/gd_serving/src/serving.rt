@@ -7,24 +7,24 @@ ghost use Rattle.gd_prim.specs.History.{is_history, prims_of};
 ghost use Rattle.gd_prim.specs.WellFormed.{max_moment};
 ghost use Rattle.gd_tree.specs.Json.{compact};
 ghost use Rattle.gd_json.specs.View.{view};
-ghost use Rattle.gd_defs.specs.Lines.{err_line as err_line_of};
+ghost use Rattle.gd_defs.specs.Lines.{ok_line as ok_line_of, err_line as err_line_of};
 ghost use Rattle.gd_defs.specs.Write.{full};
 ghost use Rattle.gd_bytes.specs.Disk.{LeavesOnly};
 ghost use Rattle.gd_journal.specs.Causes.{HasReason};
 ghost use Rattle.gd_runs.specs.Request.{reply_of, change_refusal};
 ghost use Rattle.gd_runs.specs.Input.{line_at, input_fault_line, line_too_long};
-ghost use Rattle.gd_runs.specs.Explained.{MayBe, tells_fault, memory_line as memory_line_of};
+ghost use Rattle.gd_runs.specs.Explained.{MayBe, tells_fault, disk_line as disk_line_of, memory_line as memory_line_of};
 ghost use Rattle.gd_runs.specs.Built.{is_built, line_asked, says_name as says_name_of, name_request, create_request};
 ghost use Rattle.gd_mql.specs.Line.{GivesLine, fault_view, line_view};
-ghost use Rattle.gd_change.specs.Fault.{fault_of, IsSmall};
+ghost use Rattle.gd_change.specs.Fault.{GivesChange, fault_of, IsSmall};
 ghost use Rattle.gd_input.specs.Line.{IsKept, IsShort};
 ghost use Rattle.gd_serving.specs.Served.{Progress, GoesOn, IsServed};
-ghost use Rattle.gd_serving.specs.Step.{ComesTo, Settles, MaySettle, AsksWrite, line_now};
+ghost use Rattle.gd_serving.specs.Step.{ComesTo, Settles, MaySettle, AsksWrite, exec_now, line_now};
 ghost use Rattle.gd_serving.specs.Running.{IsBacked, StandsForEither};
 ghost use Rattle.gd_serving.specs.Ready.{MayAbsorb};
 ghost use Rattle.gd_serving.specs.Kept.{Backs, appended};
 
-use crate::disk_line::disk_fault;
+use crate::fault_line::disk_line;
 use crate::held;
 use gd_base::memory::Memory;
 use gd_change::fault::ChangeFault;
@@ -368,7 +368,7 @@ impl<D: Disk> Serving<D> {
     {
         match self.end_doubt() {
             Ok(()) => self.change(alloc, clock, request, bytes),
-            Err(JournalFault::DiskFault) => disk_fault(alloc, self.lines, "no"),
+            Err(JournalFault::DiskFault) => self.disk_reply(alloc, "no"),
             Err(_) => Err(Memory),
         }
     }
@@ -417,24 +417,70 @@ impl<D: Disk> Serving<D> {
         ensures same { C.may clock.new ≡ C.may clock.old }
     {
         let moment = moment(clock);
-        let (batch, answer) = match evaluate(alloc, &self.store, request, moment) {
+        let (batch, answer) = match self.evaluate(alloc, request, moment) {
             Ok(done) => done,
             Err(fault) => return self.change_reply(alloc, fault),
         };
         let kept = bytes as u64 + text_len(alloc, &answer)?;
-        let count = self.kept + kept;
+        let count = self.count_with(kept);
         if count > HISTORY_LIMIT {
             return self.full_reply(alloc, count);
         }
 
         // After the append no memory may be wanting.
-        let stored = ok_line(alloc, self.store.requests() + 1, self.lines, answer)?;
-        let in_doubt = disk_fault(alloc, self.lines, "maybe")?;
+        let stored = self.stored_reply(alloc, answer)?;
+        let in_doubt = self.disk_reply(alloc, "maybe")?;
         match self.append(alloc, Pending { batch, kept }) {
             Ok(()) => Ok(stored),
             Err(JournalFault::DiskFault) => Ok(in_doubt),
             Err(_) => Err(Memory),
         }
+    }
+
+    /// What a write does after the batches of the store, at a moment.
+    fn evaluate(
+        &self,
+        alloc: Global,
+        request: &WriteRequest,
+        moment: u64,
+    ) -> Result<(Batch, Json), ChangeFault>
+        requires says { says_name_of (prims_of self.now.progress.batches) ≡ true }
+        requires moment { moment ≤ LAST_MOMENT }
+        ensures exec { GivesChange (exec_now self.now.progress
+            (create_request request.now.asks_guid request.now.name) moment) result }
+        ensures small { IfErr result (IsSmall) }
+        ensures absorbs { IfOk result (λ done. MayAbsorb self.now.progress.batches done.0) }
+        ensures moment { IfOk result (λ done. done.0.moment ≤ max_moment) }
+        ensures says { IfOk result (λ done. says_name_of (prims_of (self.now.progress.batches ++ done.0 ∷ []))
+            ≡ says_name_of (prims_of self.now.progress.batches)) }
+    {
+        evaluate(alloc, &self.store, request, moment)
+    }
+
+    /// The bytes that the history has with so many more.
+    fn count_with(&self, kept: u64) -> u64
+        requires { kept < 2 ^ 62 }
+        ensures count { result ≡ self.now.progress.kept + kept }
+        ensures small { result < 2 ^ 63 }
+    {
+        self.kept + kept
+    }
+
+    /// The reply to a write that is stored next, with its result.
+    fn stored_reply(&self, alloc: Global, answer: Json) -> Result<Vec<u8>, Memory>
+        requires { self.now.progress.lines < 2 ^ 63 }
+        ensures { IfOk result (λ reply. reply.items ≡ ok_line_of (length self.now.progress.batches + 1)
+            self.now.progress.lines (view answer)) }
+    {
+        ok_line(alloc, self.store.requests() + 1, self.lines, answer)
+    }
+
+    /// The reply to a write at which the disk failed, with a word that says whether it is stored.
+    fn disk_reply(&self, alloc: Global, stored: &str) -> Result<Vec<u8>, Memory>
+        requires { self.now.progress.lines < 2 ^ 63 }
+        ensures { IfOk result (λ reply. reply.items ≡ disk_line_of self.now.progress.lines stored.now) }
+    {
+        disk_line(alloc, self.lines, stored)
     }
 
     /// Stores a write. `DiskFault`: the disk failed, and the write is in doubt. Any other error: nothing was stored.
