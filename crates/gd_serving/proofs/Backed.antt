@@ -1,5 +1,7 @@
 -- What a step of a run keeps of its disk.
-use Rattle.std.proofs.Common.{◌≡◌, ◌≤◌, ℕ, List, [], ◌∷◌, ◌++◌, Option, Some, None, Result, Ok, Err, refl, sym, ap, subst, ◌∙◌, inl, inr, ⊎_elim, arith, length, length-append, take, ◌-◌, ◌⊎◌}
+use Rattle.std.proofs.Common.{◌≡◌, ◌≤◌, ℕ, List, [], ◌∷◌, ◌++◌, Option, Some, None, Result, Ok, Err, refl, sym, ap, subst, ◌∙◌, inl, inr, ⊎_elim, arith, length, length-append, take, ◌-◌, ◌+◌, ◌⊎◌, Bool, true, false, if◌then◌else◌, add-zero, ◌↔◌}
+use Rattle.std.specs.Option.{is_some}
+use Rattle.std.specs.Prelude.{IsSome, IsErrOf}
 use Rattle.std.proofs.Math.Seq.{take-append_seam}
 use Rattle.gd_prim.specs.declared.Batch.{Batch}
 use Rattle.gd_prim.specs.History.{prims_of}
@@ -42,6 +44,28 @@ settled_stands p m (counts d some is) c now =
 settled_stands p m (counts_not d some is) c now =
     let at : StandsFor c p.batches = subst (λ (q : Progress). StandsForRun q c) is now in
     subst (λ (o : Option Doubt). MayStand p.batches o c) (sym some) (inl at)
+
+-- an append leaves a doubt just where the disk failed
+pub doubted : (o : Option ℕ) (b : Bool) (fault : JournalFault) (d : Doubt) → b ≡ true → b ≡ is_some o → (IsSome o ↔ IsErrOf {T = Unit {0}} (Err fault) DiskFault) → Some d ≡ doubt_after (Err fault) d
+doubted o b fault d was told just =
+    let failed : Result (Unit {0}) JournalFault = Err fault in
+    let is : failed ≡ Err DiskFault = just.0 (sym told ∙ was) in
+    let same : fault ≡ DiskFault = cc in
+    ap (λ (f : JournalFault). doubt_after (Err f) d) (sym same)
+
+pub not_doubted : (o : Option ℕ) (b : Bool) (fault : JournalFault) (d : Doubt) → b ≡ false → b ≡ is_some o → (IsSome o ↔ IsErrOf {T = Unit {0}} (Err fault) DiskFault) → None ≡ doubt_after (Err fault) d
+not_doubted o b DiskFault d was told just = let some = just.1 refl in cc
+not_doubted o b NotStore d was told just = refl
+not_doubted o b (Damaged offset) d was told just = refl
+not_doubted o b Memory d was told just = refl
+
+-- a doubt that ended, by its parts
+pub settles_by : (p : Progress) (bs cs : List Batch) (lines kept more : ℕ) (o : Option Doubt) (d : Doubt) (b : Bool) → (let before : Progress = record { batches = bs; lines = lines; kept = kept; doubt = o } in before) ≡ p → o ≡ Some d
+    → cs ≡ (if b then bs ++ d.batch ∷ [] else bs) → more ≡ (if b then d.kept else 0) → Settles p (record { batches = cs; lines = lines; kept = kept + more; doubt = None })
+settles_by p bs cs lines kept more o d true view some same count = subst (λ (q : Progress). Settles q (record { batches = cs; lines = lines; kept = kept + more; doubt = None })) view (counts d some (rw (same, count) refl))
+settles_by p bs cs lines kept more o d false view some same count =
+    subst (λ (q : Progress). Settles q (record { batches = cs; lines = lines; kept = kept + more; doubt = None })) view
+    (counts_not d some (rw (same, count, add-zero) refl))
 
 -- a batch that was taken in and taken away again
 pub retracted : (bs more after : List Batch) (b : Batch) → more ≡ bs ++ b ∷ [] → after ≡ take (length more - 1) more → after ≡ bs
@@ -88,23 +112,24 @@ module _ {D : Type 0} (content : D → Option (List ℕ)) (moment : D → ℕ) (
     }
 
     -- a step of the log and the store, by its parts
-    pub backs_by : (log after : Journaled D) (bs cs : List Batch) (lines kept count : ℕ) (o p n : Option Doubt) → o ≡ p
+    pub backs_by : (log after : Journaled D) (bs cs : List Batch) (lines kept count : ℕ) (o p m n : Option Doubt) → o ≡ p → m ≡ n
         → (HoldsLog content images log bs p → HoldsLog content images after cs n)
         → (HoldsLog content images log bs p → LeavesOnly moment images images_since log.disk after.disk (λ file. MayStand bs p file ⊎ MayStand cs n file))
         → faults log.disk ≤ faults after.disk
-        → Keeps (record { progress = record { batches = bs; lines = lines; kept = kept; doubt = o }; log = log }) (record { progress = record { batches = cs; lines = lines; kept = count; doubt = n }; log = after })
-    backs_by log after bs cs lines kept count o p n is holds moments later =
-        subst (λ (d : Option Doubt). Keeps (record { progress = record { batches = bs; lines = lines; kept = kept; doubt = d }; log = log }) (record { progress = record { batches = cs; lines = lines; kept = count; doubt = n }; log = after })) (sym is)
-        (record { backed = holds; moments = moments; later = later })
+        → Keeps (record { progress = record { batches = bs; lines = lines; kept = kept; doubt = o }; log = log }) (record { progress = record { batches = cs; lines = lines; kept = count; doubt = m }; log = after })
+    backs_by log after bs cs lines kept count o p m n was is holds moments later =
+        subst (λ (d : Option Doubt). Keeps (record { progress = record { batches = bs; lines = lines; kept = kept; doubt = d }; log = log }) (record { progress = record { batches = cs; lines = lines; kept = count; doubt = m }; log = after })) (sym was)
+        (subst (λ (d : Option Doubt). Keeps (record { progress = record { batches = bs; lines = lines; kept = kept; doubt = p }; log = log }) (record { progress = record { batches = cs; lines = lines; kept = count; doubt = d }; log = after })) (sym is)
+        (record { backed = holds; moments = moments; later = later }))
 
     -- the end of a doubt, whose moments leave what the run had before
-    pub backs_end : (log after : Journaled D) (bs cs : List Batch) (lines kept count : ℕ) (o p n : Option Doubt) → o ≡ p
+    pub backs_end : (log after : Journaled D) (bs cs : List Batch) (lines kept count : ℕ) (o p m n : Option Doubt) → o ≡ p → m ≡ n
         → (HoldsLog content images log bs p → HoldsLog content images after cs n)
         → (HoldsLog content images log bs p → LeavesOnly moment images images_since log.disk after.disk (MayStand bs p))
         → faults log.disk ≤ faults after.disk
-        → Keeps (record { progress = record { batches = bs; lines = lines; kept = kept; doubt = o }; log = log }) (record { progress = record { batches = cs; lines = lines; kept = count; doubt = n }; log = after })
-    backs_end log after bs cs lines kept count o p n is holds moments later =
-        backs_by log after bs cs lines kept count o p n is holds
+        → Keeps (record { progress = record { batches = bs; lines = lines; kept = kept; doubt = o }; log = log }) (record { progress = record { batches = cs; lines = lines; kept = count; doubt = m }; log = after })
+    backs_end log after bs cs lines kept count o p m n was is holds moments later =
+        backs_by log after bs cs lines kept count o p m n was is holds
         (λ held. leaves_weaken moment images images_since log.disk after.disk (MayStand bs p) (λ file. MayStand bs p file ⊎ MayStand cs n file) (λ c now. inl now) (moments held)) later
 
     -- two steps, of which the first ends a doubt

@@ -1,5 +1,5 @@
 //! A run that is served line by line over the log of a disk.
-ghost use Rattle.std.specs.Prelude.{◌≡◌, ◌≢◌, ◌≤◌, ◌<◌, ◌+◌, ◌++◌, ◌∷◌, ◌^◌, ℕ, Bool, List, true, false, length, Ok, Err, None, Some, IsErr, IfOk, IfErr, IfSome, OnOk, OnErr, MatchResult, min, []};
+ghost use Rattle.std.specs.Prelude.{◌≡◌, ◌≢◌, ◌≤◌, ◌<◌, ◌+◌, ◌++◌, ◌∷◌, ◌^◌, ℕ, Bool, List, true, false, length, Ok, Err, None, Some, IsErr, IfOk, IfErr, IfSome, OnOk, OnErr, MatchResult, if◌then◌else◌, []};
 ghost use Rattle.gd_base.specs.Counts.{Rose};
 ghost use Rattle.gd_prim.specs.declared.Primitive.{Primitive};
 ghost use Rattle.gd_prim.specs.declared.What.TheVariants as what;
@@ -116,6 +116,13 @@ fn text_len(alloc: Global, value: &Json) -> Result<u64, Memory>
         return Err(Memory);
     }
     Ok(len)
+}
+
+/// The bytes of a write, where it counts.
+fn counted(kept: u64, counts: bool) -> u64
+    ensures { result ≡ (if counts then kept else 0) }
+{
+    if counts { kept } else { 0 }
 }
 
 /// What a line is over a store that says something else of the property `name` than the built-in list: no form is built.
@@ -385,9 +392,8 @@ impl<D: Disk> Serving<D> {
         let Some(pending) = &self.pending else {
             return Ok(());
         };
-        if held::settle(&mut self.log, &mut self.store, &pending.batch)? {
-            self.kept += pending.kept;
-        }
+        let counts = held::settle(&mut self.log, &mut self.store, &pending.batch)?;
+        self.kept += counted(pending.kept, counts);
         self.pending = None;
         Ok(())
     }
@@ -501,11 +507,13 @@ impl<D: Disk> Serving<D> {
                 self.kept += write.kept;
                 Ok(())
             }
-            Err(JournalFault::DiskFault) => {
-                self.pending = Some(write);
-                Err(JournalFault::DiskFault)
+            Err(fault) => {
+                if self.log.in_doubt() {
+                    self.pending = Some(write);
+                    return Err(fault);
+                }
+                Err(fault)
             }
-            Err(fault) => Err(fault),
         }
     }
 }
