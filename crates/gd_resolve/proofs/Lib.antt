@@ -1,2 +1,4 @@
 pub mod Scans
 pub mod Name
+pub mod Guids
+pub mod Keys

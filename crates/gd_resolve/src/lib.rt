@@ -2,5 +2,7 @@
 #![tactic(auto)]
 
 pub mod fault;
+pub mod ids;
 mod look;
+mod path;
 pub mod property;
