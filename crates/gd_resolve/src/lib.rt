@@ -5,4 +5,6 @@ pub mod fault;
 pub mod ids;
 mod look;
 mod path;
+pub mod up;
+pub mod words;
 pub mod property;

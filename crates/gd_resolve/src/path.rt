@@ -1,5 +1,5 @@
 //! What the text of an id spells: a guid, or keys.
-ghost use Rattle.std.specs.Prelude.{◌≡◌, ◌≤◌, ◌<◌, ◌^◌, Some, None, length, map, take, drop, nat_eq, nat_le, ◌&&◌, codes, IfOk, IfSome, option_map};
+ghost use Rattle.std.specs.Prelude.{◌≡◌, ◌≤◌, ◌<◌, ◌^◌, Some, None, length, map, take, drop, nat_eq, nat_le, ◌&&◌, true, codes, IfOk, IfSome, option_map};
 ghost use Rattle.std.specs.List.{list_all, slice_split, starts_with};
 ghost use Rattle.gd_defs.specs.Ids as defined;
 
@@ -100,7 +100,9 @@ fn starts_with_slash(text: &str) -> bool
 
 /// The keys of an id that is no guid: none for `/`, else 1 to 16.
 pub(crate) fn id_keys<'a>(alloc: Global, text: &'a str) -> Result<Option<Vec<&'a str>>, Memory>
-    ensures { IfOk result (λ keys. option_map (λ keys. map (λ key. key.now) keys.items) keys ≡ defined.id_keys text.now) }
+    ensures found { IfOk result (λ keys. option_map (λ keys. map (λ key. key.now) keys.items) keys ≡ defined.id_keys text.now) }
+    ensures few { IfOk result (λ keys. IfSome keys (λ keys. length keys.items ≤ 16)) }
+    ensures each { IfOk result (λ keys. IfSome keys (λ keys. list_all (λ key. defined.is_key key.now) keys.items ≡ true)) }
 {
     if text == "/" {
         return Ok(Some(Vec::new(alloc)));
