@@ -3,3 +3,4 @@ pub mod Name
 pub mod Guids
 pub mod Keys
 pub mod Ways
+pub mod Last

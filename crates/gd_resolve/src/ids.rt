@@ -6,6 +6,7 @@ ghost use Rattle.gd_prim.specs.Builtin.{root_place};
 ghost use Rattle.gd_prim.specs.History.{prims_of};
 ghost use Rattle.gd_prim.specs.Live as live;
 ghost use Rattle.gd_defs.specs.Ids as defined;
+ghost use Rattle.gd_resolve.specs.Asked as asked;
 ghost use Rattle.gd_resolve.specs.Asked.{id_asked};
 
 use crate::fault::ResolveFault;
@@ -60,8 +61,20 @@ fn guid_object<L>(view: &View<'_>, text: &str, steps: &mut Steps<L>) -> Option<I
     }
 }
 
-/// The object that a key in a namespace leads to: the left end of the last link of that key into that namespace, if the
-/// link is live and an object stands there.
+/// The left end of a link, if the link is live and an object stands there.
+pub(crate) fn link_leads<L>(view: &View<'_>, link: Id, steps: &mut Steps<L>) -> Option<Id>
+    ensures leads { result ≡ asked.link_leads (prims_of view.now) link }
+    ensures work { steps.new ≤ steps.old + 6 }
+    ensures later { steps.old ≤ steps.new }
+{
+    if !view.is_live(link, steps) {
+        return None;
+    }
+    let object = left_at(view, link, steps)?;
+    object_at(view, object, steps)
+}
+
+/// The object that a key in a namespace leads to: what the last link of that key into that namespace leads to.
 pub(crate) fn key_leads<L>(
     view: &View<'_>,
     namespace: Id,
@@ -73,11 +86,7 @@ pub(crate) fn key_leads<L>(
     ensures later { steps.old ≤ steps.new }
 {
     let link = view.by_key(namespace, key, steps)?;
-    if !view.is_live(link, steps) {
-        return None;
-    }
-    let object = left_at(view, link, steps)?;
-    object_at(view, object, steps)
+    link_leads(view, link, steps)
 }
 
 /// The object that keys lead to from the root, each in the object that the one before leads to.
