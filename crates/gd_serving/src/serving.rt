@@ -27,6 +27,7 @@ ghost use Rattle.gd_serving.specs.Kept.{Backs, appended};
 use crate::fault_line::disk_line;
 use crate::held;
 use gd_base::memory::Memory;
+use gd_base::steps::Steps;
 use gd_change::fault::ChangeFault;
 use gd_change::write::evaluate;
 use gd_disk::disk::Disk;
@@ -139,6 +140,15 @@ fn unbuilt(alloc: Global, line: Result<Line, LineFault>) -> LineFault
     }
 }
 
+/// Whether a store says of the property `name` what the built-in list says.
+fn says_name_in(store: &Store) -> bool
+    ensures tested { result ≡ says_name_of (prims_of store.now) }
+    ensures history { IsTrue (is_history store.now) }
+{
+    let mut steps: Steps<Opening> = Steps::new();
+    says_name(&store.view(store.requests()), &mut steps)
+}
+
 impl<D: Disk> Serving<D> {
     /// A run that begins with what `open_log` gave: a log, and the store of its batches. It takes no memory.
     pub fn new(log: Log<D>, store: Store) -> Serving<D>
@@ -147,7 +157,7 @@ impl<D: Disk> Serving<D> {
         ensures progress { result.progress ≡ record { batches = store; lines = 0; kept = 0; doubt = None } }
         ensures served { (may : ℕ → Bool) → IsServed store may [] [] result.progress }
     {
-        let says_name = says_name(store.primitives());
+        let says_name = says_name_in(&store);
         Serving {
             log,
             store,

@@ -150,10 +150,13 @@ impl Store {
     }
 
     /// How many requests were stored.
-    #[tactic(auto, using(crate::proofs::Stored::count_of_batches))]
+    #[tactic(auto, using(crate::proofs::Stored::count_of_batches, crate::proofs::Stored::history_of_batches))]
     pub fn requests(&self) -> u32
         ensures count { result ≡ length self.now }
         ensures few { result ≤ 4_194_303 }
+
+        // Each batch may follow those before it, within the limits.
+        ensures history { IsTrue (is_history self.now) }
     {
         self.requests.len() as u32
     }
