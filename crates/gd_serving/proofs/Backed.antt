@@ -1,10 +1,9 @@
 -- What a step of a run keeps of its disk.
-use Rattle.std.proofs.Common.{◌≡◌, ◌≤◌, ℕ, List, [], ◌∷◌, ◌++◌, Option, Some, None, Result, Ok, Err, refl, sym, ap, subst, ◌∙◌, inl, inr, ⊎_elim, arith, length, length-append, take, ◌-◌, ◌+◌, ◌⊎◌, Bool, true, false, if◌then◌else◌, add-zero, ◌↔◌}
+use Rattle.std.proofs.Common.{◌≡◌, ◌≤◌, ℕ, List, [], ◌∷◌, ◌++◌, Option, Some, None, Result, Err, refl, sym, ap, subst, ◌∙◌, inl, inr, ⊎_elim, arith, length, length-append, take, ◌-◌, ◌+◌, ◌⊎◌, Bool, true, false, if◌then◌else◌, add-zero, ◌↔◌}
 use Rattle.std.specs.Option.{is_some}
 use Rattle.std.specs.Prelude.{IsSome, IsErrOf}
 use Rattle.std.proofs.Math.Seq.{take-append_seam}
 use Rattle.gd_prim.specs.declared.Batch.{Batch}
-use Rattle.gd_prim.specs.History.{prims_of}
 use Rattle.gd_bytes.specs.Disk.{LeavesOnly, IsUntouched}
 use Rattle.gd_bytes.specs.File.{StandsFor, MayStandFor}
 use Rattle.gd_disk.specs.Runs.{leaves_start, leaves_join, leaves_weaken, leaves_untouched}
@@ -12,10 +11,10 @@ use Rattle.gd_journal.specs.State.{Journaled}
 use Rattle.gd_journal.specs.Causes.{HasReason}
 use Rattle.gd_journal.specs.declared.fault.JournalFault.{JournalFault}
 use Rattle.gd_journal.specs.declared.fault.JournalFault.TheVariants.{DiskFault, NotStore, Damaged, Memory}
-use Rattle.gd_log.specs.State.{IsHeld, IsUnsure, HoldsBefore}
+use Rattle.gd_log.specs.State.{IsHeld, HoldsBefore}
 use Rattle.gd_serving.specs.Served.{Progress, Doubt}
 use Rattle.gd_serving.specs.Step.{Settles, no_doubt, counts, counts_not}
-use Rattle.gd_serving.specs.Running.{Running, HoldsRun, IsBacked, StandsForRun, StandsForEither}
+use Rattle.gd_serving.specs.Running.{Running, HoldsRun, StandsForRun, StandsForEither}
 use Rattle.gd_serving.specs.Ready.{MayAbsorb}
 use Rattle.gd_serving.specs.Kept.{Backs, HoldsLog, MayStand, doubt_after}
 

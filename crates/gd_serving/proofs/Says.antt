@@ -1,5 +1,5 @@
 -- What a store says of the property `name`.
-use Rattle.std.proofs.Common.{◌≡◌, List, [], ◌∷◌, ◌++◌, length, Bool, true, ap, sym, ◌∙◌}
+use Rattle.std.proofs.Common.{◌≡◌, List, [], ◌∷◌, ◌++◌, length, true, ap, sym, ◌∙◌}
 use Rattle.gd_prim.specs.declared.Batch.{Batch}
 use Rattle.gd_prim.specs.History.{prims_of, prims_at}
 use Rattle.gd_runs.specs.Built.{SaysName, says_name}

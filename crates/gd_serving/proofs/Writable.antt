@@ -1,6 +1,6 @@
 -- A batch that may follow may be written as a group, and its bytes are few.
-use Rattle.std.proofs.Common.{◌≡◌, ◌≤◌, ◌<◌, ℕ, ◌+◌, ◌*◌, List, [], ◌∷◌, ◌++◌, length, Bool, true, false, ◌&&◌, if◌then◌else◌, Option, Some, None, Result, Ok, Err, refl, sym, ap, subst, ◌∙◌, arith, nat_lt, length-append, drop}
-use Rattle.std.specs.Prelude.{flat_map, sum_by, nat_le, nat_eq}
+use Rattle.std.proofs.Common.{◌≡◌, ◌≤◌, ℕ, ◌+◌, ◌*◌, List, [], ◌∷◌, ◌++◌, length, Bool, true, false, if◌then◌else◌, Option, Some, None, refl, arith, nat_lt, length-append}
+use Rattle.std.specs.Prelude.{flat_map, sum_by, nat_eq}
 use Rattle.std.specs.List.{AllByRecursion}
 use Rattle.std.proofs.lemmas.Bool.{and_parts}
 use Rattle.std.proofs.lemmas.Bool.Decides.{nat_tests}
@@ -9,11 +9,11 @@ use Rattle.gd_base.specs.declared.datum.Datum.{Datum}
 use Rattle.gd_base.specs.declared.datum.Datum.TheVariants as datum
 use Rattle.gd_prim.specs.declared.Primitive.{Primitive}
 use Rattle.gd_prim.specs.declared.Batch.{Batch}
-use Rattle.gd_prim.specs.WellFormed.{max_moment, is_well_placed, first_bad, may_hold}
-use Rattle.gd_prim.specs.Limits.{limits, first_full, text_bytes, max_batch, max_text}
+use Rattle.gd_prim.specs.WellFormed.{max_moment, is_well_placed, first_bad}
+use Rattle.gd_prim.specs.Limits.{limits, first_full, text_bytes}
 use Rattle.gd_prim.specs.History.{prims_of}
 use Rattle.gd_bytes.specs.Group.{spelling, batch_bytes, primitive_bytes, reference_bytes, value_bytes, name_bytes}
-use Rattle.gd_codec.specs.Writable.{PrimitiveMay, BatchMay, MayWrite}
+use Rattle.gd_codec.specs.Writable.{PrimitiveMay, MayWrite}
 use Rattle.gd_serving.specs.Ready.{MayAbsorb}
 
 -- ---- a well formed batch may be written

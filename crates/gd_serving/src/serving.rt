@@ -85,13 +85,13 @@ impl<D: Disk> Model for Serving<D> {
     ghost Value = { Running D };
 
     ghost view = { λ s. record {
-        progress = record {
-            batches = s.store;
-            lines = s.lines;
-            kept = s.kept;
-            doubt = option_map (λ p. record { batch = p.batch; kept = p.kept }) s.pending;
-        };
-        log = s.log;
+      progress = record {
+        batches = s.store;
+        lines = s.lines;
+        kept = s.kept;
+        doubt = option_map (λ p. record { batch = p.batch; kept = p.kept }) s.pending;
+      };
+      log = s.log;
     } };
 
     ghost invariant = { λ s. IsReady s.store s.kept s.says_name s.log.doubt
@@ -217,13 +217,13 @@ impl<D: Disk> Serving<D> {
     fn next_line(&mut self)
         requires { self.old.progress.lines < 2 ^ 63 }
         ensures { self.new ≡ record {
-            progress = record {
-                batches = self.old.progress.batches;
-                lines = self.old.progress.lines + 1;
-                kept = self.old.progress.kept;
-                doubt = self.old.progress.doubt;
-            };
-            log = self.old.log;
+          progress = record {
+            batches = self.old.progress.batches;
+            lines = self.old.progress.lines + 1;
+            kept = self.old.progress.kept;
+            doubt = self.old.progress.doubt;
+          };
+          log = self.old.log;
         } }
     {
         self.lines += 1;
@@ -527,3 +527,6 @@ impl<D: Disk> Serving<D> {
         }
     }
 }
+
+#[cfg(test)]
+mod tests;

@@ -1,6 +1,6 @@
-use Rattle.std.proofs.Common.{◌≡◌, ◌+◌, Option, None, Some, Err, option_map, refl, ap, sym, subst, ◌∙◌}
+use Rattle.std.proofs.Common.{◌≡◌, ◌+◌, Option, None, Some, Err, option_map, ap, subst, ◌∙◌}
 use Rattle.gd_serving.specs.declared.serving.Pending.{Pending}
-use Rattle.gd_serving.specs.Served.{Doubt, Progress}
+use Rattle.gd_serving.specs.Served.{Doubt}
 use Rattle.gd_serving.specs.Running.{Running}
 use Rattle.gd_serving.specs.Kept.{Backs, doubt_after}
 use Rattle.gd_serving.proofs.Backed.{backs_by, doubted, not_doubted}

@@ -1,5 +1,4 @@
-use Rattle.std.proofs.Common.{ℕ, ◌+◌, None, Vec, Global, ap, refl, ◌∙◌, arith, codes}
-use Rattle.gd_prim.specs.History.{prims_of}
+use Rattle.std.proofs.Common.{ℕ, ◌+◌, Vec, Global, ap, arith}
 use Rattle.gd_json.specs.View.{view}
 use Rattle.gd_runs.specs.Built.{create_request}
 use Rattle.gd_change.specs.Fault.{fault_of}

@@ -1,6 +1,6 @@
-use Rattle.std.proofs.Common.{◌≡◌, ◌+◌, Option, None, Some, option_map, refl, ap, sym, subst, ◌∙◌}
+use Rattle.std.proofs.Common.{◌≡◌, ◌+◌, Option, None, Some, option_map, refl, ap, subst}
 use Rattle.gd_serving.specs.declared.serving.Pending.{Pending}
-use Rattle.gd_serving.specs.Served.{Doubt, Progress}
+use Rattle.gd_serving.specs.Served.{Doubt}
 use Rattle.gd_serving.specs.Running.{Running}
 use Rattle.gd_serving.specs.Kept.{Backs}
 use Rattle.gd_serving.proofs.Backed.{settles_by, backs_end}

@@ -1,5 +1,4 @@
-use Rattle.std.proofs.Common.{List, ap, subst, sym, ◌∙◌}
-use Rattle.gd_prim.specs.declared.Primitive.{Primitive}
+use Rattle.std.proofs.Common.{ap, subst, sym}
 use Rattle.gd_runs.specs.Built.{SaysName}
 use Rattle.gd_serving.specs.Running.{Running}
 use Rattle.gd_serving.proofs.Says.{says_here}

@@ -1,4 +1,4 @@
-use Rattle.std.proofs.Common.{ℕ, List, Ok, Err, Vec, Global, length, ap, refl, ◌∙◌}
+use Rattle.std.proofs.Common.{ℕ, Ok, Err, Vec, Global, length, ap, refl, ◌∙◌}
 use Rattle.gd_mql.specs.declared.line.Line.{Line}
 use Rattle.gd_mql.specs.Line.{line_view}
 use Rattle.gd_runs.specs.Built.{name_request, create_request}

@@ -1,5 +1,4 @@
-use Rattle.std.proofs.Common.{ℕ, Vec, Global, sym, ◌∙◌, ap, subst}
-use Rattle.std.specs.Prelude.{OnErr}
+use Rattle.std.proofs.Common.{ℕ, Vec, Global}
 use Rattle.std.proofs.lemmas.Result.{on_err_weaker}
 use Rattle.gd_runs.specs.Built.{create_request}
 use Rattle.gd_serving.proofs.Backed.{backs_then, settled_stands}
