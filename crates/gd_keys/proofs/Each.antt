@@ -1,5 +1,5 @@
 -- What the new list under one key means for the list under every key.
-use Rattle.std.proofs.Common.{◌≡◌, ap, sym, ◌∙◌, subst, ℕ, List, [], Bool, true, false, cond, Option, Some, refl, ◌&&◌, eqb, ◌==◌}
+use Rattle.std.proofs.Common.{◌≡◌, sym, ◌∙◌, subst, ℕ, List, [], Bool, true, false, cond, Option, Some, refl, ◌&&◌, ◌==◌}
 use Rattle.std.specs.Prelude.{unwrap_or}
 use Rattle.std.specs.Ordering.{nat_cmp}
 use Rattle.std.specs.declared.cmp.Ordering.{Ordering}

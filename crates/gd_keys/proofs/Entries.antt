@@ -1,9 +1,9 @@
 -- What a list is with an identity more, and without its last one.
-use Rattle.std.proofs.Common.{◌≡◌, ℕ, ◌+◌, ◌-◌, ◌==◌, ◌&&◌, Bool, false, List, [], ◌∷◌, ◌++◌, length, take, Option, Some, None, IfSome, true, refl, sym, ap, ◌∙◌, subst, arith, length-append}
+use Rattle.std.proofs.Common.{◌≡◌, ℕ, zero, suc, ◌<◌, ◌+◌, ◌-◌, ◌==◌, Bool, false, List, [], ◌∷◌, ◌++◌, length, take, Option, Some, None, IfSome, true, refl, sym, ap, ◌∙◌, subst, arith, length-append}
 use Rattle.std.specs.Prelude.{IfNone, slice_get}
 use Rattle.std.proofs.Math.Bool.{and-false}
 use Rattle.std.proofs.Math.Seq.{take-append_seam}
-use Rattle.gd_postings.specs.Postings.{Places}
+use Rattle.gd_postings.specs.Postings.{Places, IsAbove}
 use Rattle.std.specs.Option.{option_map_or}
 use Rattle.gd_keys.specs.Keys.{without_entry, with_entry, last_of, is_under}
 
@@ -34,3 +34,18 @@ popped old new None some none = ap (λ (p : Places). p.ids) none.1 ∙ none.0 �
 pub is_under-none : (namespace : Option ℕ) (key : Option (List ℕ)) → key ≡ None → (n : ℕ) (k : List ℕ) → is_under namespace key n k ≡ false
 is_under-none namespace key is n k =
     subst (λ (o : Option (List ℕ)). is_under namespace o n k ≡ false) (sym is) (and-false (option_map_or (λ place. place == n) namespace false))
+
+-- each identity is above an empty list
+pub above_none : (ids : List ℕ) (id : ℕ) → ids ≡ [] → IsAbove ids id
+above_none ids id is i there = let count = ap length is in absurd (omega (arith, count, there))
+
+above_more : (ids : List ℕ) (last id : ℕ) → IsAbove ids id → last < id → IsAbove (ids ++ last ∷ []) id
+above_more [] last id above less zero there = less
+above_more [] last id above less (suc i) there = absurd (omega (arith, there))
+above_more (x ∷ xs) last id above less zero there = above 0 (omega arith)
+above_more (x ∷ xs) last id above less (suc i) there = above_more xs last id (λ j within. above (suc j) (omega (arith, within))) less i (omega (arith, there))
+
+-- an identity that is above a list and above what is entered is above the list then
+pub above_with : (test : Bool) (ids new : List ℕ) (last id : ℕ) → new ≡ with_entry test last ids → IsAbove ids id → last < id → IsAbove new id
+above_with false ids new last id is above less = subst (λ (more : List ℕ). IsAbove more id) (sym is) above
+above_with true ids new last id is above less = subst (λ (more : List ℕ). IsAbove more id) (sym is) (above_more ids last id above less)

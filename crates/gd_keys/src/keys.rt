@@ -69,7 +69,13 @@ impl Keys {
 
     /// Enters a key link at the end of the list of its namespace and key, if it has both, and of the list of its
     /// object, if it has one. Every other list stays. `Memory` leaves the identities of every list as they were.
-    pub fn add(&mut self, namespace: Option<Id>, key: Option<&Text>, object: Option<Id>, id: Id) -> Result<(), Memory>
+    pub fn add(
+        &mut self,
+        namespace: Option<Id>,
+        key: Option<&Text>,
+        object: Option<Id>,
+        id: Id,
+    ) -> Result<(), Memory>
         requires small { id < 2_097_151 }
         requires above_keys { ForSome namespace (λ n. ForSome (option_copied key) (λ k. IsAbove (key_list self.old n k).ids id)) }
         requires above_objects { ForSome object (λ o. IsAbove (object_list self.old o).ids id) }
@@ -113,7 +119,13 @@ impl Keys {
     }
 
     /// Enters a key link that has a key.
-    fn add_with_key(&mut self, namespace: Option<Id>, key: &Text, object: Option<Id>, id: Id) -> Result<(), Memory>
+    fn add_with_key(
+        &mut self,
+        namespace: Option<Id>,
+        key: &Text,
+        object: Option<Id>,
+        id: Id,
+    ) -> Result<(), Memory>
         requires small { id < 2_097_151 }
         requires above_keys { ForSome namespace (λ n. IsAbove (key_list self.old n key.now).ids id) }
         requires above_objects { ForSome object (λ o. IsAbove (object_list self.old o).ids id) }

@@ -4,6 +4,6 @@
 pub mod keys;
 mod names;
 mod objects;
-mod texts;
 #[cfg(test)]
 mod tests;
+mod texts;

@@ -5,7 +5,7 @@ use Rattle.std.specs.Str.{bytes_eq}
 use Rattle.std.specs.Ordering.{nat_cmp}
 use Rattle.std.specs.Map.{lookup}
 use Rattle.std.specs.BTreeMap.{is_at}
-use Rattle.gd_keys.specs.Lists.{pair_list, text_list, nothing}
+use Rattle.gd_keys.specs.Lists.{pair_list, text_list}
 use Rattle.gd_keys.proofs.Each.{each_pair}
 use Rattle.gd_postings.specs.Postings.{Places}
 use Rattle.gd_keys.specs.Keys.{without_entry}
@@ -14,7 +14,7 @@ use Rattle.gd_keys.proofs.names.Names.pop.Goals as goal
 pub pop-requires : goal.pop-requires
 pop-requires c =
     let held : pair_list c.self.inside.texts.entries c.args.namespace c.args.key.now ≡ text_list c.in-Some.texts.now c.args.key.now =
-        ap (λ o. text_list (unwrap_or o []) c.args.key.now) (sym c.in-Some.ensures.value) in
+    ap (λ o. text_list (unwrap_or o []) c.args.key.now) (sym c.in-Some.ensures.value) in
     subst (λ (p : Places). 0 < length p.ids) (ap (λ es. pair_list es c.args.namespace c.args.key.now) (sym c.self.view_is) ∙ held) c.requires
 
 pub returns : goal.returns

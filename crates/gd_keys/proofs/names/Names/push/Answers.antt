@@ -5,7 +5,7 @@ use Rattle.std.specs.Str.{bytes_eq}
 use Rattle.std.specs.Ordering.{nat_cmp}
 use Rattle.std.specs.Map.{lookup}
 use Rattle.std.specs.BTreeMap.{is_at}
-use Rattle.gd_keys.specs.Lists.{pair_list, text_list, nothing}
+use Rattle.gd_keys.specs.Lists.{pair_list, text_list}
 use Rattle.gd_keys.proofs.Each.{each_pair}
 use Rattle.gd_postings.specs.Postings.{Places, IsAbove}
 use Rattle.gd_keys.specs.Keys.{with_entry}

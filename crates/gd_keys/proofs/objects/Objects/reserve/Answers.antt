@@ -22,8 +22,8 @@ returns-in_ok-insert-in-None-clause-same c =
     let w = c.reserve-in-None.new.self in
     let held : nothing ≡ id_list c.self.inside.lists.entries c.args.object = ap (λ o. unwrap_or o nothing) c.in-None.ensures.value in
     let written : Sets (nat_cmp) c.self.inside.lists.entries c.insert.new.self.entries c.args.object w =
-        subst (λ (m : BTreeMap (ℕ) Places). Sets (nat_cmp) m.entries c.insert.new.self.entries c.args.object w) c.get_mut.follows.holds-at-none
-        c.in_ok-insert-in-None.ensures.updates.0 in
+    subst (λ (m : BTreeMap (ℕ) Places). Sets (nat_cmp) m.entries c.insert.new.self.entries c.args.object w) c.get_mut.follows.holds-at-none
+    c.in_ok-insert-in-None.ensures.updates.0 in
     subst (λ (es : List (ℕ × Places)). (o : ℕ) → (id_list c.insert.new.self.entries o).ids ≡ (id_list es o).ids) c.self.view_is
     (each_id (λ test old new. new ≡ old) (λ _. refl) c.self.inside.lists.entries _ c.args.object w written
     (subst (λ (p : Places). w.ids ≡ p.ids) held (c.reserve-in-None.ensures.ids ∙ c.new-list.ensures.ids)))
