@@ -125,7 +125,13 @@ impl IndexedPrims {
     }
 
     /// The last place below `end` whose primitive is a link of this key into this namespace, if there is one.
-    pub(crate) fn last_key_link<L>(&self, namespace: Id, key: &Text, end: u32, steps: &mut Steps<L>) -> Option<Id>
+    pub(crate) fn last_key_link<L>(
+        &self,
+        namespace: Id,
+        key: &Text,
+        end: u32,
+        steps: &mut Steps<L>,
+    ) -> Option<Id>
         ensures last { result ≡ last_or None (graph.places_where (is_key_link namespace key.now) (take end self.now)) }
         ensures work { steps.new ≤ steps.old + 23 }
         ensures later { steps.old ≤ steps.new }

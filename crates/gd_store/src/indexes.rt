@@ -175,7 +175,13 @@ impl Indexes {
     }
 
     /// The last place below `end` that has a link of this key into this namespace, if there is one.
-    pub(crate) fn last_key_link<L>(&self, namespace: Id, key: &Text, end: Id, steps: &mut Steps<L>) -> Option<Id>
+    pub(crate) fn last_key_link<L>(
+        &self,
+        namespace: Id,
+        key: &Text,
+        end: Id,
+        steps: &mut Steps<L>,
+    ) -> Option<Id>
         ensures last { result ≡ last_or None (ids_below end (key_list self.now.keys namespace key.now).ids) }
         ensures work { steps.new ≤ steps.old + 23 }
         ensures later { steps.old ≤ steps.new }

@@ -307,7 +307,13 @@ impl Store {
     }
 
     /// The last place below a dateline whose primitive is a link of this key into this namespace.
-    pub(crate) fn last_key_link<L>(&self, dateline: u32, namespace: Id, key: &Text, steps: &mut Steps<L>) -> Option<Id>
+    pub(crate) fn last_key_link<L>(
+        &self,
+        dateline: u32,
+        namespace: Id,
+        key: &Text,
+        steps: &mut Steps<L>,
+    ) -> Option<Id>
         requires { dateline ≤ length self.now }
         ensures last { result ≡ last_or None (graph.places_where (is_key_link namespace key.now) (prims_at self.now dateline)) }
         ensures work { steps.new ≤ steps.old + 23 }
@@ -318,7 +324,13 @@ impl Store {
     }
 
     /// The k-th place below a dateline, from 0, whose primitive is a key link of this object.
-    pub(crate) fn key_of<L>(&self, dateline: u32, object: Id, k: u32, steps: &mut Steps<L>) -> Option<Id>
+    pub(crate) fn key_of<L>(
+        &self,
+        dateline: u32,
+        object: Id,
+        k: u32,
+        steps: &mut Steps<L>,
+    ) -> Option<Id>
         requires { dateline ≤ length self.now }
         ensures place { result ≡ slice_get (graph.places_where (is_key_of object) (prims_at self.now dateline)) k }
         ensures work { steps.new ≤ steps.old + 1 }

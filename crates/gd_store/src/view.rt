@@ -106,6 +106,7 @@ impl<'a> View<'a> {
         ensures later { steps.old ≤ steps.new }
     {
         let store = self.store;
+        steps.tick();
         store.last_key_link(self.dateline, namespace, key, steps)
     }
 
@@ -117,6 +118,7 @@ impl<'a> View<'a> {
         ensures later { steps.old ≤ steps.new }
     {
         let store = self.store;
+        steps.tick();
         store.key_of(self.dateline, object, k, steps)
     }
 

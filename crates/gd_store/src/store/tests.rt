@@ -1,5 +1,7 @@
 ghost use Rattle.std.specs.Prelude.{◌≡◌, ◌≤◌, [], ◌∷◌, ◌++◌, length, IfOk, OnOk};
 
+mod generated;
+
 use super::*;
 use gd_base::datum::Datum;
 use gd_base::steps::Steps;
@@ -90,14 +92,27 @@ fn views(rt: HostRuntime) -> Result<(), Fail> {
     let now = store.view(2);
     assert_eq!(rt; now.dateline(), 2);
     assert!(rt; !now.is_live(Id(70), &mut steps));
-    assert_eq!(rt; steps.taken(), 1);
+    assert_eq!(rt; steps.taken(), 2);
     let before = now.earlier(1);
     assert_eq!(rt; before.end(), Id(72));
     assert!(rt; before.is_live(Id(70), &mut steps));
     assert!(rt; before.primitive(Id(71), &mut steps).left == Some(Id(70)));
-    assert_eq!(rt; steps.taken(), 3);
+    assert_eq!(rt; steps.taken(), 2 + 2 + 1);
     assert_eq!(rt; before.list_len(End::Left, Id(70), &mut steps), 1);
     assert_eq!(rt; before.list_at(End::Left, Id(70), 0, &mut steps), Id(71));
+    Ok(())
+}
+
+#[test]
+fn finds_built_in_keys(rt: HostRuntime) -> Result<(), Fail> {
+    let store = Store::new(rt.alloc())?;
+    let mut steps: Steps<()> = Steps::new();
+    let now = store.view(0);
+    let key = Text::of(rt.alloc(), "name")?;
+    assert_eq!(rt; now.by_key(Id(4), &key, &mut steps), Some(Id(31)));
+    assert_eq!(rt; now.key_at(Id(13), 0, &mut steps), Some(Id(31)));
+    assert_eq!(rt; now.key_at(Id(13), 1, &mut steps), None);
+    assert_eq!(rt; now.by_key(Id(13), &key, &mut steps), None);
     Ok(())
 }
 

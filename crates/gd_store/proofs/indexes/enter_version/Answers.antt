@@ -7,9 +7,13 @@ use Rattle.gd_store.proofs.indexes.enter_version.Goals as goal
 
 pub overflow_add-place : goal.overflow_add-place
 overflow_add-place c =
-    omega (arith, c.place.ensures, previous_small c.args.prims.now c.args.place c.index-prims-place.result c.in-Some.previous
-    (slice_get_read c.args.prims.now (length c.args.prims.now) c.args.place c.index-prims-place.result refl c.requires.there c.index-prims-place.is)
-    c.requires.there c.requires.entered c.in-Some.is)
+    omega (
+      arith,
+      c.place.ensures,
+      previous_small c.args.prims.now c.args.place c.index-prims-place.result c.in-Some.previous
+          (slice_get_read c.args.prims.now (length c.args.prims.now) c.args.place c.index-prims-place.result refl c.requires.there c.index-prims-place.is)
+          c.requires.there c.requires.entered c.in-Some.is,
+    )
 
 pub add-requires-clause-vacant : goal.add-requires-clause-vacant
 add-requires-clause-vacant c =
