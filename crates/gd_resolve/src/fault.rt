@@ -10,7 +10,7 @@ use thiserror::Error;
 #[derive(Debug, PartialEq, Eq, Drop, Error)]
 pub enum ResolveFault {
     /// No object has this id.
-    #[error("no object has the id {path:?}")]
+    #[error("no object has the id {:?}", .path.as_str())]
     NoSuchId { path: JsonText },
     /// No property is meant by the word at this place of the query.
     #[error("no property is meant by the word at {path:?}")]

@@ -91,7 +91,8 @@ fn is_wanted(prim: &Primitive, wanted: &Wanted) -> bool
     match wanted {
         Wanted::Link { typ, object } => is_link(prim, *typ, *object),
         Wanted::TypeLink { object, of } => is_link(prim, TYPE, *object) && refers(prim.right, *of),
-        Wanted::Mark { property } => is_link(prim, UNIQUE, *property) && truth(&prim.value).is_some(),
+        Wanted::Mark { property } => is_link(prim, UNIQUE, *property)
+            && truth(&prim.value).is_some(),
     }
 }
 

@@ -75,12 +75,7 @@ fn is_key_link(prim: &Primitive, namespace: Id, key: &str) -> bool
 }
 
 /// The last place whose primitive is a link of this key into this namespace.
-fn last_link<L>(
-    view: &View<'_>,
-    namespace: Id,
-    key: &str,
-    steps: &mut Steps<L>,
-) -> Option<Id>
+fn last_link<L>(view: &View<'_>, namespace: Id, key: &str, steps: &mut Steps<L>) -> Option<Id>
     ensures last { result ≡ last_or None (live.places_where (ids.is_key_link namespace key.now) (prims_of view.now)) }
     ensures later { steps.old ≤ steps.new }
 {

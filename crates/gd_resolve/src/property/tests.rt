@@ -1,44 +1,8 @@
 //! What the built-in list says of its properties, and what batches behind it change.
 use super::*;
-use gd_base::memory::Memory;
-use gd_prim::builtin::builtin;
-use gd_prim::limits::MAX_PRIMS;
+use crate::sample::{after, between, link, mark, stored};
 use std::alloc::Global;
 use std::test::Fail;
-
-/// A live link of moment 5.
-fn link(left: u32, typ: u32, right: Option<Id>, value: Datum) -> Primitive {
-    Primitive {
-        left: Some(Id(left)),
-        right,
-        typ: Some(Id(typ)),
-        scope: None,
-        value,
-        name: None,
-        previous: None,
-        live: true,
-        moment: 5,
-    }
-}
-
-/// A live link from one object to another.
-fn between(left: u32, typ: u32, right: u32) -> Primitive {
-    link(left, typ, Some(Id(right)), Datum::Empty)
-}
-
-/// A live unique mark.
-fn mark(property: u32, value: Datum) -> Primitive {
-    link(property, 17, None, value)
-}
-
-/// The same as a newer version.
-fn after(previous: u32, live: bool, prim: Primitive) -> Primitive {
-    Primitive {
-        previous: Some(Id(previous)),
-        live,
-        ..prim
-    }
-}
 
 /// A property that is no other one backwards.
 fn forward(stored: u32, expected: u32, unique: bool) -> Property {
@@ -57,22 +21,20 @@ fn said(
     first: Primitive,
     second: Option<Primitive>,
     place: u32,
-) -> Result<Option<(Property, bool, bool)>, Memory> {
-    let mut prims = builtin(alloc)?;
-    prims.push(first)?;
+) -> Result<(Property, bool, bool), Fail> {
+    let mut prims = vec![in alloc; first]?;
     if let Some(second) = second {
         prims.push(second)?;
     }
-    let prims = prims.as_slice();
-    if prims.len() > MAX_PRIMS {
-        return Ok(None);
-    }
+    let store = stored(alloc, prims)?;
+    let view = store.view(store.requests());
+    let mut steps: Steps<()> = Steps::new();
     let place = Id(place);
-    Ok(Some((
-        stated(prims, place),
-        is_property(prims, place),
-        says_name(prims),
-    )))
+    Ok((
+        stated(&view, place, &mut steps),
+        is_property(&view, place, &mut steps),
+        says_name(&view, &mut steps),
+    ))
 }
 
 /// Behind the built-in list stands a link of another typ.
@@ -98,7 +60,7 @@ fn states_built_in(rt: HostRuntime) -> Result<(), Fail> {
     ];
     for (place, property, is_one) in rows {
         let told = said(rt.alloc(), between(13, 15, 4), None, place)?;
-        assert_eq!(rt; told, Some((property, is_one, true)), "at {place}");
+        assert_eq!(rt; told, (property, is_one, true), "at {place}");
     }
     Ok(())
 }
@@ -198,11 +160,7 @@ fn follows_batches(rt: HostRuntime) -> Result<(), Fail> {
         ),
     ];
     for (case, first, second, place, wanted) in rows {
-        assert_eq!(rt;
-            said(rt.alloc(), first, second, place)?,
-            Some(wanted),
-            "{case}"
-        );
+        assert_eq!(rt; said(rt.alloc(), first, second, place)?, wanted, "{case}");
     }
     Ok(())
 }

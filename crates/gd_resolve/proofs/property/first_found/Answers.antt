@@ -13,7 +13,7 @@ loop-place-preserved g c =
     let below : c.loop-place.place < length prims = omega arith in
     record {
       left = c.loop-place.invariant.left ∙ find-range test c.loop-place.place (length prims) below
-        ∙ ap (λ b. cond b (Some c.loop-place.place) (find test (range_with_len (c.loop-place.place + 1) (length prims - (c.loop-place.place + 1)))))
-        (sym c.is_found.ensures.found ∙ c.if-is_found.false);
+          ∙ ap (λ b. cond b (Some c.loop-place.place) (find test (range_with_len (c.loop-place.place + 1) (length prims - (c.loop-place.place + 1)))))
+          (sym c.is_found.ensures.found ∙ c.if-is_found.false);
       later = omega arith;
     }

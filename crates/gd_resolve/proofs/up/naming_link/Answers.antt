@@ -11,8 +11,8 @@ loop-k-preserved g c =
     let below : c.loop-k.k < 8 = omega arith in
     record {
       left = c.loop-k.invariant.left
-        ∙ find-place (λ k. live.is_live prims k && is_some (live.end_at (λ p. p.right) prims k)) 8 c.loop-k.k (live.places_where (is_key_of c.args.object) prims) c.in_ok-link.link below
-        (sym c.in_ok-link.ensures.place) (sym c.names.ensures.names ∙ c.if-names.false);
+          ∙ find-place (λ k. live.is_live prims k && is_some (live.end_at (λ p. p.right) prims k)) 8 c.loop-k.k (live.places_where (is_key_of c.args.object) prims) c.in_ok-link.link below
+          (sym c.in_ok-link.ensures.place) (sym c.names.ensures.names ∙ c.if-names.false);
       work = omega arith;
       later = omega arith;
     }

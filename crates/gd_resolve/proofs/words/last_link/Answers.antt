@@ -15,11 +15,11 @@ loop-place-preserved g c =
     record {
       left = elim c.if-is_key_link.branch [
         | then-is_key_link w ↦ ap (λ d. last_or d rest) w.last-is
-          ∙ sym (last-passed test prims c.loop-place.place c.primitive.result.now c.loop-place.last c.primitive.ensures.primitive (sym c.is_key_link.ensures ∙ w.if-is_key_link.true))
-          ∙ c.loop-place.invariant.left
+            ∙ sym (last-passed test prims c.loop-place.place c.primitive.result.now c.loop-place.last c.primitive.ensures.primitive (sym c.is_key_link.ensures ∙ w.if-is_key_link.true))
+            ∙ c.loop-place.invariant.left
         | else-is_key_link w ↦ ap (λ d. last_or d rest) w.last-is
-          ∙ sym (last-other test prims c.loop-place.place c.primitive.result.now c.loop-place.last c.primitive.ensures.primitive (sym c.is_key_link.ensures ∙ w.if-is_key_link.false))
-          ∙ c.loop-place.invariant.left
+            ∙ sym (last-other test prims c.loop-place.place c.primitive.result.now c.loop-place.last c.primitive.ensures.primitive (sym c.is_key_link.ensures ∙ w.if-is_key_link.false))
+            ∙ c.loop-place.invariant.left
       ];
       later = omega arith;
     }
