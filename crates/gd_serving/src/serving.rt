@@ -1,5 +1,5 @@
 //! A run that is served line by line over the log of a disk.
-ghost use Rattle.std.specs.Prelude.{◌≡◌, ◌≢◌, ◌≤◌, ◌<◌, ◌+◌, ◌++◌, ◌∷◌, ◌^◌, ℕ, Bool, List, true, false, length, Ok, Err, None, Some, IsErr, IfOk, IfErr, IfSome, OnOk, OnErr, MatchResult, if◌then◌else◌, []};
+ghost use Rattle.std.specs.Prelude.{IsTrue, ◌≡◌, ◌≢◌, ◌≤◌, ◌<◌, ◌+◌, ◌++◌, ◌∷◌, ◌^◌, ℕ, Bool, List, true, false, length, Ok, Err, None, Some, IsErr, IfOk, IfErr, IfSome, OnOk, OnErr, MatchResult, if◌then◌else◌, []};
 ghost use Rattle.gd_base.specs.Counts.{Rose};
 ghost use Rattle.gd_prim.specs.declared.Primitive.{Primitive};
 ghost use Rattle.gd_prim.specs.declared.What.TheVariants as what;
@@ -56,6 +56,9 @@ const HISTORY_LIMIT: u64 = 134_217_728;
 
 /// No text has more bytes than this.
 const TEXT_LIMIT: u64 = 1 << 40;
+
+/// The opening of a run, for which steps are counted.
+struct Opening;
 
 /// A write that is to be stored, or was and is in doubt: its batch, and how many bytes its line and its result have.
 #[derive(Drop)]
