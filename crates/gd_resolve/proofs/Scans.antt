@@ -1,14 +1,14 @@
 -- Live links by places, and as the definitions list them.
-use Rattle.std.proofs.Common.{◌≡◌, ℕ, List, [], ◌∷◌, length, Bool, true, false, cond, ◌&&◌, Option, Some, None, is_some, unwrap_or, refl, ap, sym, ◌∙◌}
-use Rattle.std.specs.Prelude.{filter, slice_get, nat_lt}
-use Rattle.std.specs.List.{find, filter_map, cons_option, range_with_len}
+use Rattle.std.proofs.Common.{◌≡◌, ℕ, suc, ◌+◌, ◌-◌, ◌<◌, arith, List, [], ◌∷◌, length, Bool, true, false, cond, ◌&&◌, Option, Some, None, is_some, unwrap_or, refl, ap, sym, ◌∙◌}
+use Rattle.std.specs.Prelude.{filter, slice_get, nat_lt, ◌||◌}
+use Rattle.std.specs.List.{find, filter_map, cons_option, list_any, range_with_len}
 use Rattle.gd_grammar.specs.Maybe.{◌>>=◌}
 use Rattle.gd_prim.specs.declared.Primitive.{Primitive}
 use Rattle.gd_prim.specs.Builtin.{type_link_place, unique_place}
 use Rattle.gd_prim.specs.Live.{refers, is_current, live_where, passes_at, value_at, end_at}
 use Rattle.gd_defs.specs.Property.{first, links_from, first_right, has_type, is_unique, boolean_of}
 use Rattle.gd_reply.proofs.Places.{live_where-places, filter-filter, filter-same, list_any-filter}
-use Rattle.gd_resolve.specs.Found.{is_link, gives_type, is_mark, is_found, any_found, first_found}
+use Rattle.gd_resolve.specs.Found.{is_link, gives_type, is_mark, is_found, first_found}
 
 -- the first that a test keeps is the one that a search finds
 first-filter : {A : Type 0} (p : A → Bool) (xs : List A) → first (filter p xs) ≡ find p xs
@@ -59,12 +59,27 @@ pub first_right-found : (prims : List Primitive) (typ o : ℕ) (link : Option �
     → first_right prims typ o ≡ (link >>= end_at (λ p. p.right) prims)
 first_right-found prims typ o link is = ap (λ k. k >>= end_at (λ p. p.right) prims) (first-live_where (is_link typ o) prims ∙ is)
 
+-- some element passes where one is found
+is_some-find : {A : Type 0} (p : A → Bool) (xs : List A) → list_any p xs ≡ is_some (find p xs)
+is_some-find p [] = refl
+is_some-find p (x ∷ xs) = elim (p x) as (λ t. (t || list_any p xs) ≡ is_some (cond t (Some x) (find p xs))) [
+  | true ↦ refl
+  | false ↦ is_some-find p xs
+]
+
 -- an object has a type where a live link that gives it is found
-pub has_type-found : (prims : List Primitive) (o type : ℕ) → has_type prims o type ≡ any_found (gives_type o type) prims
+pub has_type-found : (prims : List Primitive) (o type : ℕ) → has_type prims o type ≡ is_some (first_found (gives_type o type) prims)
 has_type-found prims o type =
     list_any-filter (passes_at (λ p. refers p.right type) prims) (links_from prims type_link_place o)
     ∙ ap (λ ks. nat_lt 0 (length ks)) (filter-live_where (is_link type_link_place o) (λ p. refers p.right type) prims ∙ live_where-places (gives_type o type) prims)
     ∙ sym (list_any-filter (is_found (gives_type o type) prims) (range_with_len 0 (length prims)))
+    ∙ is_some-find (is_found (gives_type o type) prims) (range_with_len 0 (length prims))
+
+-- a search over the places from one on looks at it, and then at those behind it
+pub find-range : (test : ℕ → Bool) (k n : ℕ) → k < n → find test (range_with_len k (n - k)) ≡ cond (test k) (Some k) (find test (range_with_len (k + 1) (n - (k + 1))))
+find-range test k n below =
+    let more : n - k ≡ suc (n - (k + 1)) = omega arith in
+    rw more refl
 
 -- the first truth value of a mark is that of the first mark with one
 first-truth : (prims : List Primitive) (p : ℕ)

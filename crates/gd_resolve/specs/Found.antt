@@ -1,10 +1,12 @@
 -- Live links, and the first of them, over a plain list of primitives.
 use Rattle.std.specs.Prelude.{ℕ, List, length, Bool, ◌&&◌, Option, is_some, find}
-use Rattle.std.specs.List.{list_any, range_with_len}
+use Rattle.std.specs.List.{range_with_len}
 use Rattle.gd_prim.specs.declared.Primitive.{Primitive}
 use Rattle.gd_prim.specs.Builtin.{type_link_place, unique_place}
 use Rattle.gd_prim.specs.Live.{refers, passes_at, is_live}
 use Rattle.gd_defs.specs.Property.{boolean_of}
+use Rattle.gd_resolve.specs.declared.property.Wanted.{Wanted}
+use Rattle.gd_resolve.specs.declared.property.Wanted.TheVariants as wanted
 
 -- a link of a typ from an object
 abbrev pub is_link : ℕ → ℕ → Primitive → Bool
@@ -18,13 +20,15 @@ gives_type o type p = is_link type_link_place o p && refers p.right type
 abbrev pub is_mark : ℕ → Primitive → Bool
 is_mark property p = is_link unique_place property p && is_some (boolean_of p.value)
 
+-- what is wanted
+abbrev pub is_wanted : Wanted → Primitive → Bool
+is_wanted (wanted.Link typ o) p = is_link typ o p
+is_wanted (wanted.TypeLink o type) p = gives_type o type p
+is_wanted (wanted.Mark property) p = is_mark property p
+
 -- a live primitive stands at the place, and passes the test
 abbrev pub is_found : (Primitive → Bool) → List Primitive → ℕ → Bool
 is_found test prims place = passes_at test prims place && is_live prims place
-
--- one stands at some place
-abbrev pub any_found : (Primitive → Bool) → List Primitive → Bool
-any_found test prims = list_any (is_found test prims) (range_with_len 0 (length prims))
 
 -- the first such place
 abbrev pub first_found : (Primitive → Bool) → List Primitive → Option ℕ

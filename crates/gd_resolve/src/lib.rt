@@ -1,4 +1,6 @@
-//! What words and objects stand for, over a list of primitives. So far: what a property says of itself.
+//! What ids, objects and words stand for, over a view of a store.
 #![tactic(auto)]
 
+pub mod fault;
+mod look;
 pub mod property;

@@ -1,5 +1,6 @@
 //! What a property says of itself.
-ghost use Rattle.std.specs.Prelude.{◌≡◌, ◌≤◌, ◌↔◌, ◌&&◌, IsTrue, length};
+ghost use Rattle.std.specs.Prelude.{◌≡◌, ◌≤◌, ◌↔◌, ◌&&◌, IsTrue};
+ghost use Rattle.gd_prim.specs.History.{prims_of};
 ghost use Rattle.gd_prim.specs.Live as live;
 ghost use Rattle.gd_prim.specs.Builtin.{property_place};
 ghost use Rattle.gd_defs.specs.Property as defined;
@@ -7,10 +8,13 @@ ghost use Rattle.gd_runs.specs.Built as built;
 ghost use Rattle.gd_runs.specs.Built.{SaysName};
 ghost use Rattle.gd_resolve.specs.Found as found;
 
+use crate::look::{is_object, prim_at, right_at};
 use gd_base::datum::Datum;
 use gd_base::id::Id;
+use gd_base::steps::Steps;
 use gd_prim::Primitive;
-use gd_prim::live::{live_at, refers};
+use gd_prim::live::refers;
+use gd_store::view::View;
 use std::marker::Model;
 
 /// The type of properties.
@@ -57,74 +61,19 @@ impl Model for Property {
     ghost inverse = { λ p. record { stored = p.stored; reversed = p.reversed; expected = p.expected; unique = p.unique } };
 }
 
+/// What a scan looks for: a live link of a typ from an object, a live link that gives an object a type, or a live mark of
+/// a property that has a truth value.
+#[derive(Drop)]
+enum Wanted {
+    Link { typ: Id, object: Id },
+    TypeLink { object: Id, of: Id },
+    Mark { property: Id },
+}
+
 fn is_link(prim: &Primitive, typ: Id, object: Id) -> bool
     ensures { result ≡ found.is_link typ object prim.now }
 {
     refers(prim.typ, typ) && refers(prim.left, object)
-}
-
-fn is_live_link(prims: &[Primitive], typ: Id, object: Id, place: Id) -> bool
-    ensures { result ≡ found.is_found (found.is_link typ object) prims.now place }
-{
-    match prims.get(place.place() as usize) {
-        Some(prim) => is_link(prim, typ, object) && live_at(prims, place),
-        None => false,
-    }
-}
-
-/// The place of the first live link of a typ from an object.
-fn first_link(prims: &[Primitive], typ: Id, object: Id) -> Option<u32>
-    requires { length prims.now ≤ 2097151 }
-    ensures { result ≡ found.first_found (found.is_link typ object) prims.now }
-{
-    let count = prims.len() as u32;
-    (0..count).find(|place| is_live_link(prims, typ, object, Id(*place)))
-}
-
-fn right_at(prims: &[Primitive], place: u32) -> Option<Id>
-    ensures { result ≡ live.end_at (λ p. p.right) prims.now place }
-{
-    prims.get(place as usize)?.right
-}
-
-/// The right end of the first live link of a typ from an object.
-fn first_right(prims: &[Primitive], typ: Id, object: Id) -> Option<Id>
-    requires { length prims.now ≤ 2097151 }
-    ensures { result ≡ defined.first_right prims.now typ object }
-{
-    match first_link(prims, typ, object) {
-        Some(link) => right_at(prims, link),
-        None => None,
-    }
-}
-
-fn gives_type(prims: &[Primitive], object: Id, of: Id, place: Id) -> bool
-    ensures { result ≡ found.is_found (found.gives_type object of) prims.now place }
-{
-    match prims.get(place.place() as usize) {
-        Some(prim) => {
-            is_link(prim, TYPE, object) && refers(prim.right, of) && live_at(prims, place)
-        }
-        None => false,
-    }
-}
-
-/// Whether a live link gives the object the type.
-fn has_type(prims: &[Primitive], object: Id, of: Id) -> bool
-    requires { length prims.now ≤ 2097151 }
-    ensures { result ≡ found.any_found (found.gives_type object of) prims.now }
-{
-    let count = prims.len() as u32;
-    (0..count).any(|place| gives_type(prims, object, of, Id(place)))
-}
-
-fn is_object(prims: &[Primitive], place: Id) -> bool
-    ensures { result ≡ live.is_object prims.now place }
-{
-    match prims.get(place.place() as usize) {
-        Some(prim) => prim.typ.is_none() && live_at(prims, place),
-        None => false,
-    }
 }
 
 fn truth(value: &Datum) -> Option<bool>
@@ -136,67 +85,99 @@ fn truth(value: &Datum) -> Option<bool>
     }
 }
 
-fn truth_at(prims: &[Primitive], place: u32) -> Option<bool>
-    ensures { result ≡ defined.boolean_of (live.value_at prims.now place) }
+fn is_wanted(prim: &Primitive, wanted: &Wanted) -> bool
+    ensures { result ≡ found.is_wanted wanted.now prim.now }
 {
-    truth(&prims.get(place as usize)?.value)
+    match wanted {
+        Wanted::Link { typ, object } => is_link(prim, *typ, *object),
+        Wanted::TypeLink { object, of } => is_link(prim, TYPE, *object) && refers(prim.right, *of),
+        Wanted::Mark { property } => is_link(prim, UNIQUE, *property) && truth(&prim.value).is_some(),
+    }
 }
 
-fn is_mark(prims: &[Primitive], property: Id, place: Id) -> bool
-    ensures { result ≡ found.is_found (found.is_mark property) prims.now place }
+fn is_found<L>(view: &View<'_>, wanted: &Wanted, place: Id, steps: &mut Steps<L>) -> bool
+    ensures found { result ≡ found.is_found (found.is_wanted wanted.now) (prims_of view.now) place }
+    ensures later { steps.old ≤ steps.new }
 {
-    match prims.get(place.place() as usize) {
-        Some(prim) => {
-            is_link(prim, UNIQUE, property) && truth(&prim.value).is_some() && live_at(prims, place)
+    match prim_at(view, place, steps) {
+        Some(prim) => is_wanted(prim, wanted) && view.is_live(place, steps),
+        None => false,
+    }
+}
+
+/// The first place at which a live primitive stands that is wanted.
+fn first_found<L>(view: &View<'_>, wanted: &Wanted, steps: &mut Steps<L>) -> Option<Id>
+    ensures first { result ≡ found.first_found (found.is_wanted wanted.now) (prims_of view.now) }
+    ensures later { steps.old ≤ steps.new }
+{
+    for place in 0..view.end().place() {
+        if is_found(view, wanted, Id(place), steps) {
+            return Some(Id(place));
         }
+    }
+    None
+}
+
+/// The right end of the first live link of a typ from an object.
+fn first_right<L>(view: &View<'_>, typ: Id, object: Id, steps: &mut Steps<L>) -> Option<Id>
+    ensures right { result ≡ defined.first_right (prims_of view.now) typ object }
+    ensures later { steps.old ≤ steps.new }
+{
+    match first_found(view, &Wanted::Link { typ, object }, steps) {
+        Some(link) => right_at(view, link, steps),
+        None => None,
+    }
+}
+
+/// Whether a live link gives the object the type.
+fn has_type<L>(view: &View<'_>, object: Id, of: Id, steps: &mut Steps<L>) -> bool
+    ensures has { result ≡ defined.has_type (prims_of view.now) object of }
+    ensures later { steps.old ≤ steps.new }
+{
+    first_found(view, &Wanted::TypeLink { object, of }, steps).is_some()
+}
+
+fn truth_at<L>(view: &View<'_>, place: Id, steps: &mut Steps<L>) -> Option<bool>
+    ensures truth { result ≡ defined.boolean_of (live.value_at (prims_of view.now) place) }
+    ensures later { steps.old ≤ steps.new }
+{
+    truth(&prim_at(view, place, steps)?.value)
+}
+
+/// Whether the first live mark with a truth value says that the property is unique.
+fn is_unique<L>(view: &View<'_>, property: Id, steps: &mut Steps<L>) -> bool
+    ensures unique { result ≡ defined.is_unique (prims_of view.now) property }
+    ensures later { steps.old ≤ steps.new }
+{
+    match first_found(view, &Wanted::Mark { property }, steps) {
+        Some(mark) => truth_at(view, mark, steps).unwrap_or(false),
         None => false,
     }
 }
 
-/// The place of the first live mark of a property that has a truth value.
-fn first_mark(prims: &[Primitive], property: Id) -> Option<u32>
-    requires { length prims.now ≤ 2097151 }
-    ensures { result ≡ found.first_found (found.is_mark property) prims.now }
+/// What the property at a place states. Where a live link names a master, the links of the master, backwards; else its
+/// own. The type that is expected is what the first live link to an expected type names, if there is one. It is unique
+/// where the first live mark that has a truth value says so. Where no property stands at the place the same rules tell
+/// something too: ask `is_property` first. It takes no memory.
+pub fn stated<L>(view: &View<'_>, place: Id, steps: &mut Steps<L>) -> Property
+    ensures stated { result ≡ defined.stated (prims_of view.now) place }
+    ensures later { steps.old ≤ steps.new }
 {
-    let count = prims.len() as u32;
-    (0..count).find(|place| is_mark(prims, property, Id(*place)))
-}
-
-/// Whether that mark says that the property is unique.
-fn is_unique(prims: &[Primitive], property: Id) -> bool
-    requires { length prims.now ≤ 2097151 }
-    ensures { result ≡ defined.is_unique prims.now property }
-{
-    match first_mark(prims, property) {
-        Some(mark) => truth_at(prims, mark).unwrap_or(false),
-        None => false,
-    }
-}
-
-/// What the property at a place states, over a list of 2,097,151 primitives at most. Where a live link names a master,
-/// the links of the master, backwards; else its own. The type that is expected is what the first live link to an
-/// expected type names, if there is one. It is unique where the first live mark that has a truth value says so. Where no
-/// property stands at the place the same rules tell something too: ask `is_property` first. It takes no memory.
-pub fn stated(prims: &[Primitive], place: Id) -> Property
-    requires { length prims.now ≤ 2097151 }
-    ensures { result ≡ defined.stated prims.now place }
-{
-    let master = first_right(prims, MASTER_PROPERTY, place);
+    let master = first_right(view, MASTER_PROPERTY, place, steps);
     Property {
         stored: master.unwrap_or(place),
         reversed: master.is_some(),
-        expected: first_right(prims, EXPECTED_TYPE, place),
-        unique: is_unique(prims, place),
+        expected: first_right(view, EXPECTED_TYPE, place, steps),
+        unique: is_unique(view, place, steps),
     }
 }
 
-/// Whether a property stands at a place of a list of 2,097,151 primitives at most: an object to which a live link gives
-/// the type of properties. It takes no memory.
-pub fn is_property(prims: &[Primitive], place: Id) -> bool
-    requires { length prims.now ≤ 2097151 }
-    ensures { result ≡ (live.is_object prims.now place && defined.has_type prims.now place property_place) }
+/// Whether a property stands at a place: an object to which a live link gives the type of properties. It takes no memory.
+pub fn is_property<L>(view: &View<'_>, place: Id, steps: &mut Steps<L>) -> bool
+    ensures property { result ≡ (live.is_object (prims_of view.now) place && defined.has_type (prims_of view.now) place property_place) }
+    ensures later { steps.old ≤ steps.new }
 {
-    is_object(prims, place) && has_type(prims, place, PROPERTY)
+    is_object(view, place, steps) && has_type(view, place, PROPERTY, steps)
 }
 
 fn is_name_property(property: &Property) -> bool
@@ -208,14 +189,14 @@ fn is_name_property(property: &Property) -> bool
         && property.unique
 }
 
-/// Whether a list of 2,097,151 primitives at most says of the property `name` what the built-in list says: a property
-/// stands at its place, its links are its own and lead forward, and it expects a text and is unique. It takes no memory.
-pub fn says_name(prims: &[Primitive]) -> bool
-    requires { length prims.now ≤ 2097151 }
-    ensures tested { result ≡ built.says_name prims.now }
-    ensures says { IsTrue result ↔ SaysName prims.now }
+/// Whether the primitives below the dateline say of the property `name` what the built-in list says: a property stands at
+/// its place, its links are its own and lead forward, and it expects a text and is unique. It takes no memory.
+pub fn says_name<L>(view: &View<'_>, steps: &mut Steps<L>) -> bool
+    ensures tested { result ≡ built.says_name (prims_of view.now) }
+    ensures says { IsTrue result ↔ SaysName (prims_of view.now) }
+    ensures later { steps.old ≤ steps.new }
 {
-    is_property(prims, NAME) && is_name_property(&stated(prims, NAME))
+    is_property(view, NAME, steps) && is_name_property(&stated(view, NAME, steps))
 }
 
 #[cfg(test)]

@@ -1,2 +1,3 @@
+pub mod Keys
 pub mod Scan
 pub mod Stored

@@ -1,13 +1,17 @@
 //! Views of a store.
-ghost use Rattle.std.specs.Prelude.{◌≡◌, ◌+◌, ◌<◌, ◌≤◌, Some, length, take, slice_get};
+ghost use Rattle.std.specs.Prelude.{◌≡◌, ◌+◌, ◌<◌, ◌≤◌, None, Some, length, take, slice_get};
+ghost use Rattle.std.specs.List.{last_or};
 ghost use Rattle.gd_prim.specs.End.{places_with};
 ghost use Rattle.gd_prim.specs.History.{prims_of};
 ghost use Rattle.gd_prim.specs.Live as graph;
+ghost use Rattle.gd_store.specs.Keys.{is_key_link, is_key_of};
 
-use crate::scan::{count_with, has_successor, place_with};
+use crate::scan::{count_with, key_of, last_key_link, place_with};
 use crate::store::Store;
 use gd_base::id::Id;
 use gd_base::steps::Steps;
+use gd_base::text::Text;
+use gd_prim::live::live_at;
 use gd_prim::{End, Primitive};
 use std::marker::Model;
 
@@ -88,15 +92,33 @@ impl<'a> View<'a> {
     /// above the dateline is not live. It takes no memory.
     pub fn is_live<L>(&self, id: Id, steps: &mut Steps<L>) -> bool
         ensures live { result ≡ graph.is_live (prims_of self.now) id }
-        ensures work { steps.new ≤ steps.old + length (prims_of self.now) + 1 }
+        ensures work { steps.new ≤ steps.old + 2 }
         ensures later { steps.old ≤ steps.new }
     {
-        let prims = self.prims();
         steps.tick();
-        match prims.get(id.place() as usize) {
-            Some(prim) => prim.live && !has_successor(prims, id, steps),
-            None => false,
-        }
+        live_at(self.prims(), id)
+    }
+
+    /// The last place below the dateline whose primitive is a link of this key into this namespace, if there is one. The
+    /// link may be dead: whether it is live is the caller's to ask. It takes no memory.
+    pub fn by_key<L>(&self, namespace: Id, key: &Text, steps: &mut Steps<L>) -> Option<Id>
+        ensures last { result ≡ last_or None (graph.places_where (is_key_link namespace key.now) (prims_of self.now)) }
+        ensures work { steps.new ≤ steps.old + 24 }
+        ensures later { steps.old ≤ steps.new }
+    {
+        steps.tick();
+        last_key_link(self.prims(), namespace, key)
+    }
+
+    /// The k-th place below the dateline, from 0 in rising order, whose primitive is a key link of this object, if there
+    /// is one. The link may be dead. It takes no memory.
+    pub fn key_at<L>(&self, object: Id, k: u32, steps: &mut Steps<L>) -> Option<Id>
+        ensures place { result ≡ slice_get (graph.places_where (is_key_of object) (prims_of self.now)) k }
+        ensures work { steps.new ≤ steps.old + 3 }
+        ensures later { steps.old ≤ steps.new }
+    {
+        steps.tick();
+        key_of(self.prims(), object, k)
     }
 
     /// How many primitives have this node at the end. It takes no memory.

@@ -90,12 +90,12 @@ fn views(rt: HostRuntime) -> Result<(), Fail> {
     let now = store.view(2);
     assert_eq!(rt; now.dateline(), 2);
     assert!(rt; !now.is_live(Id(70), &mut steps));
-    assert_eq!(rt; steps.taken(), 74);
+    assert_eq!(rt; steps.taken(), 1);
     let before = now.earlier(1);
     assert_eq!(rt; before.end(), Id(72));
     assert!(rt; before.is_live(Id(70), &mut steps));
     assert!(rt; before.primitive(Id(71), &mut steps).left == Some(Id(70)));
-    assert_eq!(rt; steps.taken(), 74 + 73 + 1);
+    assert_eq!(rt; steps.taken(), 3);
     assert_eq!(rt; before.list_len(End::Left, Id(70), &mut steps), 1);
     assert_eq!(rt; before.list_at(End::Left, Id(70), 0, &mut steps), Id(71));
     Ok(())
