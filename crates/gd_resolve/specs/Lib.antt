@@ -1,1 +1,3 @@
 pub mod Found
+pub mod Asked
+pub mod Way

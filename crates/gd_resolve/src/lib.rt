@@ -2,5 +2,9 @@
 #![tactic(auto)]
 
 pub mod fault;
+pub mod ids;
 mod look;
+mod path;
+pub mod up;
+pub mod words;
 pub mod property;

@@ -1,0 +1,211 @@
+//! The properties that words ask for.
+ghost use Rattle.std.specs.Prelude.{◌≡◌, ◌==◌, ◌≤◌, None, [], ◌∷◌, codes, if◌then◌else◌, IfOk};
+ghost use Rattle.std.specs.List.{last_or, starts_with};
+ghost use Rattle.gd_base.specs.Answers.{Gives};
+ghost use Rattle.gd_prim.specs.History.{prims_of};
+ghost use Rattle.gd_prim.specs.Live as live;
+ghost use Rattle.gd_defs.specs.Ids as ids;
+ghost use Rattle.gd_defs.specs.Property as defined;
+ghost use Rattle.gd_resolve.specs.Asked.{property_asked};
+
+use crate::fault::ResolveFault;
+use crate::ids::{key_leads, link_leads, named_object};
+use crate::property::{Property, is_property, stated};
+use gd_base::datum::Datum;
+use gd_base::id::Id;
+use gd_base::memory::Memory;
+use gd_base::steps::Steps;
+use gd_base::text::{TEXT_LIMIT, Text};
+use gd_json::value::JsonText;
+use gd_mql::fault::Path;
+use gd_prim::Primitive;
+use gd_prim::live::refers;
+use gd_store::view::View;
+use std::alloc::Global;
+
+/// The property `name`.
+const NAME: Id = Id(13);
+
+/// The property `type`.
+const TYPE: Id = Id(14);
+
+/// The property `key`.
+const KEY: Id = Id(15);
+
+/// A word of a query, and whether `!` stands before it.
+#[derive(Debug, PartialEq, Eq, Drop)]
+pub struct Word {
+    pub text: JsonText,
+    pub reversed: bool,
+}
+
+fn starts_with_slash(word: &str) -> bool
+    ensures { result ≡ starts_with ◌==◌ word.now (codes "/") }
+{
+    word.starts_with("/")
+}
+
+/// The property with the links in the other direction, of which nothing else is known.
+fn turned(property: &Property) -> Property
+    ensures { result ≡ defined.turned property.now }
+{
+    Property {
+        stored: property.stored,
+        reversed: !property.reversed,
+        expected: None,
+        unique: false,
+    }
+}
+
+/// Whether the value is this text.
+fn is_text(value: &Datum, text: &str) -> bool
+    ensures { result ≡ live.is_text text.now value.now }
+{
+    match value {
+        Datum::Text(held) => text == held.as_str(),
+        _ => false,
+    }
+}
+
+/// Whether the primitive is a link of this key into this namespace.
+fn is_key_link(prim: &Primitive, namespace: Id, key: &str) -> bool
+    ensures { result ≡ ids.is_key_link namespace key.now prim.now }
+{
+    refers(prim.typ, KEY) && refers(prim.right, namespace) && is_text(&prim.value, key)
+}
+
+/// The last place whose primitive is a link of this key into this namespace.
+fn last_link<L>(
+    view: &View<'_>,
+    namespace: Id,
+    key: &str,
+    steps: &mut Steps<L>,
+) -> Option<Id>
+    ensures last { result ≡ last_or None (live.places_where (ids.is_key_link namespace key.now) (prims_of view.now)) }
+    ensures later { steps.old ≤ steps.new }
+{
+    let mut last = None;
+    for place in 0..view.end().place() {
+        if is_key_link(view.primitive(Id(place), steps), namespace, key) {
+            last = Some(Id(place));
+        }
+    }
+    last
+}
+
+/// The object that a key in a namespace leads to, where the key may be longer than a text.
+fn any_key_leads<L>(
+    alloc: Global,
+    view: &View<'_>,
+    namespace: Id,
+    key: &str,
+    steps: &mut Steps<L>,
+) -> Result<Option<Id>, Memory>
+    ensures leads { IfOk result (λ object. object ≡ ids.key_leads (prims_of view.now) namespace key.now) }
+    ensures later { steps.old ≤ steps.new }
+{
+    if key.len() <= TEXT_LIMIT {
+        let key = Text::of(alloc, key)?;
+        return Ok(key_leads(view, namespace, &key, steps));
+    }
+    match last_link(view, namespace, key, steps) {
+        Some(link) => Ok(link_leads(view, link, steps)),
+        None => Ok(None),
+    }
+}
+
+/// The object that a word leads to: a path is an id, `name`, `type` and `key` are of every object, another key stands in
+/// the context type.
+fn word_object<L>(
+    alloc: Global,
+    view: &View<'_>,
+    context: Option<Id>,
+    word: &str,
+    steps: &mut Steps<L>,
+) -> Result<Option<Id>, Memory>
+    ensures object { IfOk result (λ object. object ≡ defined.word_object (prims_of view.now) context word.now) }
+    ensures later { steps.old ≤ steps.new }
+{
+    if starts_with_slash(word) {
+        return named_object(alloc, view, word, steps);
+    }
+    if word == "name" {
+        return Ok(Some(NAME));
+    }
+    if word == "type" {
+        return Ok(Some(TYPE));
+    }
+    if word == "key" {
+        return Ok(Some(KEY));
+    }
+    match context {
+        Some(of) => any_key_leads(alloc, view, of, word, steps),
+        None => Ok(None),
+    }
+}
+
+/// The object that a word leads to, if it is a property.
+fn property_object<L>(
+    alloc: Global,
+    view: &View<'_>,
+    context: Option<Id>,
+    word: &str,
+    steps: &mut Steps<L>,
+) -> Result<Option<Id>, Memory>
+    ensures object { IfOk result (λ object. object ≡ defined.property_object (prims_of view.now) context word.now) }
+    ensures later { steps.old ≤ steps.new }
+{
+    let Some(object) = word_object(alloc, view, context, word, steps)? else {
+        return Ok(None);
+    };
+    if is_property(view, object, steps) {
+        Ok(Some(object))
+    } else {
+        Ok(None)
+    }
+}
+
+/// What the property at a place states, turned or not.
+fn stated_in<L>(view: &View<'_>, place: Id, reversed: bool, steps: &mut Steps<L>) -> Property
+    ensures stated { result ≡ (if reversed then defined.turned (defined.stated (prims_of view.now) place) else defined.stated (prims_of view.now) place) }
+    ensures later { steps.old ≤ steps.new }
+{
+    let property = stated(view, place, steps);
+    if reversed {
+        turned(&property)
+    } else {
+        property
+    }
+}
+
+/// The path of a word alone.
+fn path_of(alloc: Global, word: &JsonText) -> Result<Path, Memory>
+    ensures { IfOk result (λ path. path ≡ word.now ∷ []) }
+{
+    let names = vec![in alloc; word.copy()?]?;
+    Ok(Path::from(names))
+}
+
+/// The property that a word asks for below the dateline. A word that begins with a slash is an id; `name`, `type` and
+/// `key` are of every object; another one is a key in the context, which is the type of the objects that are asked, if
+/// one is known. What it leads to has to be an object that a live link gives the type of properties. What that property
+/// states is as `stated` says; where `!` stands before the word its links are asked in the other direction, no type is
+/// expected then and there may be many answers. `NoSuchProperty`: the word leads to no property; with the path of the
+/// word alone, without `!`.
+pub fn property<L>(
+    alloc: Global,
+    view: &View<'_>,
+    context: Option<Id>,
+    word: &Word,
+    steps: &mut Steps<L>,
+) -> Result<Property, ResolveFault>
+    ensures property { Gives (λ property. property) ResolveFault.Memory (property_asked (prims_of view.now) context word.now.reversed word.now.text) result }
+    ensures later { steps.old ≤ steps.new }
+{
+    match property_object(alloc, view, context, word.text.as_str(), steps)? {
+        Some(object) => Ok(stated_in(view, object, word.reversed, steps)),
+        None => Err(ResolveFault::NoSuchProperty {
+            path: path_of(alloc, &word.text)?,
+        }),
+    }
+}
