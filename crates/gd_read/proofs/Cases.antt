@@ -7,7 +7,7 @@ use Rattle.std.proofs.lemmas.Option.{slice_get_within}
 use Rattle.gd_prim.specs.declared.Primitive.{Primitive}
 use Rattle.gd_prim.specs.Live.{is_object}
 use Rattle.gd_defs.specs.Lines.{err_line, too_wide}
-use Rattle.gd_runs.specs.Built.{IdAsk, FormAsk}
+use Rattle.gd_runs.specs.Built.{FormAsk}
 use Rattle.gd_reply.proofs.Places.{and-true, filter-same}
 use Rattle.gd_read.specs.Form.{places, name_count, ends, times, has_name, is_found, found, weight, is_heavy, total, rows_line, found_line}
 use Rattle.gd_read.proofs.NameLinks.{times-ends}

@@ -1,5 +1,5 @@
 -- The reply to a read of the built form, where the list says of the property `name` what the built-in list says.
-use Rattle.std.proofs.Common.{◌≡◌, ℕ, List, [], ◌∷◌, Bool, true, false, Option, None, Some, Result, Ok, Err, codes, refl, ap, sym, ◌∙◌, take, length}
+use Rattle.std.proofs.Common.{◌≡◌, ℕ, List, Bool, true, false, Option, None, Result, Ok, Err, refl, ap, ◌∙◌, take, length}
 use Rattle.gd_prim.specs.declared.Primitive.{Primitive}
 use Rattle.gd_prim.specs.declared.Batch.{Batch}
 use Rattle.gd_prim.specs.History.{prims_of}

@@ -11,8 +11,10 @@ use Rattle.gd_defs.specs.Property.{Property, first_right, is_unique}
 use Rattle.gd_defs.specs.Data.{anything, equals}
 use Rattle.gd_defs.specs.Query as query
 use Rattle.gd_defs.specs.Query.{required, bad_value, Query}
-use Rattle.gd_defs.specs.Asked.{its_id, its_guid, as_operand, Asking, Members, no_members, own, asks, Clause, Asked, asked, asked_query, type_text, name_property, Unknown, no_such_id, bad_query, place_named}
+use Rattle.gd_defs.specs.Asked.{its_id, its_guid, as_operand, Asking, Members, no_members, own, asks, Clause, Asked, asked, asked_query, type_text, name_property, Unknown, no_such_id, bad_query}
 use Rattle.gd_runs.specs.Built.{IdAsk, no_id, any_id, this_id, FormAsk, name_member, id_member, guid_member, form_query, SaysName}
+use Rattle.gd_resolve.specs.declared.fault.ResolveFault.TheVariants as fault
+use Rattle.gd_resolve.specs.Asked.{or_fault, id_asked}
 use Rattle.gd_read.specs.Form.{target_of, name_fits}
 
 -- the member `name` with a literal
@@ -182,3 +184,19 @@ target_matches prims i t is = by i t (found_of prims i) (sym (target_of-step pri
     by (this_id s) None None is = cc
     by (this_id s) None (Some o) is = cc
     by (this_id s) (Some o) found is = tt
+
+-- ---- what was looked up
+
+pub found-target : (prims : List Primitive) (s : List ℕ) (o : ℕ) → id_asked prims s ≡ Ok o → target_of prims (this_id s) ≡ Ok (Some o)
+found-target prims s o is = by (object_of prims s) refl is
+  where
+    by : (found : Option ℕ) → object_of prims s ≡ found → or_fault (fault.NoSuchId s) found ≡ Ok o → target_of prims (this_id s) ≡ Ok (Some o)
+    by None at is = cc
+    by (Some p) at is = let same : p ≡ o = cc in rw (at, same) refl
+
+pub missing-target : (prims : List Primitive) (s t : List ℕ) → id_asked prims s ≡ Err (fault.NoSuchId t) → target_of prims (this_id s) ≡ Err (no_such_id t)
+missing-target prims s t is = by (object_of prims s) refl is
+  where
+    by : (found : Option ℕ) → object_of prims s ≡ found → or_fault (fault.NoSuchId s) found ≡ Err (fault.NoSuchId t) → target_of prims (this_id s) ≡ Err (no_such_id t)
+    by None at is = let same : s ≡ t = cc in rw at (ap (λ u. Err (no_such_id u)) same)
+    by (Some p) at is = cc

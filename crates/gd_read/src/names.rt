@@ -80,12 +80,7 @@ pub(crate) fn ends<L>(
 }
 
 /// How many live links give this object the name. It looks at the places that have the object as their left end.
-pub(crate) fn name_count<L>(
-    view: &View<'_>,
-    name: &str,
-    object: Id,
-    steps: &mut Steps<L>,
-) -> u32
+pub(crate) fn name_count<L>(view: &View<'_>, name: &str, object: Id, steps: &mut Steps<L>) -> u32
     ensures { result ≡ form.name_count (prims_of view.now) name.now object }
 {
     let mut count = 0;

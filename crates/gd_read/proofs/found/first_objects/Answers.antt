@@ -1,4 +1,4 @@
-use Rattle.std.proofs.Common.{◌≡◌, ◌≤◌, ◌+◌, true, false, sym, ap, ◌∙◌, ◌++◌, ◌∷◌, [], append-nil, Vec, Global, ℕ, List, length, take, arith, length-append}
+use Rattle.std.proofs.Common.{◌≡◌, ◌≤◌, true, false, sym, ap, ◌∙◌, ◌++◌, ◌∷◌, [], append-nil, Vec, Global, ℕ, List, length, take, arith, length-append}
 use Rattle.std.specs.Prelude.{filter}
 use Rattle.std.specs.List.{range_with_len}
 use Rattle.std.proofs.lemmas.Grind.{common_steps}

@@ -16,6 +16,6 @@ loop-place-preserved g c =
     let same = ap length c.in_ok-push_some.ensures in
     record {
       ends = c.in_ok-push_some.ensures ∙ (ap (λ xs. xs ++ cons_option c.named_by.result []) c.loop-place.invariant.ends
-        ∙ sym (filter_map_more (named_by (prims_of c.args.view.now) c.args.name.now) place c.named_by.result c.named_by.ensures));
+          ∙ sym (filter_map_more (named_by (prims_of c.args.view.now) c.args.name.now) place c.named_by.result c.named_by.ensures));
       few = omega (arith, more, same);
     }
