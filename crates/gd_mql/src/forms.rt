@@ -28,10 +28,10 @@ pub struct FormAsked<'a> {
 fn guid_ask(value: Option<&Json>) -> Option<bool>
     ensures { result ≡ form.guid_ask (option_map (λ part. view part.now) value.entry) }
 {
-    match value {
-        None => Some(false),
-        Some(value) => { if value.is_null() { Some(true) } else { None } }
-    }
+    let Some(value) = value else {
+        return Some(false);
+    };
+    if value.is_null() { Some(true) } else { None }
 }
 
 /// The id is not asked for, or by null, or it is a text that is an id.
