@@ -1,13 +1,14 @@
 -- What the lines of the built forms spell by the general rules.
-use Rattle.std.proofs.Common.{◌≡◌, ℕ, suc, List, Bool, true, false, ◌&&◌, Option, Some, None, Ok, codes, refl, ap, sym, ◌∙◌, arith}
+use Rattle.std.proofs.Common.{◌≡◌, ℕ, suc, ◌+◌, List, Bool, true, false, ◌&&◌, not, Option, Some, None, Ok, codes, refl, ap, sym, ◌∙◌, arith}
 use Rattle.std.specs.Prelude.{bytes_eq, unwrap_or, if◌then◌else◌, ◌==◌}
 use Rattle.std.proofs.lemmas.Bool.Decides.{nat_tests}
 use Rattle.gd_grammar.specs.Maybe.{◌>>=◌}
-use Rattle.gd_tree.specs.Json.{Json, null, boolean, number, text, list, object, item, no_items, member, no_members}
-use Rattle.gd_tree.specs.Look.{is_null, text_of, members_len}
+use Rattle.gd_tree.specs.Json.{Json, null, boolean, number, text, list, object, item, no_items, Members, member, no_members}
+use Rattle.gd_tree.specs.Look.{is_null, text_of, members_len, member_at, member_count}
+use Rattle.gd_defs.specs.Ids.{is_id}
 use Rattle.gd_runs.specs.Request.{read, write, line_of, session_of}
-use Rattle.gd_runs.specs.Built.{pair_of, triple_of, sole_member, sole_item, is_the_text, read_asked, create_clause, is_form, name_request, create_request}
-use Rattle.gd_mql.specs.Line.{line_session, name_asked, object_asked}
+use Rattle.gd_runs.specs.Built.{pair_of, triple_of, sole_member, sole_item, is_the_text, IdAsk, no_id, any_id, this_id, FormAsk, named_at, count_of, guid_ask, id_ask, name_ask, asked_by, only_asked, clause_asked, read_asked, create_clause, is_form, form_request, create_request}
+use Rattle.gd_mql.specs.Line.{line_session, form_asked, object_asked}
 use Rattle.gd_mql.proofs.Asked.{same_bytes, step-is, test-is, pair_of-is, sole_member-is, sole_item-is, is_null-is}
 
 both : (a b : Bool) → (a && b) ≡ true → (a ≡ true) × (b ≡ true)
@@ -57,39 +58,205 @@ triple_of-is k l m (object (member a u (member b v (member c w no_members)))) p 
 
 -- ---- reads
 
--- the clause that asks for the objects of a name and their guids, in the envelope of a read
-abbrev pub read_envelope : List ℕ → Json
-read_envelope x = object (member (codes "query") (list (item (object (member (codes "guid") null (member (codes "name") (text x) no_members))) no_items)) no_members)
+-- a member in front of others, where it is there
+abbrev pub put : List ℕ → Option Json → Members → Members
+put k None ms = ms
+put k (Some j) ms = member k j ms
 
-read_asked-is : (j : Json) (x : List ℕ) → read_asked j ≡ Some x → j ≡ read_envelope x
-read_asked-is j x is =
-    let query = step-is (sole_member (codes "query") j) _ x is in
-    let clause = step-is (sole_item query.0) _ x query.2 in
-    let members = step-is (pair_of (codes "guid") (codes "name") clause.0) _ x clause.2 in
-    let asked = test-is (is_null members.0.0) _ x members.2 in
-    let guid : members.0.0 ≡ null = is_null-is members.0.0 asked.0 in
-    let name : members.0.1 ≡ text x = text_of-is members.0.1 x asked.1 in
-    let of_clause : clause.0 ≡ object (member (codes "guid") null (member (codes "name") (text x) no_members)) =
-    pair_of-is (codes "guid") (codes "name") clause.0 members.0 members.1
-    ∙ (ap (λ g. object (member (codes "guid") g (member (codes "name") members.0.1 no_members))) guid ∙ ap (λ n. object (member (codes "guid") null (member (codes "name") n no_members))) name) in
-    sole_member-is (codes "query") j query.0 query.1 ∙ ap (λ q. object (member (codes "query") q no_members)) (sole_item-is query.0 clause.0 clause.1 ∙ ap (λ c. list (item c no_items)) of_clause)
+-- members with the value of the first, if it has this name, and those behind it
+record IsFront (k : List ℕ) (ms : Members) (value : Option Json) : Type 0 where
+  rest : Members
+  is : ms ≡ put k value rest
+  behind : (n m : ℕ) → m ≡ count_of value + n → member_at m ms ≡ member_at n rest
+  len : members_len ms ≡ count_of value + members_len rest
 
--- such a read of a session
-abbrev read_json : Json → List ℕ → Json
-read_json sid x = object (member (codes "read") (read_envelope x) (member (codes "sid") sid no_members))
+-- the value of a member, if it has this name
+abbrev value_of : List ℕ → Option (List ℕ × Json) → Option Json
+value_of k found = found >>= λ m. if bytes_eq m.0 k then Some m.1 else None
 
-name_asked-is : (j : Json) (x : List ℕ) → name_asked j ≡ Some x → (sid : Json) × (j ≡ read_json sid x)
-name_asked-is j x is =
-    let parts = step-is (pair_of (codes "read") (codes "sid") j) _ x is in
-    (parts.0.1, pair_of-is (codes "read") (codes "sid") j parts.0 parts.1 ∙ ap (λ e. object (member (codes "read") e (member (codes "sid") parts.0.1 no_members))) (read_asked-is parts.0.0 x parts.2))
+front : (k : List ℕ) (ms : Members) (value : Option Json) → value_of k (member_at 0 ms) ≡ value → IsFront k ms value
+front k no_members None is = record { rest = no_members; is = refl; behind = λ n m e. refl; len = omega arith }
+front k no_members (Some v) is = cc
+front k (member l w ms) value is = by (bytes_eq l k) value refl is
+  where
+    by : (c : Bool) (value : Option Json) → bytes_eq l k ≡ c → (if c then Some w else None) ≡ value → IsFront k (member l w ms) value
+    by true None same is = cc
+    by true (Some v) same is =
+        let name : l ≡ k = same_bytes l k same in let value : w ≡ v = cc in
+        record {
+          rest = ms;
+          is = rw (name, value) refl;
+          behind = λ n m e. (let next : m ≡ suc n = omega arith in rw next refl);
+          len = omega arith;
+        }
+    by false None other is = record { rest = member l w ms; is = refl; behind = λ n m e. (let same : m ≡ n = omega arith in rw same refl); len = omega arith }
+    by false (Some v) other is = cc
 
-read_json-spells : (sid : Json) (x : List ℕ) (s : ℕ) → session_of (Some sid) ≡ Some s → line_of (read_json sid x) ≡ Ok (read s (name_request x))
-read_json-spells sid x s session = rw session refl
+none_left : (ms : Members) → members_len ms ≡ 0 → ms ≡ no_members
+none_left no_members is = refl
+none_left (member k j ms) is = absurd (omega arith)
 
-pub read-spelled : (j : Json) (s : ℕ) (x : List ℕ) → line_session j ≡ Some s → name_asked j ≡ Some x → line_of j ≡ Ok (read s (name_request x))
-read-spelled j s x session asked =
-    let line = name_asked-is j x asked in
-    ap line_of line.1 ∙ read_json-spells line.0 x s (sym (ap line_session line.1) ∙ session)
+equal : (a b : ℕ) → (a == b) ≡ true → a ≡ b
+equal a b is = grind (arith, nat_tests)
+
+-- the clause of these members
+abbrev pub clause_json : Option Json → Option Json → Option Json → Json
+clause_json guid id name = object (put (codes "guid") guid (put (codes "id") id (put (codes "name") name no_members)))
+
+-- a clause of the form is just that of its members, of which there is one at least
+record IsClause (j : Json) (a : FormAsk) : Type 0 where
+  guid : Option Json
+  id : Option Json
+  name : Option Json
+  is : j ≡ clause_json guid id name
+  asks : asked_by guid id name ≡ Some a
+  some : not (member_count j == 0) ≡ true
+
+members-is : (ms : Members) (guid id name : Option Json) (a : FormAsk) → named_at (codes "guid") 0 (object ms) ≡ guid → named_at (codes "id") (count_of guid) (object ms) ≡ id
+    → named_at (codes "name") (count_of guid + count_of id) (object ms) ≡ name → only_asked guid id name (object ms) ≡ Some a → IsClause (object ms) a
+members-is ms guid id name a has_guid has_id has_name is =
+    let one : IsFront (codes "guid") ms guid = front (codes "guid") ms guid has_guid in
+    let two : IsFront (codes "id") one.rest id = front (codes "id") one.rest id (ap (value_of (codes "id")) (sym (one.behind 0 (count_of guid) (omega arith))) ∙ has_id) in
+    let three : IsFront (codes "name") two.rest name = front (codes "name") two.rest name
+    (ap (value_of (codes "name")) (sym (one.behind (count_of id) (count_of guid + count_of id) refl ∙ two.behind 0 (count_of id) (omega arith))) ∙ has_name) in
+    let asked = test-is (members_len ms == count_of guid + count_of id + count_of name && not (members_len ms == 0)) _ a is in
+    let tests = both (members_len ms == count_of guid + count_of id + count_of name) (not (members_len ms == 0)) asked.0 in
+    let count : members_len ms ≡ count_of guid + count_of id + count_of name = equal _ _ tests.0 in
+    let first : members_len ms ≡ count_of guid + members_len one.rest = one.len in
+    let second : members_len one.rest ≡ count_of id + members_len two.rest = two.len in
+    let third : members_len two.rest ≡ count_of name + members_len three.rest = three.len in
+    let last : three.rest ≡ no_members = none_left three.rest (omega arith) in
+    record {
+      guid = guid;
+      id = id;
+      name = name;
+      is = ap object (one.is ∙ ap (put (codes "guid") guid) (two.is ∙ ap (put (codes "id") id) (three.is ∙ ap (put (codes "name") name) last)));
+      asks = asked.1;
+      some = tests.1;
+    }
+
+clause_asked-is : (j : Json) (a : FormAsk) → clause_asked j ≡ Some a → IsClause j a
+clause_asked-is (object ms) a is = members-is ms _ _ _ a refl refl refl is
+clause_asked-is null a is = cc
+clause_asked-is (boolean b) a is = cc
+clause_asked-is (number n) a is = cc
+clause_asked-is (text t) a is = cc
+clause_asked-is (list js) a is = cc
+
+-- ---- what the members ask
+
+abbrev guid_value : Bool → Option Json
+guid_value true = Some null
+guid_value false = None
+
+abbrev id_value : IdAsk → Option Json
+id_value no_id = None
+id_value any_id = Some null
+id_value (this_id t) = Some (text t)
+
+abbrev name_value : Option (List ℕ) → Option Json
+name_value None = None
+name_value (Some t) = Some (text t)
+
+-- a text that is asked for as an id is one
+abbrev pub id_fits : IdAsk → Bool
+id_fits (this_id t) = is_id t
+id_fits _ = true
+
+guid_ask-is : (o : Option Json) (b : Bool) → guid_ask o ≡ Some b → o ≡ guid_value b
+guid_ask-is None true is = cc
+guid_ask-is None false is = refl
+guid_ask-is (Some j) b is =
+    let null_there = test-is (is_null j) (Some true) b is in
+    let asked : true ≡ b = cc (null_there.1) in
+    ap Some (is_null-is j null_there.0) ∙ ap guid_value asked
+
+name_ask-is : (o : Option Json) (n : Option (List ℕ)) → name_ask o ≡ Some n → o ≡ name_value n
+name_ask-is None None is = refl
+name_ask-is None (Some t) is = cc
+name_ask-is (Some j) n is =
+    let t = step-is (text_of j) (λ t. Some (Some t)) n is in
+    let asked : Some t.0 ≡ n = ap (λ o. unwrap_or o n) t.2 in
+    ap Some (text_of-is j t.0 t.1) ∙ ap name_value asked
+
+id_ask-is : (o : Option Json) (i : IdAsk) → id_ask o ≡ Some i → (o ≡ id_value i) × (id_fits i ≡ true)
+id_ask-is None i is = let asked : no_id ≡ i = ap (λ o. unwrap_or o i) is in rw (← asked) (refl, refl)
+id_ask-is (Some j) i is = by (is_null j) refl is
+  where
+    by : (c : Bool) → is_null j ≡ c → (if c then Some any_id else (text_of j >>= λ t. if is_id t then Some (this_id t) else None)) ≡ Some i → (Some j ≡ id_value i) × (id_fits i ≡ true)
+    by true null_there is = let asked : any_id ≡ i = ap (λ o. unwrap_or o i) is in rw (← asked) (ap Some (is_null-is j null_there), refl)
+    by false other is =
+        let t = step-is (text_of j) (λ t. if is_id t then Some (this_id t) else None) i is in
+        let fits = test-is (is_id t.0) (Some (this_id t.0)) i t.2 in
+        let asked : this_id t.0 ≡ i = ap (λ o. unwrap_or o i) fits.1 in
+        rw (← asked) (ap Some (text_of-is j t.0 t.1), fits.0)
+
+-- ---- the line
+
+-- a read of a clause
+abbrev read_json : Json → Json → Json
+read_json sid clause = object (member (codes "read") (object (member (codes "query") (list (item clause no_items)) no_members)) (member (codes "sid") sid no_members))
+
+-- the clause that asks this
+abbrev ask_json : Bool → IdAsk → Option (List ℕ) → Json
+ask_json guid id name = clause_json (guid_value guid) (id_value id) (name_value name)
+
+read_json-spells : (sid : Json) (s : ℕ) (g : Bool) (i : IdAsk) (n : Option (List ℕ)) → session_of (Some sid) ≡ Some s → id_fits i ≡ true → not (member_count (ask_json g i n) == 0) ≡ true
+    → line_of (read_json sid (ask_json g i n)) ≡ Ok (read s (form_request (record { guid = g; id = i; name = n })))
+read_json-spells sid s false no_id None session fits there = cc
+read_json-spells sid s false no_id (Some x) session fits there = rw session refl
+read_json-spells sid s false any_id None session fits there = rw session refl
+read_json-spells sid s false any_id (Some x) session fits there = rw session refl
+read_json-spells sid s false (this_id t) None session fits there = rw (session, fits) refl
+read_json-spells sid s false (this_id t) (Some x) session fits there = rw (session, fits) refl
+read_json-spells sid s true no_id None session fits there = rw session refl
+read_json-spells sid s true no_id (Some x) session fits there = rw session refl
+read_json-spells sid s true any_id None session fits there = rw session refl
+read_json-spells sid s true any_id (Some x) session fits there = rw session refl
+read_json-spells sid s true (this_id t) None session fits there = rw (session, fits) refl
+read_json-spells sid s true (this_id t) (Some x) session fits there = rw (session, fits) refl
+
+-- what a clause asks by its members
+record Asks (guid id name : Option Json) (a : FormAsk) : Type 0 where
+  guid_is : guid ≡ guid_value a.guid
+  id_is : id ≡ id_value a.id
+  fits : id_fits a.id ≡ true
+  name_is : name ≡ name_value a.name
+
+asked_by-is : (guid id name : Option Json) (a : FormAsk) → asked_by guid id name ≡ Some a → Asks guid id name a
+asked_by-is guid id name a is =
+    let g = step-is (guid_ask guid) (λ g. id_ask id >>= λ i. name_ask name >>= λ n. Some (record { guid = g; id = i; name = n })) a is in
+    let i = step-is (id_ask id) (λ i. name_ask name >>= λ n. Some (record { guid = g.0; id = i; name = n })) a g.2 in
+    let n = step-is (name_ask name) (λ n. Some (record { guid = g.0; id = i.0; name = n })) a i.2 in
+    let whole : record { guid = g.0; id = i.0; name = n.0 } ≡ a = ap (λ (o : Option FormAsk). unwrap_or o a) n.2 in
+    let the_id = id_ask-is id i.0 i.1 in
+    record {
+      guid_is = guid_ask-is guid g.0 g.1 ∙ ap (λ (a : FormAsk). guid_value a.guid) whole;
+      id_is = the_id.0 ∙ ap (λ (a : FormAsk). id_value a.id) whole;
+      fits = sym (ap (λ (a : FormAsk). id_fits a.id) whole) ∙ the_id.1;
+      name_is = name_ask-is name n.0 n.1 ∙ ap (λ (a : FormAsk). name_value a.name) whole;
+    }
+
+clause-spells : (sid j : Json) (s : ℕ) (a : FormAsk) → session_of (Some sid) ≡ Some s → clause_asked j ≡ Some a → line_of (read_json sid j) ≡ Ok (read s (form_request a))
+clause-spells sid j s a session asked =
+    let c = clause_asked-is j a asked in
+    let by = asked_by-is c.guid c.id c.name a c.asks in
+    let clause : j ≡ ask_json a.guid a.id a.name = c.is
+    ∙ (ap (λ g. clause_json g c.id c.name) by.guid_is ∙ (ap (λ i. clause_json (guid_value a.guid) i c.name) by.id_is ∙ ap (λ n. clause_json (guid_value a.guid) (id_value a.id) n) by.name_is)) in
+    ap (λ q. line_of (read_json sid q)) clause ∙ read_json-spells sid s a.guid a.id a.name session by.fits (sym (ap (λ q. not (member_count q == 0)) clause) ∙ c.some)
+
+read_asked-is : (j : Json) (a : FormAsk) → read_asked j ≡ Some a → (clause : Json) × (clause_asked clause ≡ Some a) × (j ≡ object (member (codes "query") (list (item clause no_items)) no_members))
+read_asked-is j a is =
+    let query = step-is (sole_member (codes "query") j) (λ q. sole_item q >>= clause_asked) a is in
+    let clause = step-is (sole_item query.0) clause_asked a query.2 in
+    (clause.0, clause.2, sole_member-is (codes "query") j query.0 query.1 ∙ ap (λ q. object (member (codes "query") q no_members)) (sole_item-is query.0 clause.0 clause.1))
+
+pub read-spelled : (j : Json) (s : ℕ) (a : FormAsk) → line_session j ≡ Some s → form_asked j ≡ Some a → line_of j ≡ Ok (read s (form_request a))
+read-spelled j s a session asked =
+    let parts = step-is (pair_of (codes "read") (codes "sid") j) (λ parts. read_asked parts.0) a asked in
+    let clause = read_asked-is parts.0.0 a parts.2 in
+    let line : j ≡ read_json parts.0.1 clause.0 = pair_of-is (codes "read") (codes "sid") j parts.0 parts.1 ∙ ap (λ e. object (member (codes "read") e (member (codes "sid") parts.0.1 no_members))) clause.2 in
+    ap line_of line ∙ clause-spells parts.0.1 clause.0 s a (sym (ap line_session line) ∙ session) clause.1
 
 -- ---- writes
 
@@ -161,14 +328,14 @@ write-spelled j s p session asked =
 
 -- ---- which forms are built
 
-pub read-is_form : (j : Json) (x : List ℕ) → name_asked j ≡ Some x → is_form j ≡ true
+pub read-is_form : (j : Json) (a : FormAsk) → form_asked j ≡ Some a → is_form j ≡ true
 unfolding is_form
-read-is_form j x asked = rw asked refl
+read-is_form j a asked = rw asked refl
 
-pub write-is_form : (j : Json) (p : Bool × List ℕ) → name_asked j ≡ None → object_asked j ≡ Some p → is_form j ≡ true
+pub write-is_form : (j : Json) (p : Bool × List ℕ) → form_asked j ≡ None → object_asked j ≡ Some p → is_form j ≡ true
 unfolding is_form
 write-is_form j p no_read asked = rw (no_read, asked) refl
 
-pub no_form : (j : Json) → name_asked j ≡ None → object_asked j ≡ None → is_form j ≡ false
+pub no_form : (j : Json) → form_asked j ≡ None → object_asked j ≡ None → is_form j ≡ false
 unfolding is_form
 no_form j no_read no_write = rw (no_read, no_write) refl

@@ -3,6 +3,7 @@
 
 pub mod fault;
 pub mod forms;
+pub mod ids;
 pub mod line;
 pub mod parts;
 #[cfg(test)]

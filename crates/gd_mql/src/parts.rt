@@ -48,6 +48,19 @@ pub fn triple<'a>(
     }
 }
 
+/// The value of the member at an index of an object, the first being at 0, if it has this name.
+pub fn named_at<'a>(value: &'a Json, index: usize, name: &str) -> Option<&'a Json>
+    ensures { option_map (λ part. view part.now) result
+        ≡ form.named_at name.now index (view value.now) }
+{
+    let member = value.nth_member(index)?;
+    if member.0.as_str() == name {
+        Some(member.1)
+    } else {
+        None
+    }
+}
+
 /// The value of an object's only member, which has this name.
 pub fn sole_member<'a>(value: &'a Json, name: &str) -> Option<&'a Json>
     ensures { option_map (λ part. view part.now) result

@@ -1,6 +1,7 @@
 //! What no clause says: lines as texts, and that memory suffices where there is plenty.
 use crate::fault::{Code, LineFault, Path};
-use crate::line::{LINE_LIMIT, Line, ReadRequest, WriteRequest, line_from};
+use crate::ids::is_id;
+use crate::line::{IdAsk, LINE_LIMIT, Line, ReadRequest, WriteRequest, line_from};
 use gd_json::from::JsonFault;
 use gd_json::value::JsonText;
 use std::alloc::Global;
@@ -14,13 +15,22 @@ fn answer(alloc: Global, text: &str) -> Option<Result<Line, LineFault>> {
     Some(line_from(alloc, text.as_bytes()))
 }
 
-/// A read of a session.
+/// A read of a session that asks this.
+fn ask(sid: u32, asks_guid: bool, id: IdAsk, name: Option<JsonText>) -> Line {
+    Line::Read {
+        sid,
+        request: ReadRequest {
+            asks_guid,
+            id,
+            name,
+        },
+    }
+}
+
+/// A read of a session for the guids of a name.
 fn read(sid: u32, name: &str, alloc: Global) -> Result<Line, Fail> {
     let name = JsonText::from_str(alloc, name)?;
-    Ok(Line::Read {
-        sid,
-        request: ReadRequest { name },
-    })
+    Ok(ask(sid, true, IdAsk::Absent, Some(name)))
 }
 
 /// A write of a session.
@@ -59,6 +69,88 @@ fn reads_the_built_forms(rt: HostRuntime) -> Result<(), Fail> {
     ];
     for (text, line) in rows {
         assert_eq!(rt; answer(alloc, text), Some(Ok(line)), "at {text}");
+    }
+    Ok(())
+}
+
+#[test]
+fn reads_each_ask(rt: HostRuntime) -> Result<(), Fail> {
+    let alloc = rt.alloc();
+    let guid = "#0000000000000001000000000000000d";
+    let rows = [
+        ("{\"guid\":null}", ask(0, true, IdAsk::Absent, None)),
+        ("{\"id\":null}", ask(0, false, IdAsk::Asked, None)),
+        (
+            "{\"name\":\"a\"}",
+            ask(
+                0,
+                false,
+                IdAsk::Absent,
+                Some(JsonText::from_str(alloc, "a")?),
+            ),
+        ),
+        (
+            "{\"id\":\"/\"}",
+            ask(0, false, IdAsk::Is(JsonText::from_str(alloc, "/")?), None),
+        ),
+        (
+            "{\"guid\":null,\"id\":\"#0000000000000001000000000000000d\"}",
+            ask(0, true, IdAsk::Is(JsonText::from_str(alloc, guid)?), None),
+        ),
+        (
+            "{\"guid\":null,\"id\":\"/type/a_b-$9\",\"name\":\"\"}",
+            ask(
+                0,
+                true,
+                IdAsk::Is(JsonText::from_str(alloc, "/type/a_b-$9")?),
+                Some(JsonText::from_str(alloc, "")?),
+            ),
+        ),
+    ];
+    for (clause, line) in rows {
+        let text = format!(in alloc; "{{\"sid\":0,\"read\":{{\"query\":[{clause}]}}}}")?;
+        assert_eq!(rt; answer(alloc, text.as_str()), Some(Ok(line)), "at {text}");
+    }
+    Ok(())
+}
+
+/// Texts beside ids: an empty one, keys that are empty, too long, too many or of other bytes, and guids of another front, of
+/// capitals, or of a digit less or more.
+#[test]
+fn knows_ids(rt: HostRuntime) -> Result<(), Fail> {
+    let alloc = rt.alloc();
+    let mut key = String::from_str(alloc, "/")?;
+    for _ in 0..64 {
+        key.push_str("k")?;
+    }
+    let mut path = String::new(alloc);
+    for _ in 0..16 {
+        path.push_str("/k")?;
+    }
+    for id in ["/", "/a", "/A/b", "#00000000000000010000000000abcdef"] {
+        assert!(rt; is_id(id), "{id}");
+    }
+    assert!(rt; is_id(key.as_str()));
+    assert!(rt; is_id(path.as_str()));
+    key.push_str("k")?;
+    path.push_str("/k")?;
+    assert!(rt; !is_id(key.as_str()));
+    assert!(rt; !is_id(path.as_str()));
+    let others = [
+        "",
+        "a",
+        "//",
+        "/a/",
+        "/a//b",
+        "/a b",
+        "#",
+        "#00000000000000010000000000abcdeF",
+        "#00000000000000000000000000abcdef",
+        "#0000000000000001000000000abcdef",
+        "#000000000000000100000000000abcdef",
+    ];
+    for other in others {
+        assert!(rt; !is_id(other), "{other}");
     }
     Ok(())
 }
@@ -112,7 +204,11 @@ fn refuses_what_is_not_built(rt: HostRuntime) -> Result<(), Fail> {
         "\"read\":{\"query\":[{\"guid\":null,\"name\":null}]}",
         "\"read\":{\"query\":[{\"guid\":\"#1\",\"name\":\"a\"}]}",
         "\"read\":{\"query\":[{\"guid\":null,\"name\":\"a\"},{}]}",
-        "\"read\":{\"query\":[{\"guid\":null,\"id\":null,\"name\":\"a\"}]}",
+        "\"read\":{\"query\":[{}]}",
+        "\"read\":{\"query\":[{\"guid\":null,\"id\":\"type\",\"name\":\"a\"}]}",
+        "\"read\":{\"query\":[{\"guid\":null,\"id\":0}]}",
+        "\"read\":{\"query\":[{\"id\":null,\"key\":null}]}",
+        "\"read\":{\"query\":[{\"id\":null,\"name\":\"a\",\"type\":\"/\"}]}",
         "\"read\":{\"cursor\":true,\"query\":[{\"guid\":null,\"name\":\"a\"}]}",
         "\"read\":{\"query\":{\"create\":\"unconditional\",\"name\":\"a\"}}",
         "\"write\":{\"query\":[{\"guid\":null,\"name\":\"a\"}]}",

@@ -1,4 +1,2 @@
 pub mod Places
-pub mod Links
-pub mod ByName
 pub mod Texts

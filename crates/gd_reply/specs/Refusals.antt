@@ -16,6 +16,7 @@ refusal_of (refusal.Json f) = json_refusal f
 refusal_of refusal.BadLine = printed (codes "BadLine") []
 refusal_of (refusal.BadQuery code path) = bad_query_refusal (code_view code) path
 refusal_of (refusal.Full what count) = printed (codes "Full") ((codes "count", count_json count) ∷ (codes "what", text (what_text what)) ∷ [])
+refusal_of (refusal.NoSuchId path) = printed (codes "NoSuchId") ((codes "path", text path) ∷ [])
 refusal_of (refusal.TooWideAnswer weight) = too_wide weight
 refusal_of (refusal.ReplyTooLarge bytes) = too_large bytes
 refusal_of refusal.Memory = printed (codes "Memory") []

@@ -1,7 +1,6 @@
-//! Reply lines, and the reply to a read by name.
+//! Reply lines, and why a line is refused.
 #![tactic(auto)]
 
-pub mod by_name;
 pub mod guid;
 pub mod lines;
 pub mod refusal;

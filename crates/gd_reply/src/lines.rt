@@ -3,6 +3,7 @@ ghost use Rattle.std.specs.Prelude.{◌≡◌, ◌<◌, ◌^◌, ◌∷◌, ◌+
 ghost use Rattle.gd_tree.specs.Json as tree;
 ghost use Rattle.gd_json.specs.View.{view};
 ghost use Rattle.gd_defs.specs.Lines as printed;
+ghost use Rattle.gd_defs.specs.Reply as reply;
 ghost use Rattle.gd_runs.specs.Explained as explained;
 ghost use Rattle.gd_reply.specs.Refusals.{refusal_of, CountsFit};
 
@@ -11,6 +12,9 @@ use gd_base::memory::Memory;
 use gd_json::text::json_text;
 use gd_json::value::{Json, JsonText};
 use std::alloc::Global;
+
+/// The greatest number of bytes of a reply line.
+const REPLY_LIMIT: usize = 1_048_576;
 
 /// A text as JSON.
 pub fn text(alloc: Global, text: &str) -> Result<Json, Memory>
@@ -87,6 +91,24 @@ pub fn err_line_plain(alloc: Global, line: u64, refusal: &Refusal) -> Result<Vec
         alloc,
         &Json::Object(vec![in alloc; code, error, info, line]?),
     )
+}
+
+/// A reply line of at most 1,048,576 bytes as it is; in place of a longer one the refusal `ReplyTooLarge`, which tells how
+/// many bytes it has.
+pub fn within_reply(
+    alloc: Global,
+    dateline: u32,
+    line: u64,
+    bytes: Vec<u8>,
+) -> Result<Vec<u8>, Memory>
+    requires { line < 2 ^ 63 }
+    ensures { IfOk result (λ given. given.items ≡ reply.within_reply dateline line bytes.items) }
+{
+    if bytes.len() <= REPLY_LIMIT {
+        return Ok(bytes);
+    }
+    let bytes = bytes.len() as u64;
+    err_line(alloc, dateline, line, &Refusal::ReplyTooLarge { bytes })
 }
 
 /// The reply line to a line for which no memory is found. It is made before it may be needed.

@@ -29,6 +29,8 @@ pub enum Refusal {
     BadQuery { code: Code, path: Path },
     /// A limit would be passed; `count` is the number that would be reached.
     Full { what: What, count: u64 },
+    /// No object has this id.
+    NoSuchId { path: JsonText },
     /// An answer or a page weighs at least so much.
     TooWideAnswer { weight: u32 },
     /// The reply line would have so many bytes.
@@ -59,6 +61,7 @@ pub fn error_name(refusal: &Refusal) -> &'static str
         Refusal::BadLine => "BadLine",
         Refusal::BadQuery { .. } => "BadQuery",
         Refusal::Full { .. } => "Full",
+        Refusal::NoSuchId { .. } => "NoSuchId",
         Refusal::TooWideAnswer { .. } => "TooWideAnswer",
         Refusal::ReplyTooLarge { .. } => "ReplyTooLarge",
         Refusal::Memory => "Memory",
@@ -131,6 +134,13 @@ fn count_info(alloc: Global, name: &str, n: u64) -> Result<Json, Memory>
     Ok(Json::Object(vec![in alloc; member]?))
 }
 
+fn text_info(alloc: Global, name: &str, value: &JsonText) -> Result<Json, Memory>
+    ensures { IfOk result (λ json. view json ≡ object (object_of ((name.now, text_of value.now) ∷ []))) }
+{
+    let member = member(alloc, name, text(alloc, value.as_str())?)?;
+    Ok(Json::Object(vec![in alloc; member]?))
+}
+
 /// What the reply tells of the refusal.
 pub fn info(alloc: Global, refusal: &Refusal) -> Result<Json, Memory>
     requires { CountsFit refusal.now }
@@ -142,6 +152,7 @@ pub fn info(alloc: Global, refusal: &Refusal) -> Result<Json, Memory>
         }
         Refusal::BadQuery { code, path } => query_info(alloc, *code, path),
         Refusal::Full { what, count } => full_info(alloc, *what, *count),
+        Refusal::NoSuchId { path } => text_info(alloc, "path", path),
         Refusal::TooWideAnswer { weight } => count_info(alloc, "weight", u64::from(*weight)),
         Refusal::ReplyTooLarge { bytes } => count_info(alloc, "bytes", *bytes),
     }

@@ -1,11 +1,12 @@
 -- Which lines are built so far. Every other line that is JSON of this profile is refused as not built; the file goes once all are.
-use Rattle.std.specs.Prelude.{◌≡◌, ℕ, List, Bool, true, false, ◌&&◌, Option, Some, None, bytes_eq, ◌==◌, if◌then◌else◌, codes, not, ◌||◌, is_some, nat_eq, [], Result}
+use Rattle.std.specs.Prelude.{◌≡◌, ℕ, ◌+◌, List, Bool, true, false, ◌&&◌, Option, Some, None, bytes_eq, ◌==◌, if◌then◌else◌, codes, not, ◌||◌, is_some, nat_eq, [], Result}
 use Rattle.std.specs.Option.{option_eq}
 use Rattle.gd_grammar.specs.Maybe.{◌>>=◌}
 use Rattle.gd_prim.specs.declared.Primitive.{Primitive}
 use Rattle.gd_prim.specs.Builtin.{name_place, text_place}
 use Rattle.gd_tree.specs.Json.{Json, text}
 use Rattle.gd_tree.specs.Look.{member_count, nth_member_of, item_count, item_of, text_of, is_null}
+use Rattle.gd_defs.specs.Ids.{is_id}
 use Rattle.gd_defs.specs.Query as query
 use Rattle.gd_defs.specs.Query.{Query, Name, no_directives}
 use Rattle.gd_defs.specs.Property.{Property, property_object, stated}
@@ -37,13 +38,36 @@ sole_item j = if item_count j == 1 then item_of 0 j else None
 abbrev pub plain_name : List ℕ → Name
 plain_name word = record { spelled = word; reversed = false; word = word; operator = query.no_operator }
 
--- the query for the objects of a name and their guids
-abbrev pub name_query : List ℕ → Query
-name_query name = record {
-  listed = true;
-  directives = no_directives;
-  members = query.member (plain_name (codes "guid")) query.ask (query.member (plain_name (codes "name")) (query.literal (text name)) query.no_members);
-}
+-- what a read asks of the id: nothing, that it is printed, or that it is this one
+pub data IdAsk : Type 0 where
+  no_id any_id : IdAsk
+  this_id : List ℕ → IdAsk
+
+-- what a read of the built form asks of objects: whether their guids are printed, what their id is, and their name
+pub record FormAsk : Type 0 where
+  pub guid : Bool
+  pub id : IdAsk
+  pub name : Option (List ℕ)
+
+-- the member `name` with its text, where one is asked
+abbrev pub name_member : Option (List ℕ) → query.Members
+name_member None = query.no_members
+name_member (Some t) = query.member (plain_name (codes "name")) (query.literal (text t)) query.no_members
+
+-- the member `id` in front of others
+abbrev pub id_member : IdAsk → query.Members → query.Members
+id_member no_id ms = ms
+id_member any_id ms = query.member (plain_name (codes "id")) query.ask ms
+id_member (this_id t) ms = query.member (plain_name (codes "id")) (query.literal (text t)) ms
+
+-- the member `guid` in front of others
+abbrev pub guid_member : Bool → query.Members → query.Members
+guid_member true ms = query.member (plain_name (codes "guid")) query.ask ms
+guid_member false ms = ms
+
+-- the query that asks this, in a list
+abbrev pub form_query : FormAsk → Query
+form_query a = record { listed = true; directives = no_directives; members = guid_member a.guid (id_member a.id (name_member a.name)) }
 
 -- The list says of the property `name` what the built-in list says. Over other lists the built forms are not built yet.
 pub record SaysName (prims : List Primitive) : Type 0 where
@@ -52,10 +76,48 @@ pub record SaysName (prims : List Primitive) : Type 0 where
 
 -- ---- the forms of lines
 
--- the name, where the envelope of a read asks for the objects of a name and their guids: {"query":[{"guid":null,"name":NAME}]}
-abbrev pub read_asked : Json → Option (List ℕ)
-read_asked j = sole_member (codes "query") j >>= λ query. sole_item query >>= λ clause. pair_of (codes "guid") (codes "name") clause >>= λ members.
-    if is_null members.0 then text_of members.1 else None
+-- the value of the member at a place, the first being at 0, if it has this name
+abbrev pub named_at : List ℕ → ℕ → Json → Option Json
+named_at k n j = nth_member_of n j >>= λ m. if bytes_eq m.0 k then Some m.1 else None
+
+-- how many there are: one or none
+abbrev pub count_of : Option Json → ℕ
+count_of None = 0
+count_of (Some j) = 1
+
+-- the guid is not asked for, or by null
+abbrev pub guid_ask : Option Json → Option Bool
+guid_ask None = Some false
+guid_ask (Some j) = if is_null j then Some true else None
+
+-- the id is not asked for, or by null, or it is a text that is an id
+abbrev pub id_ask : Option Json → Option IdAsk
+id_ask None = Some no_id
+id_ask (Some j) = if is_null j then Some any_id else (text_of j >>= λ t. if is_id t then Some (this_id t) else None)
+
+-- the name is not asked for, or it is a text
+abbrev pub name_ask : Option Json → Option (Option (List ℕ))
+name_ask None = Some None
+name_ask (Some j) = text_of j >>= λ t. Some (Some t)
+
+-- what these members ask
+abbrev pub asked_by : Option Json → Option Json → Option Json → Option FormAsk
+asked_by guid id name = guid_ask guid >>= λ g. id_ask id >>= λ i. name_ask name >>= λ n. Some (record { guid = g; id = i; name = n })
+
+-- what a clause asks whose only members are these, in this order, one at least
+abbrev pub only_asked : Option Json → Option Json → Option Json → Json → Option FormAsk
+only_asked guid id name j = if member_count j == count_of guid + count_of id + count_of name && not (member_count j == 0) then asked_by guid id name else None
+
+-- what a clause asks that has, of the members `guid`, `id` and `name`, one at least and no others: {"guid":null,"id":null,"name":NAME}, where the id may be a text that is an id
+abbrev pub clause_asked : Json → Option FormAsk
+clause_asked j =
+    let guid : Option Json = named_at (codes "guid") 0 j in
+    let id : Option Json = named_at (codes "id") (count_of guid) j in
+    only_asked guid id (named_at (codes "name") (count_of guid + count_of id) j) j
+
+-- the same of the envelope of a read: {"query":[CLAUSE]}
+abbrev pub read_asked : Json → Option FormAsk
+read_asked j = sole_member (codes "query") j >>= λ query. sole_item query >>= clause_asked
 
 -- the value is this text
 abbrev pub is_the_text : List ℕ → Json → Bool
@@ -105,6 +167,6 @@ create_request asks_guid name = record {
   };
 }
 
--- the request that asks for the objects of a name and their guids
-abbrev pub name_request : List ℕ → ReadRequest
-name_request name = record { cursor = no_cursor; query = name_query name }
+-- the request that asks this
+abbrev pub form_request : FormAsk → ReadRequest
+form_request a = record { cursor = no_cursor; query = form_query a }

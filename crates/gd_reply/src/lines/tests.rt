@@ -28,6 +28,9 @@ fn prints_refusals(rt: HostRuntime) -> Result<(), Fail> {
         what: What::Requests,
         count: 4_194_304,
     };
+    let no_such_id = Refusal::NoSuchId {
+        path: JsonText::from_str(alloc, "/a")?,
+    };
     let rows = [
         (
             both(alloc, &Refusal::LineTooLong)?,
@@ -45,6 +48,10 @@ fn prints_refusals(rt: HostRuntime) -> Result<(), Fail> {
         (
             both(alloc, &full)?,
             "\"Full\",\"info\":{\"count\":4194304,\"what\":\"requests\"}",
+        ),
+        (
+            both(alloc, &no_such_id)?,
+            "\"NoSuchId\",\"info\":{\"path\":\"/a\"}",
         ),
         (
             both(alloc, &Refusal::TooWideAnswer { weight: 65537 })?,
@@ -74,6 +81,8 @@ fn prints_answers_and_guids(rt: HostRuntime) -> Result<(), Fail> {
     let want =
         b"{\"code\":\"/api/status/ok\",\"dateline\":1,\"line\":0,\"result\":null}".as_slice();
     assert_eq!(rt; line.as_slice(), want);
+    let short = within_reply(rt.alloc(), 1, 0, line)?;
+    assert_eq!(rt; short.as_slice(), want);
     let guid = crate::guid::guid(rt.alloc(), Id(1_048_575))?;
     assert_eq!(rt; guid.as_str(), "#000000000000000100000000000fffff");
     Ok(())

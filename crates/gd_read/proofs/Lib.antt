@@ -1,0 +1,5 @@
+pub mod NameLinks
+pub mod Lookup
+pub mod Meets
+pub mod Form
+pub mod Cases

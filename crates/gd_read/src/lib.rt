@@ -1,0 +1,8 @@
+//! The reply to a read, over a view of a store.
+#![tactic(auto)]
+
+mod found;
+mod look;
+mod names;
+pub mod reply;
+mod rows;

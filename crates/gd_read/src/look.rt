@@ -1,0 +1,34 @@
+//! Looking at the places of a view.
+ghost use Rattle.std.specs.Prelude.{◌≡◌, option_map, slice_get};
+ghost use Rattle.gd_prim.specs.History.{prims_of};
+ghost use Rattle.gd_prim.specs.Live as live;
+
+use gd_base::id::Id;
+use gd_base::steps::Steps;
+use gd_prim::Primitive;
+use gd_store::view::View;
+
+/// The primitive at a place, if there is one.
+pub(crate) fn prim_at<'a, L>(
+    view: &View<'a>,
+    place: Id,
+    steps: &mut Steps<L>,
+) -> Option<&'a Primitive>
+    ensures { option_map (λ prim. prim.now) result ≡ slice_get (prims_of view.now) place }
+{
+    if place.place() < view.end().place() {
+        Some(view.primitive(place, steps))
+    } else {
+        None
+    }
+}
+
+/// Whether an object stands at a place.
+pub(crate) fn is_object<L>(view: &View<'_>, place: Id, steps: &mut Steps<L>) -> bool
+    ensures { result ≡ live.is_object (prims_of view.now) place }
+{
+    match prim_at(view, place, steps) {
+        Some(prim) => prim.typ.is_none() && view.is_live(place, steps),
+        None => false,
+    }
+}
