@@ -10,7 +10,7 @@ use Rattle.gd_runs.specs.Request as request
 use Rattle.gd_runs.specs.Request.{reply_of}
 use Rattle.gd_runs.specs.Input.{line_at, line_too_long, input_fault_line, value_line, as_built, max_line}
 use Rattle.gd_json.specs.Reading.{json_from}
-use Rattle.gd_runs.specs.Built.{says_name, is_built, name_request}
+use Rattle.gd_runs.specs.Built.{says_name, is_built}
 use Rattle.gd_defs.specs.Write.{WriteRequest}
 use Rattle.gd_input.specs.declared.line.RoundLine.{RoundLine}
 use Rattle.gd_input.specs.declared.line.RoundLine.TheVariants.{Bytes, TooLong}
@@ -56,10 +56,10 @@ fault_comes may p bytes fault.BadLine (Ok reply) gives none prints = faulty (fau
 fault_comes may p bytes (fault.BadQuery code path) (Ok reply) gives none prints = faulty (fault_view (fault.BadQuery code path)) (gives (λ is. cc is)) (prints (λ is. cc is)) refl
 
 -- a read
-pub read_comes : (may : ℕ → Bool) (p : Progress) (bytes : List ℕ) (sid : ℕ) (name : List ℕ) (r : Result (Vec ℕ Global) Memory) → line_now p bytes ≡ Ok (request.read sid (name_request name))
-    → IfOk r (λ reply. reply.items ≡ reply_of p.batches (length p.batches) p.lines (name_request name)) → IfOk r (λ reply. ComesTo may p bytes reply.items p)
-read_comes may p bytes sid name (Err e) is prints = tt
-read_comes may p bytes sid name (Ok reply) is prints = answered sid (name_request name) is prints refl
+pub read_comes : (may : ℕ → Bool) (p : Progress) (bytes : List ℕ) (sid : ℕ) (asked : request.ReadRequest) (r : Result (Vec ℕ Global) Memory) → line_now p bytes ≡ Ok (request.read sid asked)
+    → IfOk r (λ reply. reply.items ≡ reply_of p.batches (length p.batches) p.lines asked) → IfOk r (λ reply. ComesTo may p bytes reply.items p)
+read_comes may p bytes sid asked (Err e) is prints = tt
+read_comes may p bytes sid asked (Ok reply) is prints = answered sid asked is prints refl
 
 -- the kept bytes are as many as the line has
 pub kept_length : (line : RoundLine) (v : Vec ℕ Global) (items bytes : List ℕ) (n : ℕ) → line ≡ Bytes v → items ≡ v.items → n ≡ length items → IsKept 262_144 line bytes → length bytes ≡ n

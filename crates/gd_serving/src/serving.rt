@@ -14,8 +14,8 @@ ghost use Rattle.gd_journal.specs.Causes.{HasReason};
 ghost use Rattle.gd_runs.specs.Request.{reply_of, change_refusal};
 ghost use Rattle.gd_runs.specs.Input.{line_at, input_fault_line, line_too_long};
 ghost use Rattle.gd_runs.specs.Explained.{MayBe, tells_fault, disk_line as disk_line_of, memory_line as memory_line_of};
-ghost use Rattle.gd_runs.specs.Built.{is_built, line_asked, says_name as says_name_of, name_request, create_request};
-ghost use Rattle.gd_mql.specs.Line.{GivesLine, fault_view, line_view};
+ghost use Rattle.gd_runs.specs.Built.{is_built, line_asked, says_name as says_name_of, form_request, create_request};
+ghost use Rattle.gd_mql.specs.Line.{ask_view, GivesLine, fault_view, line_view};
 ghost use Rattle.gd_change.specs.Fault.{GivesChange, fault_of, IsSmall};
 ghost use Rattle.gd_input.specs.Line.{IsKept, IsShort};
 ghost use Rattle.gd_serving.specs.Served.{Progress, GoesOn, IsServed};
@@ -40,9 +40,9 @@ use gd_mql::fault::{Code, LineFault, Path};
 use gd_mql::line::{Line, ReadRequest, WriteRequest, line_from};
 use gd_outside::clock::Clock;
 use gd_prim::{Batch, What};
-use gd_reply::by_name::reply_to_name;
 use gd_reply::lines::{err_line, err_line_plain, memory_line, ok_line};
 use gd_reply::refusal::Refusal;
+use gd_read::reply::reply as reply_to;
 use gd_resolve::property::says_name;
 use gd_store::store::Store;
 use std::alloc::Global;
@@ -57,8 +57,8 @@ const HISTORY_LIMIT: u64 = 134_217_728;
 /// No text has more bytes than this.
 const TEXT_LIMIT: u64 = 1 << 40;
 
-/// The opening of a run, for which steps are counted.
-struct Opening;
+/// The run that steps are counted for.
+struct Run;
 
 /// A write that is to be stored, or was and is in doubt: its batch, and how many bytes its line and its result have.
 #[derive(Drop)]
@@ -148,7 +148,7 @@ fn says_name_in(store: &Store) -> bool
     ensures tested { result ≡ says_name_of (prims_of store.now) }
     ensures history { IsTrue (is_history store.now) }
 {
-    let mut steps: Steps<Opening> = Steps::new();
+    let mut steps: Steps<Run> = Steps::new();
     says_name(&store.view(store.requests()), &mut steps)
 }
 
@@ -317,11 +317,11 @@ impl<D: Disk> Serving<D> {
         requires lines { self.now.progress.lines < 2 ^ 63 }
         requires says { says_name_of (prims_of self.now.progress.batches) ≡ true }
         ensures { IfOk result (λ reply. reply.items ≡ reply_of self.now.progress.batches
-            (length self.now.progress.batches) self.now.progress.lines (name_request request.now.name)) }
+            (length self.now.progress.batches) self.now.progress.lines (form_request (ask_view request.now))) }
     {
-        let dateline = self.store.requests();
-        let prims = self.store.primitives();
-        reply_to_name(alloc, prims, dateline, self.lines, request.name.as_str())
+        let mut steps: Steps<Run> = Steps::new();
+        let view = self.store.view(self.store.requests());
+        reply_to(alloc, &view, self.lines, request, &mut steps)
     }
 
     /// The reply to a write that is refused by what it asks.

@@ -1,7 +1,7 @@
 use Rattle.std.proofs.Common.{ℕ, Ok, Err, Vec, Global, length, ap, refl, ◌∙◌}
 use Rattle.gd_mql.specs.declared.line.Line.{Line}
-use Rattle.gd_mql.specs.Line.{line_view}
-use Rattle.gd_runs.specs.Built.{name_request, create_request}
+use Rattle.gd_mql.specs.Line.{ask_view, line_view}
+use Rattle.gd_runs.specs.Built.{form_request, create_request}
 use Rattle.gd_runs.specs.Request.{reply_of}
 use Rattle.gd_serving.proofs.Answered.{line_is, asks_is, kept_length, too_long_comes, fault_comes, read_comes}
 use Rattle.gd_serving.proofs.Faults.{read_quiet, quiet_if_ok}
@@ -14,7 +14,7 @@ returns-in-TooLong-clause-comes g c bytes kept =
 pub returns-in-Ok-Read-clause-comes : goal.returns-in-Ok-Read-clause-comes
 returns-in-Ok-Read-clause-comes g c bytes kept =
     let p = c.args.self.now.progress in
-    read_comes (g.C.Clock.may c.args.clock.now) p bytes c.in-Ok-Read.field-0-0 c.in-Ok-Read.request.name c.read.result
+    read_comes (g.C.Clock.may c.args.clock.now) p bytes c.in-Ok-Read.field-0-0 (form_request (ask_view c.in-Ok-Read.request)) c.read.result
     (line_is p c.args.line.now c.in-Bytes.bytes c.as_slice-bytes.result.now bytes (Ok c.in-Ok-Read.field-0) c.in-Bytes.is c.as_slice-bytes.ensures.value kept c.in-Ok-Read.ensures.gives
     ∙ ap (λ (l : Line). Ok (line_view l)) c.in-Ok-Read.field-0-is)
     c.read.ensures
@@ -22,7 +22,7 @@ returns-in-Ok-Read-clause-comes g c bytes kept =
 pub returns-in-Ok-Read-clause-fault : goal.returns-in-Ok-Read-clause-fault
 returns-in-Ok-Read-clause-fault g c =
     let p = c.args.self.now.progress in
-    let r = name_request c.in-Ok-Read.request.name in
+    let r = form_request (ask_view c.in-Ok-Read.request) in
     quiet_if_ok p.lines (λ (v : Vec ℕ Global). v.items) (reply_of p.batches (length p.batches) p.lines r) _ c.read.result (read_quiet p.lines p.batches (length p.batches) p.lines r) c.read.ensures
 
 pub returns-in-Ok-Write-clause-comes : goal.returns-in-Ok-Write-clause-comes
