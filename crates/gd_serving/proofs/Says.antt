@@ -4,7 +4,7 @@ use Rattle.gd_prim.specs.declared.Batch.{Batch}
 use Rattle.gd_prim.specs.History.{prims_of, prims_at}
 use Rattle.gd_runs.specs.Built.{SaysName, says_name}
 use Rattle.gd_change.proofs.Tested.{says_if_tested, tested_if_says}
-use Rattle.gd_serving.proofs.Replies.{prims_at-all}
+use Rattle.gd_serving.proofs.Whole.{prims_at-all}
 
 -- what the test tells, it says
 pub says_here : (bs cs : List Batch) → bs ≡ cs → says_name (prims_of cs) ≡ true → SaysName (prims_of bs)

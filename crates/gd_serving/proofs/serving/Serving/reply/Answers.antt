@@ -4,6 +4,7 @@ use Rattle.gd_mql.specs.Line.{ask_view, line_view}
 use Rattle.gd_runs.specs.Built.{form_request, create_request}
 use Rattle.gd_runs.specs.Request.{reply_of}
 use Rattle.gd_serving.proofs.Answered.{line_is, asks_is, kept_length, too_long_comes, fault_comes, read_comes}
+use Rattle.gd_serving.proofs.Backed.{backs_nothing}
 use Rattle.gd_serving.proofs.Faults.{read_quiet, quiet_if_ok}
 use Rattle.gd_serving.proofs.serving.Serving.reply.Goals as goal
 
@@ -38,3 +39,6 @@ returns-in-Err-clause-comes g c bytes kept =
     fault_comes (g.C.Clock.may c.args.clock.now) p bytes c.in-Err.fault c.fault_reply.result
     (line_is p c.args.line.now c.in-Bytes.bytes c.as_slice-bytes.result.now bytes (Err c.in-Err.fault) c.in-Bytes.is c.as_slice-bytes.ensures.value kept c.in-Err.ensures.gives)
     c.fault_reply.ensures.memory c.fault_reply.ensures.refusal
+
+pub returns-in-Ok-Read-clause-backs : goal.returns-in-Ok-Read-clause-backs
+returns-in-Ok-Read-clause-backs g c = let d = g.D.Disk in backs_nothing d.content d.moment d.images d.images_since d.faults g.met.D.Disk.only_now c.args.self.now
