@@ -1,16 +1,14 @@
 -- What entering a primitive, and taking it out again, means for the indexes.
-use Rattle.std.proofs.Common.{◌≡◌, ◌≢◌, ℕ, zero, suc, ◌+◌, ◌-◌, ◌<◌, ◌≤◌, Bool, true, false, cond, eqb, List, [], ◌∷◌, ◌++◌, length, take, refl, sym, ap, ◌∙◌, subst, append_assoc, length-append, ⊎_elim, arith}
-use Rattle.std.specs.Prelude.{Option, None, Some, ◌&&◌, ◌==◌, not, is_some, option_map, nat_lt, bytes_eq, if◌then◌else◌, slice_get, slice_set, IsSome}
-use Rattle.std.specs.Option.{option_map_or, option_or, ForSome}
-use Rattle.std.specs.List.{list_any}
+use Rattle.std.proofs.Common.{◌≡◌, ◌≢◌, ℕ, zero, suc, ◌+◌, ◌-◌, ◌<◌, ◌≤◌, Bool, true, false, List, [], ◌∷◌, ◌++◌, length, take, refl, sym, ap, ◌∙◌, subst, append_assoc, length-append, ⊎_elim, arith}
+use Rattle.std.specs.Prelude.{Option, None, Some, ◌&&◌, ◌==◌, nat_lt, bytes_eq, if◌then◌else◌, slice_get, slice_set, IsSome}
+use Rattle.std.specs.Option.{option_map_or, option_or}
 use Rattle.std.proofs.lemmas.Bool.{eq-eqb, ne_eqb, ltb-true, not-true, cases_eq}
 use Rattle.std.proofs.lemmas.List.{append-nil}
 use Rattle.std.proofs.Math.Seq.{take-append_seam}
 use Rattle.gd_base.specs.declared.datum.Datum.{Datum}
 use Rattle.gd_base.specs.declared.datum.Datum.TheVariants as datum
 use Rattle.gd_prim.specs.declared.Primitive.{Primitive}
-use Rattle.gd_prim.specs.Limits.{max_prims}
-use Rattle.gd_prim.specs.Live.{refers, is_current, has_successor, successor, places_where, is_text, text_of}
+use Rattle.gd_prim.specs.Live.{refers, has_successor, successor, places_where, is_text, text_of}
 use Rattle.gd_prim.specs.WellFormed.{refers_below, succeeds_current}
 use Rattle.gd_postings.specs.Postings.{IsAbove, ids_below}
 use Rattle.gd_versions.specs.Versions.{successor_of, with_places}

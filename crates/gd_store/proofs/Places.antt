@@ -1,6 +1,6 @@
 -- The places that a test finds: behind one primitive more, and in a front of the list.
 use Rattle.std.proofs.Common.{◌≡◌, ℕ, zero, suc, ◌+◌, ◌<◌, ◌≤◌, Bool, true, false, cond, List, [], ◌∷◌, ◌++◌, length, take, refl, sym, ap, ◌∙◌, subst, arith}
-use Rattle.std.specs.Prelude.{Option, None, Some, is_some, option_map, nat_lt, find, if◌then◌else◌, ◌||◌}
+use Rattle.std.specs.Prelude.{Option, None, Some, option_map, nat_lt, find, if◌then◌else◌, ◌||◌}
 use Rattle.std.specs.Option.{option_map_or, option_or}
 use Rattle.std.specs.List.{cons_option, enumerate_from, list_any}
 use Rattle.std.proofs.lemmas.Bool.{lt-ltb, le-ltb}

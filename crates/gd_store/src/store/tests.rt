@@ -99,6 +99,7 @@ fn views(rt: HostRuntime) -> Result<(), Fail> {
     assert!(rt; before.primitive(Id(71), &mut steps).left == Some(Id(70)));
     assert_eq!(rt; steps.taken(), 2 + 2 + 1);
     assert_eq!(rt; before.list_len(End::Left, Id(70), &mut steps), 1);
+    assert_eq!(rt; steps.taken(), 5 + 72);
     assert_eq!(rt; before.list_at(End::Left, Id(70), 0, &mut steps), Id(71));
     Ok(())
 }
@@ -111,6 +112,7 @@ fn finds_built_in_keys(rt: HostRuntime) -> Result<(), Fail> {
     let key = Text::of(rt.alloc(), "name")?;
     assert_eq!(rt; now.by_key(Id(4), &key, &mut steps), Some(Id(31)));
     assert_eq!(rt; now.key_at(Id(13), 0, &mut steps), Some(Id(31)));
+    assert_eq!(rt; steps.taken(), 3 + 2);
     assert_eq!(rt; now.key_at(Id(13), 1, &mut steps), None);
     assert_eq!(rt; now.by_key(Id(13), &key, &mut steps), None);
     Ok(())

@@ -1,4 +1,4 @@
-use Rattle.std.proofs.Common.{rules, arith}
+use Rattle.std.proofs.Common.{arith}
 use Rattle.gd_store.proofs.Rising as rising
 use Rattle.gd_store.proofs.below.last_below.Goals as goal
 

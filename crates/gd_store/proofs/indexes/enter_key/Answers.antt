@@ -1,6 +1,5 @@
-use Rattle.std.proofs.Common.{◌≡◌, length, take, refl, sym, ◌∙◌, arith}
+use Rattle.std.proofs.Common.{length, take, refl, sym, ◌∙◌, arith}
 use Rattle.std.proofs.lemmas.Option.{slice_get_read}
-use Rattle.gd_prim.specs.Live.{refers}
 use Rattle.gd_store.specs.Keys.{is_key_link, is_key_of}
 use Rattle.gd_store.proofs.Entered.{length_front, above_where, keys_entered, keys_passed}
 use Rattle.gd_store.proofs.indexes.enter_key.Goals as goal

@@ -1,6 +1,5 @@
-use Rattle.std.proofs.Common.{◌≡◌, ◌+◌, ◌<◌, length, refl, ap, ◌∙◌, subst, sym, arith}
+use Rattle.std.proofs.Common.{◌+◌, length, refl, ap, arith}
 use Rattle.std.proofs.lemmas.Option.{slice_get_read}
-use Rattle.gd_versions.specs.Versions.{with_places}
 use Rattle.gd_versions.proofs.Laws.{enough_slots}
 use Rattle.gd_store.proofs.Entered.{previous_small, previous_vacant, versions_entered, versions_passed}
 use Rattle.gd_store.proofs.indexes.enter_version.Goals as goal

@@ -1,4 +1,4 @@
-use Rattle.std.proofs.Common.{◌≡◌, length, refl, sym, ◌∙◌}
+use Rattle.std.proofs.Common.{length, refl, sym, ◌∙◌}
 use Rattle.std.proofs.lemmas.Option.{slice_get_read}
 use Rattle.gd_store.proofs.Entered.{entry_some, key_last, object_last, keys_taken, keys_left}
 use Rattle.gd_store.proofs.indexes.take_out_key.Goals as goal

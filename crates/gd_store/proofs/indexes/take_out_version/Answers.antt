@@ -1,4 +1,4 @@
-use Rattle.std.proofs.Common.{◌≡◌, length, refl}
+use Rattle.std.proofs.Common.{length, refl}
 use Rattle.std.proofs.lemmas.Option.{slice_get_read}
 use Rattle.gd_store.proofs.Entered.{is_there, previous_has, versions_taken, versions_left}
 use Rattle.gd_store.proofs.indexes.take_out_version.Goals as goal

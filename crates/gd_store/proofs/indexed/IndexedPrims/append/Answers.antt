@@ -1,4 +1,4 @@
-use Rattle.std.proofs.Common.{◌∙◌, sym}
+use Rattle.std.proofs.Common.{◌∙◌}
 use Rattle.gd_store.proofs.Entered.{joined_enters, whole_indexed}
 use Rattle.gd_store.proofs.indexed.IndexedPrims.append.Goals as goal
 

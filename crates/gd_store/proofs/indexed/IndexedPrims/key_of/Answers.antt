@@ -1,4 +1,4 @@
-use Rattle.std.proofs.Common.{◌≡◌, ◌∙◌, ap, take}
+use Rattle.std.proofs.Common.{◌∙◌, ap, take}
 use Rattle.std.specs.Prelude.{slice_get}
 use Rattle.gd_prim.specs.Live.{places_where}
 use Rattle.gd_store.specs.Keys.{is_key_of}

@@ -1,4 +1,4 @@
-use Rattle.std.proofs.Common.{◌≡◌, ◌∙◌, ap, take}
+use Rattle.std.proofs.Common.{◌∙◌, ap, take}
 use Rattle.std.specs.Prelude.{None}
 use Rattle.std.specs.List.{last_or}
 use Rattle.gd_prim.specs.Live.{places_where}
