@@ -206,29 +206,18 @@ fn follows_a_key(rt: HostRuntime) -> Result<(), Fail> {
 #[test]
 fn finds_properties(rt: HostRuntime) -> Result<(), Fail> {
     let store = Store::new(rt.alloc())?;
-    let text = Some(Id(7));
-    let of = Some(Id(6));
     let rows = [
-        (None, "name", false, asked(13, false, text, true)),
-        (None, "type", false, asked(14, false, Some(Id(5)), false)),
-        (of, "key", false, asked(15, false, Some(Id(11)), false)),
-        (
-            None,
-            "/type/object/name",
-            false,
-            asked(13, false, text, true),
-        ),
-        (
-            None,
-            "/type/property/expected_type",
-            true,
-            asked(16, true, None, false),
-        ),
-        (of, "unique", false, asked(17, false, Some(Id(9)), true)),
-        (of, "master_property", true, asked(18, true, None, false)),
+        (None, "name", false, 13, Some(Id(7)), true),
+        (None, "type", false, 14, Some(Id(5)), false),
+        (Some(Id(6)), "key", false, 15, Some(Id(11)), false),
+        (None, "/type/object/name", false, 13, Some(Id(7)), true),
+        (None, "/type/property/expected_type", true, 16, None, false),
+        (Some(Id(6)), "unique", false, 17, Some(Id(9)), true),
+        (Some(Id(6)), "master_property", true, 18, None, false),
     ];
-    for (context, word, reversed, wanted) in rows {
+    for (context, word, reversed, stored, expected, unique) in rows {
         let found = property_in(rt.alloc(), &store, context, word, reversed)?;
+        let wanted = asked(stored, reversed, expected, unique);
         assert_eq!(rt; found, Ok(wanted), "{word}");
     }
     Ok(())
