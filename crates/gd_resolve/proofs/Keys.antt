@@ -1,13 +1,13 @@
 -- The keys of a path.
-use Rattle.std.proofs.Common.{◌≡◌, ◌≤◌, ◌<◌, ◌⊎◌, inl, inr, ℕ, suc, List, [], ◌∷◌, length, map, take, drop, Bool, true, false, cond, ◌&&◌, Option, Some, None, refl, ap, sym, ◌∙◌, arith, codes, Bor}
-use Rattle.std.specs.Prelude.{if◌then◌else◌, bytes_eq, nat_le, nat_eq, ◌==◌}
+use Rattle.std.proofs.Common.{◌≡◌, ◌≤◌, ℕ, List, [], ◌∷◌, length, map, take, drop, Bool, true, false, ◌&&◌, Option, Some, None, refl, ◌∙◌, arith, codes, Bor}
+use Rattle.std.specs.Prelude.{if◌then◌else◌, bytes_eq, nat_le, nat_eq}
 use Rattle.std.specs.List.{list_all, slice_split, starts_with}
 use Rattle.std.proofs.lemmas.Bool.Decides.{nat_tests}
 use Rattle.std.proofs.lemmas.List.{take_all, length-take-le, length-map}
 use Rattle.std.proofs.lemmas.List.Folds.{list_all-map}
 use Rattle.std.proofs.lemmas.Slice.Eq.{bytes_eq-Decides}
 use Rattle.gd_grammar.specs.Maybe.{◌>>=◌}
-use Rattle.gd_defs.specs.Ids.{is_key, is_slash, path_keys, id_keys}
+use Rattle.gd_defs.specs.Ids.{is_key, is_slash, id_keys}
 
 -- of parts that all are keys, at most 16
 abbrev at_most_16 : List (List ℕ) → Option (List (List ℕ))

@@ -1,5 +1,5 @@
 -- The link by which an object is named, and the way up from it.
-use Rattle.std.proofs.Common.{◌≡◌, ◌≢◌, ◌<◌, ℕ, zero, suc, ◌+◌, ◌-◌, List, [], ◌∷◌, ◌++◌, take, drop, Bool, true, false, cond, ◌&&◌, Option, Some, None, is_some, option_map, unwrap_or, refl, ap, sym, ◌∙◌, arith, codes, add-one, append_assoc, append-nil}
+use Rattle.std.proofs.Common.{◌≡◌, ◌≢◌, ◌<◌, ℕ, zero, suc, ◌+◌, ◌-◌, List, [], ◌∷◌, ◌++◌, take, drop, Bool, true, false, cond, Option, Some, None, option_map, unwrap_or, refl, ap, sym, ◌∙◌, arith, codes, add-one, append_assoc, append-nil}
 use Rattle.std.specs.Prelude.{slice_get, find, if◌then◌else◌, ◌==◌, nat_eq}
 use Rattle.gd_grammar.specs.Maybe.{◌>>=◌}
 use Rattle.gd_prim.specs.declared.Primitive.{Primitive}

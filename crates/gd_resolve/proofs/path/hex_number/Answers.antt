@@ -1,4 +1,4 @@
-use Rattle.std.proofs.Common.{◌<◌, arith, ◌+◌, ◌*◌, ◌^◌, length}
+use Rattle.std.proofs.Common.{◌<◌, arith, ◌+◌, ◌*◌, ◌^◌}
 use Rattle.gd_resolve.proofs.Guids.{digit_more}
 use Rattle.gd_resolve.proofs.path.hex_number.Goals as goal
 

@@ -1,4 +1,4 @@
-use Rattle.std.proofs.Common.{sym, true, false, ◌∙◌}
+use Rattle.std.proofs.Common.{sym, true, false}
 use Rattle.gd_resolve.proofs.Keys.{id_keys-tested}
 use Rattle.gd_resolve.proofs.path.id_keys.Goals as goal
 

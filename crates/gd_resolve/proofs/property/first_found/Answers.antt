@@ -1,4 +1,4 @@
-use Rattle.std.proofs.Common.{◌<◌, ◌+◌, ◌-◌, length, arith, refl, sym, ◌∙◌, ap, cond, Some}
+use Rattle.std.proofs.Common.{◌<◌, ◌+◌, ◌-◌, length, arith, sym, ◌∙◌, ap, cond, Some}
 use Rattle.std.specs.Prelude.{find}
 use Rattle.std.specs.List.{range_with_len}
 use Rattle.gd_prim.specs.History.{prims_of}

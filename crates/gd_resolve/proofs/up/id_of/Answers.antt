@@ -1,4 +1,4 @@
-use Rattle.std.proofs.Common.{Some, None, string_bytes, [], ap, sym, ◌∙◌, IfOk}
+use Rattle.std.proofs.Common.{Some, None, string_bytes, ap, ◌∙◌}
 use Rattle.std.specs.Prelude.{if◌then◌else◌}
 use Rattle.std.proofs.lemmas.Result.{IfOk-weaker}
 use Rattle.gd_prim.specs.History.{prims_of}

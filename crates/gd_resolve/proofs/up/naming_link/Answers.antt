@@ -1,4 +1,4 @@
-use Rattle.std.proofs.Common.{◌≡◌, ◌<◌, ◌&&◌, false, is_some, sym, ◌∙◌, arith}
+use Rattle.std.proofs.Common.{◌<◌, ◌&&◌, is_some, sym, ◌∙◌, arith}
 use Rattle.gd_prim.specs.History.{prims_of}
 use Rattle.gd_prim.specs.Live as live
 use Rattle.gd_store.specs.Keys.{is_key_of}

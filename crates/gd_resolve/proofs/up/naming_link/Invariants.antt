@@ -1,7 +1,6 @@
 use Rattle.std.proofs.Common.{◌≡◌, ◌≤◌, ◌+◌, ◌*◌, ◌&&◌, is_some, drop, take}
 use Rattle.std.specs.Prelude.{find}
 use Rattle.gd_prim.specs.History.{prims_of}
-use Rattle.gd_prim.specs.Builtin.{key_place}
 use Rattle.gd_prim.specs.Live as live
 use Rattle.gd_defs.specs.Ids as defined
 use Rattle.gd_store.specs.Keys.{is_key_of}

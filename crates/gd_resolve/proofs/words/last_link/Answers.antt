@@ -1,4 +1,4 @@
-use Rattle.std.proofs.Common.{◌+◌, drop, Some, ap, sym, ◌∙◌, arith}
+use Rattle.std.proofs.Common.{◌+◌, drop, ap, sym, ◌∙◌, arith}
 use Rattle.std.specs.List.{last_or}
 use Rattle.gd_prim.specs.History.{prims_of}
 use Rattle.gd_store.specs.Scan.{places_from}
