@@ -5,4 +5,3 @@ pub mod Served
 pub mod Known
 pub mod Weaker
 pub mod Complete
-pub mod Shelved

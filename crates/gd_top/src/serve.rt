@@ -135,7 +135,14 @@ pub fn graphd<S: Source, K: Sink, F: Shelf, C: Clock + Drop>(
 {
     let mut clock = clock;
     match command(alloc, words) {
-        Ok(Some(Command::Serve(settings))) => serve(alloc, settings.file.as_ref(), source, sink, shelf, &mut clock),
+        Ok(Some(Command::Serve(settings))) => serve(
+            alloc,
+            settings.file.as_ref(),
+            source,
+            sink,
+            shelf,
+            &mut clock,
+        ),
         Ok(None) => Status::Usage,
         Err(_refused) => Status::Memory,
     }
