@@ -5,4 +5,5 @@ pub mod Served
 pub mod Known
 pub mod Weaker
 pub mod Complete
-pub mod Shelved
+pub mod Plain
+pub mod Split

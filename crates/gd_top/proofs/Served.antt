@@ -23,6 +23,7 @@ use Rattle.gd_top.specs.Held.{HoldsAs, RoseBy, SameStore}
 use Rattle.gd_top.specs.Serves.{printed, Accounts, Serves, ServesFront, ServesRounds, GainsFront, Answers, AnswersFront, ServedUpto}
 use Rattle.gd_top.proofs.Counted.{rose_none, rose_then, rose_later, rose_once, printed-append, printed-one, fault_count-append, memory_replies, memory_printed, memory_count, memory_many, same_store, same_after, same_then}
 use Rattle.gd_top.proofs.Settled.{holds_as, holds_same}
+use Rattle.gd_top.proofs.Split.{told_is}
 
 -- ---- lines of a round
 
@@ -253,17 +254,15 @@ served_more loaded may old mid new a b c p q input left after taken upto takes a
 
 -- an output that a run is served with is accounted for
 accounts : (loaded : List Batch) (may : ℕ → Bool) (a b : ℕ) (p q : Progress) (given lines : List Numbered) (output : List ℕ) (replies : List (List ℕ)) → IsServed loaded may given output q → SameStore p q → lines ≡ given
-    → output ≡ printed replies → RoseBy a b (fault_count 0 replies) → Accounts may (λ l. l ≡ loaded) (HoldsAs p) (RoseBy a b) lines output
-accounts loaded may a b p q given lines output replies served same is prints rose = record {
+    → output ≡ printed replies → q.lines ≡ length replies → RoseBy a b (fault_count 0 replies) → Accounts may (λ l. l ≡ loaded) (HoldsAs p) (RoseBy a b) lines output
+accounts loaded may a b p q given lines output replies served same is prints many rose = record {
   loaded = loaded;
   history = served.history;
   runs = served.runs;
-  replies = replies;
   begun = refl;
   explained = subst (λ (ls : List Numbered). IsExplainedBy is_built loaded may ls output served.history served.runs) (sym is) served.explained;
   left = holds_same p q served.history served.runs same (holds_as loaded may given output q served);
-  lines = prints;
-  counted = rose;
+  counted = subst (RoseBy a b) (sym (told_is loaded may given output served.history served.runs replies served.explained prints (served.numbered ∙ many))) rose;
 }
 
 -- at the end of the input
@@ -273,7 +272,7 @@ served_all loaded may old new a b p input left upto end =
     let lines : lines_of input ≡ upto.given = upto.lines ∙ (ap (λ (bytes : List ℕ). upto.given ++ numbered upto.round 0 (pieces [] bytes)) end ∙ append-nil upto.given) in
     record {
       output = printed upto.replies;
-      accounts = accounts loaded may a b p p upto.given (lines_of input) (printed upto.replies) upto.replies upto.served (same_store p) lines refl upto.rose;
+      accounts = accounts loaded may a b p p upto.given (lines_of input) (printed upto.replies) upto.replies upto.served (same_store p) lines refl upto.many upto.rose;
       gained = upto.gained;
     }
 
@@ -308,7 +307,7 @@ served_rounds loaded may old new a b p input left upto =
     record {
       rounds = upto.round;
       output = printed upto.replies;
-      accounts = accounts loaded may a b p p upto.given (lines_within upto.round input) (printed upto.replies) upto.replies upto.served (same_store p) lines refl upto.rose;
+      accounts = accounts loaded may a b p p upto.given (lines_within upto.round input) (printed upto.replies) upto.replies upto.served (same_store p) lines refl upto.many upto.rose;
       gained = upto.gained;
     }
 
@@ -320,6 +319,7 @@ record Unanswered (loaded : List Batch) (may : ℕ → Bool) (given : List Numbe
   pub last : Progress
   pub same : SameStore p last
   pub served : IsServed loaded may (given ++ more) (output ++ printed replies) last
+  pub many : last.lines ≡ p.lines + length replies
   pub quiet : fault_count p.lines replies ≡ 0
 
 none_more : (loaded : List Batch) (may : ℕ → Bool) (given : List Numbered) (output : List ℕ) (p : Progress) → IsServed loaded may given output p → Unanswered loaded may given output p []
@@ -328,6 +328,7 @@ none_more loaded may given output p served = record {
   last = p;
   same = same_store p;
   served = subst (λ (ls : List Numbered). IsServed loaded may ls (output ++ []) p) (sym (append-nil given)) (subst (λ (out : List ℕ). IsServed loaded may given out p) (sym (append-nil output)) served);
+  many = omega arith;
   quiet = refl;
 }
 
@@ -339,6 +340,7 @@ with_line loaded may given output p l more u = record {
   same = record { stored = u.same.stored; doubted = u.same.doubted };
   served = subst (λ (ls : List Numbered). IsServed loaded may ls (output ++ ((memory_line p.lines ++ 10 ∷ []) ++ printed u.replies)) u.last) (append_assoc given (l ∷ []) more)
       (subst (λ (out : List ℕ). IsServed loaded may ((given ++ l ∷ []) ++ more) out u.last) (append_assoc output (memory_line p.lines ++ 10 ∷ []) (printed u.replies)) u.served);
+  many = omega (arith, u.many);
   quiet = zero-add (fault_count (p.lines + 1) u.replies) ∙ u.quiet;
 }
 
@@ -379,7 +381,7 @@ front_at loaded may old new a b input left given round output rest replies p q l
       rest = due;
       accounts = accounts loaded may a b p u.last (given ++ numbered round 0 (pieces [] left)) (lines_of input) (output ++ due) (replies ++ u.replies)
           (subst (λ (out : List ℕ). IsServed loaded may (given ++ numbered round 0 (pieces [] left)) out u.last) (append_assoc output rest (printed u.replies)) u.served)
-          (same_then p q u.last same u.same) lines whole (subst (λ (n : ℕ). RoseBy a b n) (sym counts) rose);
+          (same_then p q u.last same u.same) lines whole (omega (arith, many, u.many, length-append replies u.replies)) (subst (λ (n : ℕ). RoseBy a b n) (sym counts) rose);
       gained = gained;
     }
 

@@ -18,11 +18,9 @@ module _ (may : ℕ → Bool) (begins begins' : List Batch → Type 0) (leaves l
     loaded = a.loaded;
     history = a.history;
     runs = a.runs;
-    replies = a.replies;
     begun = begun a.loaded a.begun;
     explained = a.explained;
     left = left a.history a.runs a.left;
-    lines = a.lines;
     counted = rose _ a.counted;
   }
 

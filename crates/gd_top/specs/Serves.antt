@@ -4,25 +4,19 @@ use Rattle.std.specs.Io.KnownBytes.{Appends}
 use Rattle.gd_prim.specs.declared.Batch.{Batch}
 use Rattle.gd_runs.specs.Legal.{History}
 use Rattle.gd_runs.specs.Built.{is_built}
-use Rattle.gd_runs.specs.Explained.{Numbered, Run, pieces, numbered, lines_of, lines_within, IsExplainedBy, fault_count}
+use Rattle.gd_runs.specs.Explained.{Numbered, Run, pieces, numbered, lines_of, lines_within, IsExplainedBy, fault_count, faults_told}
 use Rattle.gd_serving.specs.Served.{Progress, IsServed, GoesOn}
 use Rattle.gd_top.specs.Held.{RoseBy, SameStore}
 
--- replies as they are printed, each with its newline
-abbrev pub printed : List (List ℕ) → List ℕ
-printed replies = flat_map (λ reply. reply ++ 10 ∷ []) replies
-
--- One legal history explains this output for these lines. It begins with a list that the run may begin with, its moments are such as the clock may give, the store is left by it, and the faults that the replies tell are among those that were counted.
+-- One legal history explains this output for these lines. It begins with a list that the run may begin with, its moments are such as the clock may give, what it leaves in the file stands for it, and the count of faults rose by the lines that tell one.
 pub record Accounts (may : ℕ → Bool) (begins : List Batch → Type 0) (leaves : History → List Run → Type 0) (rises : ℕ → Type 0) (given : List Numbered) (output : List ℕ) : Type 0 where
   pub loaded : List Batch
   pub history : History
   pub runs : List Run
-  pub replies : List (List ℕ)
   pub begun : begins loaded
   pub explained : IsExplainedBy is_built loaded may given output history runs
   pub left : leaves history runs
-  pub lines : output ≡ printed replies
-  pub counted : rises (fault_count 0 replies)
+  pub counted : rises (faults_told output)
 
 -- the sink gained an output for the input that a legal history explains
 pub record Serves (may : ℕ → Bool) (begins : List Batch → Type 0) (leaves : History → List Run → Type 0) (rises : ℕ → Type 0) (old new : Option (List ℕ)) (input : List ℕ) : Type 0 where
@@ -45,6 +39,10 @@ pub record ServesRounds (may : ℕ → Bool) (begins : List Batch → Type 0) (l
   pub gained : Appends old new output
 
 -- ---- on the way
+
+-- replies as they are printed, each with its newline
+abbrev pub printed : List (List ℕ) → List ℕ
+printed replies = flat_map (λ reply. reply ++ 10 ∷ []) replies
 
 -- the sink gained a front of these bytes
 pub record GainsFront (old new : Option (List ℕ)) (whole : List ℕ) : Type 0 where

@@ -79,7 +79,7 @@ pub fn graphd<S: Source, K: Sink, F: Shelf, C: Clock + Drop>(
 
     // The input was read to its end, and one legal history explains the whole output for it. It begins with what the
     // file stood for; the file is left so that it stands for this history, with or without the write that is in doubt;
-    // and the shelf counted as many faults as lines tell.
+    // and the shelf counted at least as many faults as lines tell.
     ensures done { result ≡ Status.Done → IfSome (S.left source.old) (Serves (C.may clock)
         (BeginsWith (F.content shelf.old) (path_of words.now))
         (EndsWith (F.content shelf.old) (F.images shelf.new) (path_of words.now))
@@ -135,7 +135,14 @@ pub fn graphd<S: Source, K: Sink, F: Shelf, C: Clock + Drop>(
 {
     let mut clock = clock;
     match command(alloc, words) {
-        Ok(Some(Command::Serve(settings))) => serve(alloc, settings.file.as_ref(), source, sink, shelf, &mut clock),
+        Ok(Some(Command::Serve(settings))) => serve(
+            alloc,
+            settings.file.as_ref(),
+            source,
+            sink,
+            shelf,
+            &mut clock,
+        ),
         Ok(None) => Status::Usage,
         Err(_refused) => Status::Memory,
     }

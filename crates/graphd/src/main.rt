@@ -1,17 +1,22 @@
-//! The program: the words of the command line, standard input and output, and the clock of the system.
+//! The program: the words of the command line, standard input and output, files, and the clock of the system.
 #![tactic(auto)]
 
 use gd_base::memory::Memory;
 use gd_base::text::{Text, TextFault};
+use gd_disk::file_shelf::FileShelf;
 use gd_outside::clock::StdClock;
 use gd_outside::stream::{StdSink, StdSource};
 use gd_top::serve::graphd;
 use gd_top::status::Status;
+use gd_words::help::help_text;
 use std::alloc::Global;
+use std::fs::File;
 use std::process::ExitCode;
-use std::rt::Env;
+use std::rt::{Env, Files};
 use std::time::Clock;
 use std::{env, io};
+
+const VERSION: &str = "graphd 0.1.0\n";
 
 /// A word as a text. One that is no text is handed in as the empty text, which is no word of the grammar.
 fn word(alloc: Global, bytes: &[u8]) -> Result<Text, Memory> {
@@ -33,19 +38,50 @@ fn words(rt: &(impl Env + AllocGlobal)) -> Result<Vec<Text>, Status> {
     Ok(words)
 }
 
-fn run(rt: &(impl Env + Input + Print + Clock + AllocGlobal)) -> Status {
+/// What the program says of itself, where the only word asks for that.
+fn said_of_itself(words: &[Text]) -> Option<&'static str> {
+    let [word] = words else {
+        return None;
+    };
+    match word.as_str() {
+        "--help" => Some(help_text()),
+        "--version" => Some(VERSION),
+        _ => None,
+    }
+}
+
+/// Prints a text on standard output.
+fn say(rt: &impl Print, text: &str) -> Status {
+    match print!(rt; "{text}") {
+        Ok(()) => Status::Done,
+        Err(_) => Status::SinkFault,
+    }
+}
+
+/// Serves standard input over the files of the system.
+fn serve(
+    rt: &(impl Input + Print + Clock + Files<File = File> + AllocGlobal),
+    words: &[Text],
+) -> Status {
+    let mut source = StdSource::new(rt.reader());
+    let mut sink = StdSink::new(io::writer(rt));
+    let mut shelf = FileShelf::new(rt.alloc(), rt);
+    graphd(
+        rt.alloc(),
+        words,
+        &mut source,
+        &mut sink,
+        &mut shelf,
+        StdClock::new(rt),
+    )
+}
+
+fn run(rt: &(impl Env + Input + Print + Clock + Files<File = File> + AllocGlobal)) -> Status {
     match words(rt) {
-        Ok(words) => {
-            let mut source = StdSource::new(rt.reader());
-            let mut sink = StdSink::new(io::writer(rt));
-            graphd(
-                rt.alloc(),
-                &words,
-                &mut source,
-                &mut sink,
-                StdClock::new(rt),
-            )
-        }
+        Ok(words) => match said_of_itself(&words) {
+            Some(text) => say(rt, text),
+            None => serve(rt, &words),
+        },
         Err(status) => status,
     }
 }
@@ -53,7 +89,7 @@ fn run(rt: &(impl Env + Input + Print + Clock + AllocGlobal)) -> Status {
 fn main(rt: HostRuntime) -> ExitCode {
     let status = run(&rt);
     if status != Status::Done {
-        let _ = eprintln!(rt; "graphd: {}", status.message());
+        let _ = eprintln!(rt; "graphd: {status}");
     }
     ExitCode::from(status.code())
 }

@@ -38,12 +38,13 @@ fn serve_file(alloc: Global, input: &str, shelf: &mut MemoryShelf) -> Result<End
 /// The bytes of the file at the path, whose device is back.
 fn bytes_on(alloc: Global, shelf: &mut MemoryShelf) -> Result<Vec<u8>, Fail>
     requires { (path : List ℕ) → is_out_in (slot_at shelf.old.slots path) ≡ false }
+    ensures { (path : List ℕ) → is_out_in (slot_at shelf.new.slots path) ≡ false }
 {
     let path = Text::of(alloc, PATH)?;
     let device = shelf.open_at(&path)?;
-    let bytes = device.bytes().to_vec(alloc)?;
+    let bytes = device.bytes().to_vec(alloc);
     shelf.put_back(&path, device);
-    Ok(bytes)
+    Ok(bytes?)
 }
 
 /// What one run stores the next one finds.
@@ -135,9 +136,16 @@ fn settles_what_a_disk_left_in_doubt(rt: HostRuntime) -> Result<(), Fail> {
         let mut shelf = shelf_with(alloc, b"", &[number], &[])?;
         let ended = serve_file(alloc, &input, &mut shelf)?;
         tally = tallied(tally, &ended);
-        let again = serve_file(alloc, READ, &mut shelf)?;
+        let kept = bytes_on(alloc, &mut shelf)?;
+        let mut later = shelf_with(alloc, kept.as_slice(), &[], &[])?;
+        let again = serve_file(alloc, READ, &mut later)?;
         assert_eq!(rt; again.status, Status::Done);
-        let objects = again.output.as_slice().windows(4).filter(|w| *w == b"guid".as_slice()).count();
+        let objects = again
+            .output
+            .as_slice()
+            .windows(4)
+            .filter(|w| *w == b"guid".as_slice())
+            .count();
         if objects < 3 {
             found[objects] = found[objects].saturating_add(1);
         }
@@ -163,7 +171,10 @@ fn refuses_what_is_no_store(rt: HostRuntime) -> Result<(), Fail> {
     let rows: [(&[u8], Status); 6] = [
         (b"GRAPHD2\n\0\0", Status::NotStore),
         (b"{\"sid\":0}\n", Status::NotStore),
-        (b"GRAPHD1\n\x01\0\0\0\x1d\0\x01", Status::Damaged { offset: 8 }),
+        (
+            b"GRAPHD1\n\x01\0\0\0\x1d\0\x01",
+            Status::Damaged { offset: 8 },
+        ),
         (b"GRAPHD1\n\x01\0\0\0\0\0", Status::Damaged { offset: 8 }),
         (&FILE[..42], Status::Damaged { offset: 8 }),
         (&torn, Status::Damaged { offset: 42 }),
