@@ -1,34 +1,38 @@
 -- What a line comes to, by what its bytes spell.
 use Rattle.std.proofs.Common.{◌≡◌, ◌≢◌, ◌<◌, ℕ, List, length, Bool, true, if◌then◌else◌, Result, Ok, Err, IsErr, IfOk, Vec, Global, refl, ap, sym, subst, ◌∙◌}
 use Rattle.gd_prim.specs.declared.Primitive.{Primitive}
-use Rattle.gd_prim.specs.History.{prims_of, prims_at}
+use Rattle.gd_prim.specs.History.{prims_at}
 use Rattle.gd_mql.specs.declared.line.Line.{Line}
 use Rattle.gd_mql.specs.declared.fault.LineFault.{LineFault}
 use Rattle.gd_mql.specs.declared.fault.LineFault.TheVariants as fault
-use Rattle.gd_mql.specs.Line.{fault_view, GivesLine}
+use Rattle.gd_mql.specs.Line.{fault_view, line_view, GivesLine}
 use Rattle.gd_runs.specs.Request as request
 use Rattle.gd_runs.specs.Request.{reply_of}
 use Rattle.gd_runs.specs.Input.{line_at, line_too_long, input_fault_line, value_line, as_built, max_line}
 use Rattle.gd_json.specs.Reading.{json_from}
-use Rattle.gd_runs.specs.Built.{SaysName, says_name, is_built, name_request}
+use Rattle.gd_runs.specs.Built.{says_name, is_built, name_request}
+use Rattle.gd_defs.specs.Write.{WriteRequest}
 use Rattle.gd_input.specs.declared.line.RoundLine.{RoundLine}
 use Rattle.gd_input.specs.declared.line.RoundLine.TheVariants.{Bytes, TooLong}
 use Rattle.gd_input.specs.Line.{IsKept}
 use Rattle.gd_base.specs.declared.memory.Memory.{Memory}
-use Rattle.gd_change.proofs.Tested.{tested_if_says}
 use Rattle.gd_serving.specs.Served.{Progress}
-use Rattle.gd_serving.specs.Step.{ComesTo, faulty, answered, line_now}
-use Rattle.gd_serving.proofs.Replies.{prims_at-all}
+use Rattle.gd_serving.specs.Step.{ComesTo, faulty, answered, line_now, AsksWrite}
 use Rattle.gd_serving.proofs.Written.{above}
 
-says_here : (p : Progress) → SaysName (prims_of p.batches) → says_name (prims_at p.batches (length p.batches)) ≡ true
-says_here p says = ap says_name (prims_at-all p.batches) ∙ tested_if_says (prims_of p.batches) says
+pub kept_bytes : (line : RoundLine) (v : Vec ℕ Global) (items bytes : List ℕ) → line ≡ Bytes v → items ≡ v.items → IsKept 262_144 line bytes → items ≡ bytes
+kept_bytes line v items bytes is same kept = same ∙ (subst (λ (l : RoundLine). IsKept 262_144 l bytes) is kept).0
 
--- what reading the kept bytes gives is what the line is
-pub line_is : (p : Progress) (line : RoundLine) (v : Vec ℕ Global) (items bytes : List ℕ) (r : Result Line LineFault) → SaysName (prims_of p.batches) → line ≡ Bytes v → items ≡ v.items → IsKept 262_144 line bytes
-    → ((prims : List Primitive) → says_name prims ≡ true → GivesLine (line_at is_built prims items) r) → GivesLine (line_now p bytes) r
-line_is p line v items bytes r says is same kept gives =
-    subst (λ (bs : List ℕ). GivesLine (line_now p bs) r) (same ∙ (subst (λ (l : RoundLine). IsKept 262_144 l bytes) is kept).0) (gives (prims_at p.batches (length p.batches)) (says_here p says))
+-- what the kept bytes are, the line is
+pub line_is : (p : Progress) (line : RoundLine) (v : Vec ℕ Global) (items bytes : List ℕ) (r : Result Line LineFault) → line ≡ Bytes v → items ≡ v.items → IsKept 262_144 line bytes
+    → GivesLine (line_now p items) r → GivesLine (line_now p bytes) r
+line_is p line v items bytes r is same kept gives = subst (λ (bs : List ℕ). GivesLine (line_now p bs) r) (kept_bytes line v items bytes is same kept) gives
+
+-- and they ask what the line asks
+pub asks_is : (line : RoundLine) (v : Vec ℕ Global) (items bytes : List ℕ) (l : Line) (sid : ℕ) (w : WriteRequest) → line ≡ Bytes v → items ≡ v.items → IsKept 262_144 line bytes
+    → ((prims : List Primitive) → says_name prims ≡ true → line_at is_built prims items ≡ Ok (line_view l)) → line_view l ≡ request.write sid w → AsksWrite bytes sid w
+asks_is line v items bytes l sid w is same kept asked view prims says =
+    ap (line_at is_built prims) (sym (kept_bytes line v items bytes is same kept)) ∙ asked prims says ∙ ap Ok view
 
 -- a line that has too many bytes
 pub too_long_comes : (may : ℕ → Bool) (p : Progress) (line : RoundLine) (bytes : List ℕ) (r : Result (Vec ℕ Global) Memory) → line ≡ TooLong → IsKept 262_144 line bytes

@@ -11,7 +11,7 @@ use Rattle.gd_runs.proofs.Rounds.{no_some, get_cases, no_round}
 use Rattle.gd_base.specs.declared.memory.Memory.{Memory}
 use Rattle.gd_input.specs.Rounds.{in_round}
 use Rattle.gd_serving.specs.Served.{Progress, IsServed, AreUpto, GoesOn}
-use Rattle.gd_serving.specs.Step.{ComesTo, without_memory}
+use Rattle.gd_serving.specs.Step.{ComesTo, MaySettle, without_memory}
 use Rattle.gd_serving.proofs.Steps.{next, comes_served}
 
 -- the reply to a line
@@ -63,15 +63,14 @@ goes_unanswered may p (l ∷ ls) = goes_further may p (next p) (after (next p) l
 
 -- a line for which a reply was found or was not, so that what was made before is printed
 pub goes_answered : (may : ℕ → Bool) (p s q : Progress) (bytes : List ℕ) (r : Result (Vec ℕ Global) Memory) (fallback reply : Vec ℕ Global) → reply ≡ result_unwrap_or r fallback
-    → fallback.items ≡ memory_line p.lines → IfOk r (λ found. ComesTo may p bytes found.items s) → OnErr r (s ≡ p) → q ≡ next s
+    → fallback.items ≡ memory_line p.lines → IfOk r (λ found. ComesTo may p bytes found.items s) → OnErr r (MaySettle p s) → q ≡ next s
     → GoesOn may p q (bytes ∷ []) (reply.items ++ 10 ∷ [])
-goes_answered may p s q bytes (Ok found) fallback reply is made comes same moved =
+goes_answered may p s q bytes (Ok found) fallback reply is made comes left moved =
     subst (λ (v : Vec ℕ Global). GoesOn may p q (bytes ∷ []) (v.items ++ 10 ∷ [])) (sym is)
     (subst (λ (x : Progress). GoesOn may p x (bytes ∷ []) (found.items ++ 10 ∷ [])) (sym moved) (goes_by_reply may p s bytes found.items comes))
-goes_answered may p s q bytes (Err e) fallback reply is made comes same moved =
+goes_answered may p s q bytes (Err e) fallback reply is made comes left moved =
     subst (λ (v : Vec ℕ Global). GoesOn may p q (bytes ∷ []) (v.items ++ 10 ∷ [])) (sym is)
-    (subst (λ (out : List ℕ). GoesOn may p q (bytes ∷ []) (out ++ 10 ∷ [])) (sym made)
-    (subst (λ (x : Progress). GoesOn may p x (bytes ∷ []) (memory_line p.lines ++ 10 ∷ [])) (sym (moved ∙ ap next same)) (goes_without_memory may p bytes)))
+    (subst (λ (x : Progress). GoesOn may p x (bytes ∷ []) (fallback.items ++ 10 ∷ [])) (sym moved) (goes_by_reply may p s bytes fallback.items (without_memory s left made refl)))
 
 -- ---- the run before its first line
 

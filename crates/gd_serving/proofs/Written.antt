@@ -1,5 +1,5 @@
 -- What a write comes to, by what its steps gave.
-use Rattle.std.proofs.Common.{◌≡◌, ◌≤◌, ◌<◌, ℕ, ◌+◌, List, [], ◌∷◌, ◌++◌, length, Bool, true, false, nat_lt, Option, Some, None, Result, Ok, Err, IsErr, IfOk, IfSome, refl, ap, sym, subst, ◌∙◌, arith}
+use Rattle.std.proofs.Common.{◌≡◌, ◌≤◌, ◌<◌, ℕ, inr, codes, ◌+◌, List, length, Bool, true, false, nat_lt, Option, Some, None, Result, Ok, Err, IsErr, IfOk, IfSome, refl, ap, sym, subst, ◌∙◌, arith}
 use Rattle.std.proofs.lemmas.Bool.Decides.{nat_tests}
 use Rattle.gd_prim.specs.declared.Batch.{Batch}
 use Rattle.gd_prim.specs.declared.What.TheVariants as what
@@ -7,22 +7,27 @@ use Rattle.gd_tree.specs.Json.{Json, compact}
 use Rattle.gd_defs.specs.Lines.{ok_line, err_line}
 use Rattle.gd_defs.specs.Write.{WriteRequest, ChangeFault, full}
 use Rattle.gd_runs.specs.Request.{write, change_refusal}
-use Rattle.gd_runs.specs.Explained.{MayBe}
+use Rattle.gd_runs.specs.Legal.{kept_bytes}
+use Rattle.gd_runs.specs.Explained.{MayBe, disk_line}
+use Rattle.gd_runs.specs.Built.{is_built, says_name}
+use Rattle.gd_runs.proofs.LineMore.{line_from-at}
+use Rattle.gd_prim.specs.History.{prims_of, prims_at}
 use Rattle.gd_json.specs.declared.value.Json.{Json as Value}
 use Rattle.gd_json.specs.View.{view}
 use Rattle.gd_change.specs.declared.fault.ChangeFault.{ChangeFault as Fault}
 use Rattle.gd_change.specs.Fault.{GivesChange, fault_of}
 use Rattle.gd_serving.specs.Served.{Progress}
-use Rattle.gd_serving.specs.Step.{ComesTo, refused, too_long, stored, no_doubt, line_now, exec_now, kept_with}
+use Rattle.gd_serving.specs.Step.{ComesTo, refused, too_long, stored, in_doubt, not_tried, Settles, MaySettle, AsksWrite, line_now, exec_now, kept_with, with_batch, doubtful}
+use Rattle.gd_serving.proofs.Says.{says_at}
 
 -- a refusal of what the write asks; without one nothing is given
-pub refused_comes : {V E : Type 0} (bytes_of : V → List ℕ) (may : ℕ → Bool) (p : Progress) (line : List ℕ) (sid : ℕ) (w : WriteRequest) (moment : ℕ) (r : Result V E) (fault : Option ChangeFault)
-    → p.doubt ≡ None → line_now p line ≡ Ok (write sid w) → IfSome fault (λ f. exec_now p w moment ≡ Err f)
+pub refused_comes : {V E : Type 0} (bytes_of : V → List ℕ) (may : ℕ → Bool) (b p : Progress) (line : List ℕ) (sid : ℕ) (w : WriteRequest) (moment : ℕ) (r : Result V E) (fault : Option ChangeFault)
+    → Settles b p → line_now p line ≡ Ok (write sid w) → IfSome fault (λ f. exec_now p w moment ≡ Err f)
     → IfOk r (λ reply. IfSome fault (λ f. bytes_of reply ≡ err_line (length p.batches) p.lines (change_refusal f))) → (fault ≡ None → IsErr r)
-    → IfOk r (λ reply. ComesTo may p line (bytes_of reply) p)
-refused_comes bytes_of may p line sid w moment (Err e) fault sure is does prints none = tt
-refused_comes bytes_of may p line sid w moment (Ok reply) None sure is does prints none = cc (none refl)
-refused_comes bytes_of may p line sid w moment (Ok reply) (Some f) sure is does prints none = refused p sid w moment f (no_doubt sure refl) is does prints refl
+    → IfOk r (λ reply. ComesTo may b line (bytes_of reply) p)
+refused_comes bytes_of may b p line sid w moment (Err e) fault settled is does prints none = tt
+refused_comes bytes_of may b p line sid w moment (Ok reply) None settled is does prints none = cc (none refl)
+refused_comes bytes_of may b p line sid w moment (Ok reply) (Some f) settled is does prints none = refused p sid w moment f settled is does prints refl
 
 -- what a call that gave a batch and a result says of the write
 pub done_is : (expected : Result (Batch × Json) ChangeFault) (r : Result (Batch × Value) Fault) (done : Batch × Value) → r ≡ Ok done → GivesChange expected r → expected ≡ Ok (done.0, view done.1)
@@ -38,55 +43,53 @@ above limit n h = grind (arith, nat_tests)
 within : (limit n : ℕ) → n ≤ limit → nat_lt limit n ≡ false
 within limit n h = grind (arith, nat_tests)
 
-kept_is : (p : Progress) (line : List ℕ) (result : Json) (bytes n : ℕ) → length line ≡ bytes → n ≡ p.kept + bytes + length (compact result) → kept_with p line result ≡ n
-kept_is p line result bytes n long is = omega (arith, long, is)
+kept_is : (p : Progress) (line : List ℕ) (result : Json) (bytes kept : ℕ) → length line ≡ bytes → kept ≡ bytes + length (compact result) → kept_bytes (length line) result ≡ kept
+kept_is p line result bytes kept long is = omega (arith, long, is)
 
 -- a history that would grow too long
-pub full_comes : {V E : Type 0} (bytes_of : V → List ℕ) (may : ℕ → Bool) (p : Progress) (line : List ℕ) (sid : ℕ) (w : WriteRequest) (moment bytes n : ℕ) (done : Batch × Json) (r : Result V E)
-    → p.doubt ≡ None → line_now p line ≡ Ok (write sid w) → exec_now p w moment ≡ Ok done → length line ≡ bytes → n ≡ p.kept + bytes + length (compact done.1) → 134_217_728 < n
+pub full_comes : {V E : Type 0} (bytes_of : V → List ℕ) (may : ℕ → Bool) (b p : Progress) (line : List ℕ) (sid : ℕ) (w : WriteRequest) (moment bytes kept n : ℕ) (done : Batch × Json) (r : Result V E)
+    → Settles b p → line_now p line ≡ Ok (write sid w) → exec_now p w moment ≡ Ok done → length line ≡ bytes → kept ≡ bytes + length (compact done.1) → n ≡ p.kept + kept → 134_217_728 < n
     → IfOk r (λ reply. bytes_of reply ≡ err_line (length p.batches) p.lines (change_refusal (full what.History n)))
-    → IfOk r (λ reply. ComesTo may p line (bytes_of reply) p)
-full_comes bytes_of may p line sid w moment bytes n done (Err e) sure is does long sum over prints = tt
-full_comes bytes_of may p line sid w moment bytes n done (Ok reply) sure is does long sum over prints =
-    let same = kept_is p line done.1 bytes n long sum in
-    too_long p sid w moment done (no_doubt sure refl) is does (ap (nat_lt 134_217_728) same ∙ above 134_217_728 n over)
+    → IfOk r (λ reply. ComesTo may b line (bytes_of reply) p)
+full_comes bytes_of may b p line sid w moment bytes kept n done (Err e) settled is does long sum count over prints = tt
+full_comes bytes_of may b p line sid w moment bytes kept n done (Ok reply) settled is does long sum count over prints =
+    let same : kept_with p line done.1 ≡ n = ap (λ k. p.kept + k) (kept_is p line done.1 bytes kept long sum) ∙ sym count in
+    too_long p sid w moment done settled is does (ap (nat_lt 134_217_728) same ∙ above 134_217_728 n over)
     (prints ∙ ap (λ k. err_line (length p.batches) p.lines (change_refusal (full what.History k))) (sym same)) refl
 
 -- a write that is stored
-pub stored_comes : (may : ℕ → Bool) (p : Progress) (line : List ℕ) (sid : ℕ) (w : WriteRequest) (moment bytes n : ℕ) (done : Batch × Json) (reply : List ℕ) (after : List Batch)
-    → p.doubt ≡ None → line_now p line ≡ Ok (write sid w) → exec_now p w moment ≡ Ok done → length line ≡ bytes → n ≡ p.kept + bytes + length (compact done.1) → n ≤ 134_217_728
-    → MayBe may moment → reply ≡ ok_line (length p.batches + 1) p.lines done.1 → after ≡ p.batches ++ done.0 ∷ []
-    → ComesTo may p line reply (record { batches = after; lines = p.lines; kept = n; doubt = None })
-stored_comes may p line sid w moment bytes n done reply after sure is does long sum under may_be prints longer =
-    let same = kept_is p line done.1 bytes n long sum in
-    stored p sid w moment done (no_doubt sure refl) is does (ap (nat_lt 134_217_728) same ∙ within 134_217_728 n under) may_be prints
-    (rw (longer, same) refl)
+pub stored_comes : (may : ℕ → Bool) (b p q : Progress) (line : List ℕ) (sid : ℕ) (w : WriteRequest) (moment bytes kept n : ℕ) (done : Batch × Json) (reply : List ℕ)
+    → Settles b p → line_now p line ≡ Ok (write sid w) → exec_now p w moment ≡ Ok done → length line ≡ bytes → kept ≡ bytes + length (compact done.1) → n ≡ p.kept + kept → n ≤ 134_217_728
+    → MayBe may moment → reply ≡ ok_line (length p.batches + 1) p.lines done.1 → q ≡ with_batch p done.0 (p.kept + kept)
+    → ComesTo may b line reply q
+stored_comes may b p q line sid w moment bytes kept n done reply settled is does long sum count under may_be prints leaves =
+    let same : kept_with p line done.1 ≡ p.kept + kept = ap (λ k. p.kept + k) (kept_is p line done.1 bytes kept long sum) in
+    stored p sid w moment done settled is does (ap (nat_lt 134_217_728) (same ∙ sym count) ∙ within 134_217_728 n under) may_be prints
+    (leaves ∙ ap (with_batch p done.0) (sym same))
 
-sure_of : (s p : Progress) → s ≡ p → s.doubt ≡ None → p.doubt ≡ None
-sure_of s p same sure = ap (λ (q : Progress). q.doubt) (sym same) ∙ sure
+-- a write that is in doubt
+pub doubtful_comes : (may : ℕ → Bool) (b p q : Progress) (line : List ℕ) (sid : ℕ) (w : WriteRequest) (moment bytes kept n : ℕ) (done : Batch × Json) (reply : List ℕ)
+    → Settles b p → line_now p line ≡ Ok (write sid w) → exec_now p w moment ≡ Ok done → length line ≡ bytes → kept ≡ bytes + length (compact done.1) → n ≡ p.kept + kept → n ≤ 134_217_728
+    → MayBe may moment → reply ≡ disk_line p.lines (codes "maybe") → q ≡ doubtful p done.0 kept
+    → ComesTo may b line reply q
+doubtful_comes may b p q line sid w moment bytes kept n done reply settled is does long sum count under may_be prints leaves =
+    let own = kept_is p line done.1 bytes kept long sum in
+    let same : kept_with p line done.1 ≡ p.kept + kept = ap (λ k. p.kept + k) own in
+    in_doubt p sid w moment done settled is does (ap (nat_lt 134_217_728) (same ∙ sym count) ∙ within 134_217_728 n under) may_be prints
+    (leaves ∙ ap (doubtful p done.0) (sym own))
 
--- the same with the progress as its fields tell it
-pub refused_here : {V E : Type 0} (bytes_of : V → List ℕ) (may : ℕ → Bool) (s p : Progress) (line : List ℕ) (sid : ℕ) (w : WriteRequest) (moment : ℕ) (r : Result V E) (fault : Option ChangeFault)
-    → s ≡ p → s.doubt ≡ None → line_now p line ≡ Ok (write sid w) → IfSome fault (λ f. exec_now s w moment ≡ Err f)
-    → IfOk r (λ reply. IfSome fault (λ f. bytes_of reply ≡ err_line (length p.batches) p.lines (change_refusal f))) → (fault ≡ None → IsErr r)
-    → IfOk r (λ reply. ComesTo may p line (bytes_of reply) p)
-refused_here bytes_of may s p line sid w moment r fault same sure is does prints none =
-    refused_comes bytes_of may p line sid w moment r fault (sure_of s p same sure) is
-    (subst (λ (q : Progress). IfSome fault (λ f. exec_now q w moment ≡ Err f)) same does) prints none
+-- what the line asks over the store as it is
+pub asked_now : (p : Progress) (line : List ℕ) (sid : ℕ) (w : WriteRequest) → AsksWrite line sid w → says_name (prims_of p.batches) ≡ true → line_now p line ≡ Ok (write sid w)
+asked_now p line sid w asks says = asks (prims_at p.batches (length p.batches)) (says_at p.batches says)
 
-pub full_here : {V E : Type 0} (bytes_of : V → List ℕ) (may : ℕ → Bool) (s p : Progress) (line : List ℕ) (sid : ℕ) (w : WriteRequest) (moment bytes n : ℕ) (done : Batch × Json) (r : Result V E)
-    → s ≡ p → s.doubt ≡ None → line_now p line ≡ Ok (write sid w) → exec_now s w moment ≡ Ok done → length line ≡ bytes → n ≡ s.kept + bytes + length (compact done.1) → 134_217_728 < n
-    → IfOk r (λ reply. bytes_of reply ≡ err_line (length p.batches) p.lines (change_refusal (full what.History n)))
-    → IfOk r (λ reply. ComesTo may p line (bytes_of reply) p)
-full_here bytes_of may s p line sid w moment bytes n done r same sure is does long sum over prints =
-    full_comes bytes_of may p line sid w moment bytes n done r (sure_of s p same sure) is
-    (subst (λ (q : Progress). exec_now q w moment ≡ Ok done) same does) long
-    (subst (λ (q : Progress). n ≡ q.kept + bytes + length (compact done.1)) same sum) over prints
+-- a write that is not tried
+pub not_tried_comes : {V E : Type 0} (bytes_of : V → List ℕ) (may : ℕ → Bool) (p q : Progress) (line : List ℕ) (sid : ℕ) (w : WriteRequest) (r : Result V E) → AsksWrite line sid w → says_name (prims_of p.batches) ≡ true → q ≡ p
+    → IfOk r (λ reply. bytes_of reply ≡ disk_line q.lines (codes "no")) → IfOk r (λ reply. ComesTo may p line (bytes_of reply) q)
+not_tried_comes bytes_of may p q line sid w (Err e) asks says same prints = tt
+not_tried_comes bytes_of may p q line sid w (Ok reply) asks says same prints =
+    not_tried (sid, w, line_from-at is_built (prims_at p.batches (length p.batches)) line (write sid w) (asked_now p line sid w asks says))
+    (prints ∙ ap (λ (x : Progress). disk_line x.lines (codes "no")) same) same
 
-pub stored_here : (may : ℕ → Bool) (s p : Progress) (line : List ℕ) (sid : ℕ) (w : WriteRequest) (moment bytes n : ℕ) (done : Batch × Json) (reply : List ℕ) (after : List Batch)
-    → s ≡ p → s.doubt ≡ None → line_now p line ≡ Ok (write sid w) → exec_now s w moment ≡ Ok done → length line ≡ bytes → n ≡ s.kept + bytes + length (compact done.1) → n ≤ 134_217_728
-    → MayBe may moment → reply ≡ ok_line (length s.batches + 1) s.lines done.1 → after ≡ s.batches ++ done.0 ∷ []
-    → ComesTo may p line reply (record { batches = after; lines = s.lines; kept = n; doubt = None })
-stored_here may s p line sid w moment bytes n done reply after same sure is does long sum under may_be prints longer =
-    subst (λ (q : Progress). line_now q line ≡ Ok (write sid w) → ComesTo may q line reply (record { batches = after; lines = s.lines; kept = n; doubt = None })) same
-    (λ is. stored_comes may s line sid w moment bytes n done reply after sure is does long sum under may_be prints longer) is
+-- what stays as a doubt ended stays so
+pub may_settle : (p m q : Progress) → Settles p m → q ≡ m → MaySettle p q
+may_settle p m q settled same = inr (subst (Settles p) (sym same) settled)

@@ -1,5 +1,6 @@
 -- What one line comes to, over the progress of a run.
 use Rattle.std.specs.Prelude.{◌≡◌, ◌⊎◌, ℕ, ◌+◌, List, [], ◌∷◌, ◌++◌, length, Bool, true, false, nat_lt, Result, Ok, Err, Some, None, codes}
+use Rattle.gd_prim.specs.declared.Primitive.{Primitive}
 use Rattle.gd_prim.specs.declared.Batch.{Batch}
 use Rattle.gd_prim.specs.declared.What.TheVariants as what
 use Rattle.gd_prim.specs.History.{prims_at}
@@ -11,7 +12,7 @@ use Rattle.gd_runs.specs.Input.{InputFault, line_at, input_fault_line}
 use Rattle.gd_runs.specs.Legal.{kept_bytes, max_history}
 use Rattle.gd_runs.specs.Explained.{MayBe, disk_line, memory_line}
 use Rattle.gd_runs.specs.Explained.Outcomes.{IsWrite}
-use Rattle.gd_runs.specs.Built.{is_built}
+use Rattle.gd_runs.specs.Built.{is_built, says_name}
 use Rattle.gd_serving.specs.Served.{Progress, Doubt}
 
 -- what a line of these bytes is over the store as it is
@@ -66,3 +67,11 @@ pub data ComesTo (may : ℕ → Bool) (p : Progress) (bytes : List ℕ) (reply :
   not_tried : IsWrite bytes → reply ≡ disk_line p.lines (codes "no") → q ≡ p → ComesTo may p bytes reply q
   -- there was no memory for it; an earlier doubt may have ended
   without_memory : (m : Progress) → (m ≡ p) ⊎ Settles p m → reply ≡ memory_line p.lines → q ≡ m → ComesTo may p bytes reply q
+
+-- nothing was changed, or a doubt ended
+abbrev pub MaySettle : Progress → Progress → Type 0
+MaySettle p q = (q ≡ p) ⊎ Settles p q
+
+-- over each list that says of the property `name` what the built-in list says, the bytes ask for this write
+abbrev pub AsksWrite : List ℕ → ℕ → WriteRequest → Type 0
+AsksWrite bytes session w = (prims : List Primitive) → says_name prims ≡ true → line_at is_built prims bytes ≡ Ok (write session w)

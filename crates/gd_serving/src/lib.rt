@@ -1,4 +1,6 @@
 //! A run that is served line by line, on one thread.
 #![tactic(auto)]
 
+mod fault_line;
+mod held;
 pub mod serving;

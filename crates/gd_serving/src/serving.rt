@@ -1,25 +1,62 @@
 //! A run that is served line by line over the log of a disk.
-ghost use Rattle.std.specs.Prelude.{◌≡◌, ◌≤◌, ◌<◌, ◌+◌, ◌++◌, ◌∷◌, ◌^◌, ℕ, Bool, List, true, length, None, IfOk, OnOk, OnErr, []};
+ghost use Rattle.std.specs.Prelude.{◌≡◌, ◌≢◌, ◌≤◌, ◌<◌, ◌+◌, ◌++◌, ◌∷◌, ◌^◌, ℕ, Bool, List, true, false, length, Ok, Err, None, Some, IsErr, IfOk, IfErr, IfSome, OnOk, OnErr, if◌then◌else◌, []};
 ghost use Rattle.gd_base.specs.Counts.{Rose};
-ghost use Rattle.gd_prim.specs.History.{is_history};
+ghost use Rattle.gd_prim.specs.declared.Primitive.{Primitive};
+ghost use Rattle.gd_prim.specs.declared.What.TheVariants as what;
+ghost use Rattle.gd_prim.specs.History.{prims_of};
+ghost use Rattle.gd_prim.specs.WellFormed.{max_moment};
+ghost use Rattle.gd_tree.specs.Json.{compact};
+ghost use Rattle.gd_json.specs.View.{view};
+ghost use Rattle.gd_defs.specs.Lines.{ok_line as ok_line_of, err_line as err_line_of};
+ghost use Rattle.gd_defs.specs.Write.{full};
 ghost use Rattle.gd_bytes.specs.Disk.{LeavesOnly};
-ghost use Rattle.gd_runs.specs.Explained.{tells_fault};
+ghost use Rattle.gd_journal.specs.Causes.{HasReason};
+ghost use Rattle.gd_runs.specs.Request.{reply_of, change_refusal};
+ghost use Rattle.gd_runs.specs.Input.{line_at, input_fault_line, line_too_long};
+ghost use Rattle.gd_runs.specs.Explained.{MayBe, tells_fault, disk_line as disk_line_of, memory_line as memory_line_of};
+ghost use Rattle.gd_runs.specs.Built.{is_built, line_asked, says_name as says_name_of, name_request, create_request};
+ghost use Rattle.gd_mql.specs.Line.{GivesLine, fault_view, line_view};
+ghost use Rattle.gd_change.specs.Fault.{GivesChange, fault_of, IsSmall};
 ghost use Rattle.gd_input.specs.Line.{IsKept, IsShort};
-ghost use Rattle.gd_serving.specs.Served.{GoesOn, IsServed};
+ghost use Rattle.gd_serving.specs.Served.{Progress, GoesOn, IsServed};
+ghost use Rattle.gd_serving.specs.Step.{ComesTo, Settles, MaySettle, AsksWrite, exec_now, line_now};
 ghost use Rattle.gd_serving.specs.Running.{IsBacked, StandsForEither};
+ghost use Rattle.gd_serving.specs.Ready.{MayAbsorb};
+ghost use Rattle.gd_serving.specs.Kept.{Backs, appended};
 
+use crate::fault_line::disk_line;
+use crate::held;
 use gd_base::memory::Memory;
+use gd_change::fault::ChangeFault;
+use gd_change::write::evaluate;
 use gd_disk::disk::Disk;
 use gd_input::line::RoundLine;
+use gd_journal::fault::JournalFault;
+use gd_json::text::json_text;
+use gd_json::value::Json;
 use gd_log::log::Log;
+use gd_mql::fault::{Code, LineFault, Path};
+use gd_mql::line::{Line, ReadRequest, WriteRequest, line_from};
 use gd_outside::clock::Clock;
-use gd_prim::Batch;
+use gd_prim::{Batch, What};
+use gd_reply::by_name::reply_to_name;
+use gd_reply::lines::{err_line, err_line_plain, memory_line, ok_line};
+use gd_reply::refusal::Refusal;
 use gd_resolve::property::says_name;
 use gd_store::store::Store;
 use std::alloc::Global;
 use std::marker::Model;
 
-/// A write in doubt: the disk failed while its batch was appended. `kept` counts the bytes of its line and its result.
+/// The last moment, in milliseconds since 1970-01-01 in UTC: the end of the year 9999.
+const LAST_MOMENT: u64 = 253_402_300_799_999;
+
+/// How many bytes the stored lines and their results may have.
+const HISTORY_LIMIT: u64 = 134_217_728;
+
+/// No text has more bytes than this.
+const TEXT_LIMIT: u64 = 1 << 40;
+
+/// A write that is to be stored, or was and is in doubt: its batch, and how many bytes its line and its result have.
 #[derive(Drop)]
 struct Pending {
     batch: Batch,
@@ -39,23 +76,67 @@ pub struct Serving<D: Disk> {
 }
 
 impl<D: Disk> Model for Serving<D> {
-    ghost use Rattle.std.specs.Prelude.{◌≤◌, ◌≡◌, option_map};
+    ghost use Rattle.std.specs.Prelude.{option_map};
     ghost use Rattle.gd_serving.specs.Served.{Progress, Doubt};
     ghost use Rattle.gd_serving.specs.Running.{Running};
+    ghost use Rattle.gd_serving.specs.Ready.{IsReady};
 
     ghost Value = { Running D };
 
     ghost view = { λ s. record {
-        progress = record {
-            batches = s.store;
-            lines = s.lines;
-            kept = s.kept;
-            doubt = option_map (λ p. record { batch = p.batch; kept = p.kept }) s.pending;
-        };
-        log = s.log;
+      progress = record {
+        batches = s.store;
+        lines = s.lines;
+        kept = s.kept;
+        doubt = option_map (λ p. record { batch = p.batch; kept = p.kept }) s.pending;
+      };
+      log = s.log;
     } };
 
-    ghost invariant = { λ s. s.kept ≤ 134_217_728 };
+    ghost invariant = { λ s. IsReady s.store s.kept s.says_name s.log.doubt
+        (option_map (λ p. record { batch = p.batch; kept = p.kept }) s.pending) };
+}
+
+/// The moment that a clock gives, cut off at the last one.
+fn moment<C: Clock>(clock: &mut C) -> u64
+    ensures given { MayBe (C.may clock.old) result }
+    ensures bound { result ≤ LAST_MOMENT }
+    ensures same { C.may clock.new ≡ C.may clock.old }
+{
+    clock.now_ms().min(LAST_MOMENT)
+}
+
+/// How many bytes the compact text of a value has. More than 2^40 bytes count as want of memory.
+fn text_len(alloc: Global, value: &Json) -> Result<u64, Memory>
+    ensures len { IfOk result (λ len. len ≡ length (compact (view value.now))) }
+    ensures bound { IfOk result (λ len. len ≤ 2 ^ 40) }
+{
+    let len = json_text(alloc, value)?.len() as u64;
+    if len > TEXT_LIMIT {
+        return Err(Memory);
+    }
+    Ok(len)
+}
+
+/// The bytes of a write, where it counts.
+fn counted(kept: u64, counts: bool) -> u64
+    ensures { result ≡ (if counts then kept else 0) }
+{
+    if counts { kept } else { 0 }
+}
+
+/// What a line is over a store that says something else of the property `name` than the built-in list: no form is built.
+fn unbuilt(alloc: Global, line: Result<Line, LineFault>) -> LineFault
+    ensures { (prims : List Primitive) (bytes : List ℕ) → says_name_of prims ≡ false
+        → GivesLine (line_asked bytes) line → GivesLine (line_at is_built prims bytes) (Err result) }
+{
+    match line {
+        Ok(_) | Err(LineFault::BadQuery { .. }) => LineFault::BadQuery {
+            code: Code::Unbuilt,
+            path: Path::root(alloc),
+        },
+        Err(fault) => fault,
+    }
 }
 
 impl<D: Disk> Serving<D> {
@@ -109,7 +190,10 @@ impl<D: Disk> Serving<D> {
         ensures later { D.faults self.old.log.disk ≤ D.faults self.new.log.disk }
         ensures same { C.may clock.new ≡ C.may clock.old }
     {
-        Err(Memory)
+        let fallback = self.memory_reply(alloc)?;
+        let reply = self.reply(alloc, clock, line).unwrap_or(fallback);
+        self.next_line();
+        Ok(reply)
     }
 
     /// The disk. It takes no memory, and leaves the file as it is.
@@ -118,4 +202,321 @@ impl<D: Disk> Serving<D> {
     {
         self.log.into_disk()
     }
+
+    /// Goes on to the next line.
+    fn next_line(&mut self)
+        requires { self.old.progress.lines < 2 ^ 63 }
+        ensures { self.new ≡ record {
+          progress = record {
+            batches = self.old.progress.batches;
+            lines = self.old.progress.lines + 1;
+            kept = self.old.progress.kept;
+            doubt = self.old.progress.doubt;
+          };
+          log = self.old.log;
+        } }
+    {
+        self.lines += 1;
+    }
+
+    /// The reply to the next line, whose number stays as it is. `Memory`: nothing was stored, but that a doubt may have
+    /// ended.
+    fn reply<C: Clock>(
+        &mut self,
+        alloc: Global,
+        clock: &mut C,
+        line: &RoundLine,
+    ) -> Result<Vec<u8>, Memory>
+        requires lines { self.old.progress.lines < 2 ^ 63 }
+        requires short { IsShort line.now }
+        ensures comes { (bytes : List ℕ) → IsKept 262_144 line.now bytes
+            → IfOk result (λ reply. ComesTo (C.may clock.old) self.old.progress bytes reply.items self.new.progress) }
+        ensures err { OnErr result (MaySettle self.old.progress self.new.progress) }
+        ensures line { self.new.progress.lines ≡ self.old.progress.lines }
+        ensures backs { Backs D.content D.moment D.images D.images_since D.faults self.old self.new }
+        ensures fault { IfOk result (λ reply. tells_fault self.old.progress.lines reply.items ≡ true
+            → Rose (D.faults self.old.log.disk) (D.faults self.new.log.disk)) }
+        ensures same { C.may clock.new ≡ C.may clock.old }
+    {
+        let bytes = match line {
+            RoundLine::TooLong => return self.too_long_reply(alloc),
+            RoundLine::Bytes(bytes) => bytes.as_slice(),
+        };
+        match self.line_here(alloc, bytes) {
+            Ok(Line::Read { request, .. }) => self.read(alloc, &request),
+            Ok(Line::Write { request, .. }) => self.write(alloc, clock, &request, bytes.len()),
+            Err(fault) => self.fault_reply(alloc, fault),
+        }
+    }
+
+    /// The line that the bytes spell over the store as it is. Where the store says something else of the property `name`
+    /// than the built-in list, no form is built.
+    fn line_here(&self, alloc: Global, bytes: &[u8]) -> Result<Line, LineFault>
+        requires { length bytes.now ≤ 262_144 }
+        ensures gives { GivesLine (line_now self.now.progress bytes.now) result }
+        ensures asked { IfOk result (λ line. (prims : List Primitive) → says_name_of prims ≡ true
+            → line_at is_built prims bytes.now ≡ Ok (line_view line)) }
+        ensures says { OnOk result (says_name_of (prims_of self.now.progress.batches) ≡ true) }
+    {
+        let line = line_from(alloc, bytes);
+        if self.says_name {
+            line
+        } else {
+            Err(unbuilt(alloc, line))
+        }
+    }
+
+    /// The reply to a line for which no memory is found.
+    fn memory_reply(&self, alloc: Global) -> Result<Vec<u8>, Memory>
+        requires { self.now.progress.lines < 2 ^ 63 }
+        ensures { IfOk result (λ reply. reply.items ≡ memory_line_of self.now.progress.lines) }
+    {
+        memory_line(alloc, self.lines)
+    }
+
+    /// The reply to a line that has too many bytes.
+    fn too_long_reply(&self, alloc: Global) -> Result<Vec<u8>, Memory>
+        requires { self.now.progress.lines < 2 ^ 63 }
+        ensures { IfOk result (λ reply. reply.items ≡ input_fault_line self.now.progress.lines line_too_long) }
+    {
+        err_line_plain(alloc, self.lines, &Refusal::LineTooLong)
+    }
+
+    /// The reply to a line that is refused by its form.
+    fn fault_reply(&self, alloc: Global, fault: LineFault) -> Result<Vec<u8>, Memory>
+        requires { self.now.progress.lines < 2 ^ 63 }
+        ensures refusal { fault ≢ LineFault.Memory
+            → IfOk result (λ reply. reply.items ≡ input_fault_line self.now.progress.lines (fault_view fault)) }
+        ensures memory { fault ≡ LineFault.Memory → IsErr result }
+    {
+        match fault {
+            LineFault::Json(fault) => err_line_plain(alloc, self.lines, &Refusal::Json(fault)),
+            LineFault::BadLine => err_line_plain(alloc, self.lines, &Refusal::BadLine),
+            LineFault::BadQuery { code, path } => {
+                err_line_plain(alloc, self.lines, &Refusal::BadQuery { code, path })
+            }
+            LineFault::Memory => Err(Memory),
+        }
+    }
+
+    /// The reply to a read.
+    fn read(&self, alloc: Global, request: &ReadRequest) -> Result<Vec<u8>, Memory>
+        requires lines { self.now.progress.lines < 2 ^ 63 }
+        requires says { says_name_of (prims_of self.now.progress.batches) ≡ true }
+        ensures { IfOk result (λ reply. reply.items ≡ reply_of self.now.progress.batches
+            (length self.now.progress.batches) self.now.progress.lines (name_request request.now.name)) }
+    {
+        let dateline = self.store.requests();
+        let prims = self.store.primitives();
+        reply_to_name(alloc, prims, dateline, self.lines, request.name.as_str())
+    }
+
+    /// The reply to a write that is refused by what it asks.
+    fn change_reply(&self, alloc: Global, fault: ChangeFault) -> Result<Vec<u8>, Memory>
+        requires lines { self.now.progress.lines < 2 ^ 63 }
+        requires small { IsSmall fault }
+        ensures refusal { IfOk result (λ reply. IfSome (fault_of fault) (λ refusal. reply.items
+            ≡ err_line_of (length self.now.progress.batches) self.now.progress.lines (change_refusal refusal))) }
+        ensures memory { fault_of fault ≡ None → IsErr result }
+    {
+        let dateline = self.store.requests();
+        match fault {
+            ChangeFault::BadQuery { code, path } => {
+                err_line(
+                    alloc,
+                    dateline,
+                    self.lines,
+                    &Refusal::BadQuery { code, path },
+                )
+            }
+            ChangeFault::Full { what, count } => {
+                err_line(alloc, dateline, self.lines, &Refusal::Full { what, count })
+            }
+            ChangeFault::Memory => Err(Memory),
+        }
+    }
+
+    /// The reply to a write by which the history would grow too long.
+    fn full_reply(&self, alloc: Global, count: u64) -> Result<Vec<u8>, Memory>
+        requires lines { self.now.progress.lines < 2 ^ 63 }
+        requires count { count < 2 ^ 63 }
+        ensures { IfOk result (λ reply. reply.items ≡ err_line_of (length self.now.progress.batches)
+            self.now.progress.lines (change_refusal (full what.History count))) }
+    {
+        let refusal = Refusal::Full {
+            what: What::History,
+            count,
+        };
+        err_line(alloc, self.store.requests(), self.lines, &refusal)
+    }
+
+    /// Ends an earlier doubt, if there is one, and then carries a write out. Where the disk fails while the doubt is to be
+    /// ended, the write is not tried. `bytes` is the length of its line. `Memory`: nothing was stored, but that the doubt
+    /// may have ended.
+    fn write<C: Clock>(
+        &mut self,
+        alloc: Global,
+        clock: &mut C,
+        request: &WriteRequest,
+        bytes: usize,
+    ) -> Result<Vec<u8>, Memory>
+        requires lines { self.old.progress.lines < 2 ^ 63 }
+        requires says { says_name_of (prims_of self.old.progress.batches) ≡ true }
+        requires bytes { bytes ≤ 262_144 }
+        ensures comes { (line : List ℕ) (session : ℕ) → length line ≡ bytes
+            → AsksWrite line session (create_request request.now.asks_guid request.now.name)
+            → IfOk result (λ reply. ComesTo (C.may clock.old) self.old.progress line reply.items self.new.progress) }
+        ensures err { OnErr result (MaySettle self.old.progress self.new.progress) }
+        ensures line { self.new.progress.lines ≡ self.old.progress.lines }
+        ensures backs { Backs D.content D.moment D.images D.images_since D.faults self.old self.new }
+        ensures fault { IfOk result (λ reply. tells_fault self.old.progress.lines reply.items ≡ true
+            → Rose (D.faults self.old.log.disk) (D.faults self.new.log.disk)) }
+        ensures same { C.may clock.new ≡ C.may clock.old }
+    {
+        match self.end_doubt() {
+            Ok(()) => self.change(alloc, clock, request, bytes),
+            Err(JournalFault::DiskFault) => self.disk_reply(alloc, "no"),
+            Err(_) => Err(Memory),
+        }
+    }
+
+    /// Ends a doubt, if there is one: the write counts, or it does not. An error leaves it. `DiskFault`: the disk failed.
+    fn end_doubt(&mut self) -> Result<(), JournalFault>
+        ensures settles { OnOk result (Settles self.old.progress self.new.progress) }
+        ensures err { OnErr result (self.new.progress ≡ self.old.progress) }
+        ensures says { says_name_of (prims_of self.new.progress.batches)
+            ≡ says_name_of (prims_of self.old.progress.batches) }
+        ensures backs { Backs D.content D.moment D.images D.images_since D.faults self.old self.new }
+        ensures cause { IfErr result (HasReason (D.faults self.old.log.disk) (D.faults self.new.log.disk)) }
+    {
+        let Some(pending) = &self.pending else {
+            return Ok(());
+        };
+        let counts = held::settle(&mut self.log, &mut self.store, &pending.batch)?;
+        self.kept += counted(pending.kept, counts);
+        self.pending = None;
+        Ok(())
+    }
+
+    /// Carries a write out where none is in doubt: it is refused, or it is stored, or it is in doubt from then on.
+    /// `bytes` is the length of its line. `Memory`: nothing was stored.
+    fn change<C: Clock>(
+        &mut self,
+        alloc: Global,
+        clock: &mut C,
+        request: &WriteRequest,
+        bytes: usize,
+    ) -> Result<Vec<u8>, Memory>
+        requires lines { self.old.progress.lines < 2 ^ 63 }
+        requires no_doubt { self.old.progress.doubt ≡ None }
+        requires says { says_name_of (prims_of self.old.progress.batches) ≡ true }
+        requires bytes { bytes ≤ 262_144 }
+        ensures comes { (before : Progress) (line : List ℕ) (session : ℕ) → Settles before self.old.progress
+            → length line ≡ bytes
+            → AsksWrite line session (create_request request.now.asks_guid request.now.name)
+            → IfOk result (λ reply. ComesTo (C.may clock.old) before line reply.items self.new.progress) }
+        ensures err { OnErr result (self.new.progress ≡ self.old.progress) }
+        ensures line { self.new.progress.lines ≡ self.old.progress.lines }
+        ensures backs { Backs D.content D.moment D.images D.images_since D.faults self.old self.new }
+        ensures fault { IfOk result (λ reply. tells_fault self.old.progress.lines reply.items ≡ true
+            → Rose (D.faults self.old.log.disk) (D.faults self.new.log.disk)) }
+        ensures same { C.may clock.new ≡ C.may clock.old }
+    {
+        let moment = moment(clock);
+        let (batch, answer) = match self.evaluate(alloc, request, moment) {
+            Ok(done) => done,
+            Err(fault) => return self.change_reply(alloc, fault),
+        };
+        let kept = bytes as u64 + text_len(alloc, &answer)?;
+        let count = self.count_with(kept);
+        if count > HISTORY_LIMIT {
+            return self.full_reply(alloc, count);
+        }
+
+        // After the append no memory may be wanting.
+        let stored = self.stored_reply(alloc, answer)?;
+        let in_doubt = self.disk_reply(alloc, "maybe")?;
+        match self.append(alloc, Pending { batch, kept }) {
+            Ok(()) => Ok(stored),
+            Err(JournalFault::DiskFault) => Ok(in_doubt),
+            Err(_) => Err(Memory),
+        }
+    }
+
+    /// What a write does after the batches of the store, at a moment.
+    fn evaluate(
+        &self,
+        alloc: Global,
+        request: &WriteRequest,
+        moment: u64,
+    ) -> Result<(Batch, Json), ChangeFault>
+        requires says { says_name_of (prims_of self.now.progress.batches) ≡ true }
+        requires moment { moment ≤ LAST_MOMENT }
+        ensures exec { GivesChange (exec_now self.now.progress
+            (create_request request.now.asks_guid request.now.name) moment) result }
+        ensures small { IfErr result (IsSmall) }
+        ensures absorbs { IfOk result (λ done. MayAbsorb self.now.progress.batches done.0) }
+        ensures moment { IfOk result (λ done. done.0.moment ≤ max_moment) }
+        ensures says { IfOk result (λ done. says_name_of (prims_of (self.now.progress.batches ++ done.0 ∷ []))
+            ≡ says_name_of (prims_of self.now.progress.batches)) }
+    {
+        evaluate(alloc, &self.store, request, moment)
+    }
+
+    /// The bytes that the history has with so many more.
+    fn count_with(&self, kept: u64) -> u64
+        requires { kept < 2 ^ 62 }
+        ensures count { result ≡ self.now.progress.kept + kept }
+        ensures small { result < 2 ^ 63 }
+    {
+        self.kept + kept
+    }
+
+    /// The reply to a write that is stored next, with its result.
+    fn stored_reply(&self, alloc: Global, answer: Json) -> Result<Vec<u8>, Memory>
+        requires { self.now.progress.lines < 2 ^ 63 }
+        ensures { IfOk result (λ reply. reply.items ≡ ok_line_of (length self.now.progress.batches + 1)
+            self.now.progress.lines (view answer)) }
+    {
+        ok_line(alloc, self.store.requests() + 1, self.lines, answer)
+    }
+
+    /// The reply to a write at which the disk failed, with a word that says whether it is stored.
+    fn disk_reply(&self, alloc: Global, stored: &str) -> Result<Vec<u8>, Memory>
+        requires { self.now.progress.lines < 2 ^ 63 }
+        ensures { IfOk result (λ reply. reply.items ≡ disk_line_of self.now.progress.lines stored.now) }
+    {
+        disk_line(alloc, self.lines, stored)
+    }
+
+    /// Stores a write. `DiskFault`: the disk failed, and the write is in doubt. Any other error: nothing was stored.
+    fn append(&mut self, alloc: Global, write: Pending) -> Result<(), JournalFault>
+        requires absorbs { MayAbsorb self.old.progress.batches write.batch }
+        requires moment { write.batch.moment ≤ max_moment }
+        requires room { self.old.progress.kept + write.kept ≤ HISTORY_LIMIT }
+        requires says { says_name_of (prims_of (self.old.progress.batches ++ write.batch ∷ []))
+            ≡ says_name_of (prims_of self.old.progress.batches) }
+        requires no_doubt { self.old.progress.doubt ≡ None }
+        ensures progress { self.new.progress
+            ≡ appended result self.old.progress (record { batch = write.batch; kept = write.kept }) }
+        ensures backs { Backs D.content D.moment D.images D.images_since D.faults self.old self.new }
+        ensures cause { IfErr result (HasReason (D.faults self.old.log.disk) (D.faults self.new.log.disk)) }
+    {
+        match held::append(alloc, &mut self.log, &mut self.store, &write.batch) {
+            Ok(()) => {
+                self.kept += write.kept;
+                Ok(())
+            }
+            Err(fault) => {
+                if self.log.in_doubt() {
+                    self.pending = Some(write);
+                    return Err(fault);
+                }
+                Err(fault)
+            }
+        }
+    }
 }
+
+#[cfg(test)]
+mod tests;
