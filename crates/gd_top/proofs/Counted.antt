@@ -17,9 +17,6 @@ rose_none n m later = omega (arith, later)
 pub rose_then : (a b c m n : ℕ) → RoseBy a b m → RoseBy b c n → RoseBy a c (m + n)
 rose_then a b c m n first second = omega (arith, first, second)
 
-pub rose_later : (a b c n : ℕ) → RoseBy a b n → b ≤ c → RoseBy a c n
-rose_later a b c n rose later = omega (arith, rose, later)
-
 -- one reply, which tells a fault only where the count rose
 pub rose_once : (told : Bool) (a b : ℕ) → (told ≡ true → Rose a b) → a ≤ b → RoseBy a b ((if told then 1 else 0) + 0)
 rose_once true a b cause later = cause refl

@@ -68,10 +68,6 @@ causes_same s read sink disk disk' long kept told same failed c = subst (λ (t :
 
 -- ---- counts
 
--- no count rises without a fault
-pub rose_nowhere : (n m : ℕ) → RoseBy 0 0 m → RoseBy n n m
-rose_nowhere n m rose = omega (arith, rose)
-
 -- the same over a longer time
 pub rose_within : (a b before after n : ℕ) → before ≤ a → b ≤ after → RoseBy a b n → RoseBy before after n
 rose_within a b before after n earlier later rose = omega (arith, earlier, later, rose)
