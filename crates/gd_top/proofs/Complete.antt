@@ -2,7 +2,7 @@
 use Rattle.std.proofs.Common.{◌≡◌, ◌≢◌, ◌^◌, ◌<◌, ◌≤◌, ℕ, List, length, Option, Some, None, IfSome, refl, sym, ◌∙◌, ◌⊎◌, inl, inr, arith}
 use Rattle.std.specs.Prelude.{IsSomeAnd}
 use Rattle.gd_prim.specs.declared.Batch.{Batch}
-use Rattle.gd_bytes.specs.File.{Meaning, meaning, not_store, damaged, groups, StandsFor}
+use Rattle.gd_bytes.specs.File.{Meaning, not_store, damaged, groups, StandsFor}
 use Rattle.gd_top.specs.declared.status.Status.{Status}
 use Rattle.gd_top.specs.declared.status.Status.TheVariants as status
 use Rattle.gd_top.specs.Held.{MayMean, MayMeanAt, DoesMean, IsSoundAt, told_at}

@@ -1,5 +1,5 @@
 -- Replies as they are printed, and the faults that they tell.
-use Rattle.std.proofs.Common.{◌≡◌, ℕ, ◌+◌, ◌^◌, ◌≤◌, Bool, true, false, if◌then◌else◌, List, [], ◌∷◌, ◌++◌, length, refl, sym, subst, ap, ◌∙◌, arith, append-nil, add_assoc, zero-add}
+use Rattle.std.proofs.Common.{◌≡◌, ℕ, ◌+◌, ◌≤◌, Bool, true, false, if◌then◌else◌, List, [], ◌∷◌, ◌++◌, length, refl, sym, ap, ◌∙◌, arith, append-nil, add_assoc, zero-add}
 use Rattle.std.proofs.lemmas.Grind.{flat_map-append}
 use Rattle.gd_base.specs.Counts.{Rose}
 use Rattle.gd_runs.specs.Explained.{memory_line, tells_fault, fault_count}
@@ -16,9 +16,6 @@ rose_none n m later = omega (arith, later)
 
 pub rose_then : (a b c m n : ℕ) → RoseBy a b m → RoseBy b c n → RoseBy a c (m + n)
 rose_then a b c m n first second = omega (arith, first, second)
-
-pub rose_later : (a b c n : ℕ) → RoseBy a b n → b ≤ c → RoseBy a c n
-rose_later a b c n rose later = omega (arith, rose, later)
 
 -- one reply, which tells a fault only where the count rose
 pub rose_once : (told : Bool) (a b : ℕ) → (told ≡ true → Rose a b) → a ≤ b → RoseBy a b ((if told then 1 else 0) + 0)

@@ -1,5 +1,5 @@
 -- The same where the input is known, and nothing where it is not.
-use Rattle.std.proofs.Common.{◌≡◌, ℕ, ◌+◌, ◌*◌, ◌<◌, ◌≤◌, Bool, true, false, List, [], length, Option, Some, None, IfSome, refl, sym, subst, ap, ◌∙◌, arith, length-append, Result, Ok, Err, IsErrAnd}
+use Rattle.std.proofs.Common.{◌≡◌, ℕ, ◌+◌, ◌*◌, ◌<◌, ◌≤◌, Bool, true, List, [], length, Option, Some, None, IfSome, refl, sym, subst, ap, ◌∙◌, arith, length-append, Result, Ok, Err, IsErrAnd}
 use Rattle.std.specs.Io.KnownBytes.{prepend_known}
 use Rattle.std.proofs.KnownBytes.{Consumes-nil}
 use Rattle.gd_prim.specs.declared.Batch.{Batch}
@@ -8,7 +8,7 @@ use Rattle.gd_input.specs.declared.round.Round.{Round}
 use Rattle.gd_input.specs.Held.{Held, IsBounded}
 use Rattle.gd_input.specs.Pieces.{Known, Advances}
 use Rattle.gd_input.specs.Rounds.{AreKept, TakesRound}
-use Rattle.gd_serving.specs.Served.{Progress, IsServed}
+use Rattle.gd_serving.specs.Served.{Progress}
 use Rattle.gd_input.specs.declared.fault.InputFault.{InputFault}
 use Rattle.gd_input.specs.declared.fault.InputFault.TheVariants as input
 use Rattle.gd_top.specs.declared.stop.Stop.{Stop}

@@ -1,5 +1,5 @@
 -- A reply is one line: no byte of it is a control character.
-use Rattle.std.proofs.Common.{◌≡◌, ℕ, zero, suc, ◌+◌, ◌/◌, ◌%◌, ◌<◌, ◌≤◌, ◌==◌, ◌&&◌, ℤ, pos, negsuc, Bool, true, false, nat_lt, nat_le, if◌then◌else◌, List, [], ◌∷◌, ◌++◌, length, map, flat_map, Option, Some, None, Result, Ok, Err, codes, decimal, refl, sym, subst, ap, ◌∙◌, arith, ltb-true, leb-true}
+use Rattle.std.proofs.Common.{◌≡◌, ℕ, zero, suc, ◌+◌, ◌/◌, ◌%◌, ◌≤◌, ◌==◌, ◌&&◌, ℤ, pos, negsuc, Bool, true, false, nat_lt, nat_le, if◌then◌else◌, List, [], ◌∷◌, ◌++◌, length, flat_map, Option, Some, None, Result, Ok, Err, codes, decimal, refl, sym, subst, arith, ltb-true, leb-true}
 use Rattle.std.specs.Fmt.{digits, digits_onto, digit_glyph}
 use Rattle.gd_prim.specs.declared.Primitive.{Primitive}
 use Rattle.gd_prim.specs.declared.Batch.{Batch}
@@ -13,7 +13,7 @@ use Rattle.gd_defs.specs.Asked.{Asked, Unknown, asked_query}
 use Rattle.gd_defs.specs.Query.{Query}
 use Rattle.gd_defs.specs.Reply.{reply, meant_line, result_line, within_reply, max_reply, max_candidate_weight, max_page_weight, has_heavy_candidate, is_heavy_page, page, page_cursor, has_more, result_json, bad_query_refusal, unknown_refusal}
 use Rattle.gd_defs.specs.Rows.{rows}
-use Rattle.gd_runs.specs.Request.{LineFault, bad_line, bad_form, CursorAsk, no_cursor, first_page, page_after, page_reply, reply_of, change_refusal}
+use Rattle.gd_runs.specs.Request.{bad_line, bad_form, CursorAsk, no_cursor, first_page, page_after, page_reply, reply_of, change_refusal}
 use Rattle.gd_runs.specs.Input.{Forms, InputFault, line_too_long, no_json, no_line, json_refusal, input_fault_line}
 use Rattle.gd_runs.specs.Legal.{History, batches}
 use Rattle.gd_runs.specs.Explained.{Outcome, no_request, no_memory, stored, refused, late, in_doubt, not_tried, answered, Prints}

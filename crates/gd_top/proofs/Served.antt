@@ -8,9 +8,8 @@ use Rattle.std.proofs.lemmas.Option.{slice_get-get_or}
 use Rattle.std.specs.Io.KnownBytes.{Appends, Keeps}
 use Rattle.gd_base.specs.Counts.{Rose}
 use Rattle.gd_prim.specs.declared.Batch.{Batch}
-use Rattle.gd_runs.specs.Legal.{History}
 use Rattle.gd_runs.specs.Built.{is_built}
-use Rattle.gd_runs.specs.Explained.{Numbered, Run, pieces, numbered, lines_of, lines_within, max_round, memory_line, IsExplainedBy, tells_fault, fault_count}
+use Rattle.gd_runs.specs.Explained.{Numbered, pieces, numbered, lines_of, lines_within, max_round, memory_line, IsExplainedBy, tells_fault, fault_count}
 use Rattle.gd_runs.proofs.Rounds.{no_some}
 use Rattle.gd_input.specs.declared.line.RoundLine.{RoundLine}
 use Rattle.gd_input.specs.declared.round.Round.{Round}
@@ -21,7 +20,7 @@ use Rattle.gd_serving.proofs.Steps.{next}
 use Rattle.gd_serving.proofs.Going.{goes_nowhere, goes_without_memory, goes_further, upto_more, after, memory_lines, goes_unanswered}
 use Rattle.gd_top.specs.Held.{HoldsAs, RoseBy, SameStore}
 use Rattle.gd_top.specs.Serves.{printed, Accounts, Serves, ServesFront, ServesRounds, GainsFront, Answers, AnswersFront, ServedUpto}
-use Rattle.gd_top.proofs.Counted.{rose_none, rose_then, rose_later, rose_once, printed-append, printed-one, fault_count-append, memory_replies, memory_printed, memory_count, memory_many, same_store, same_after, same_then}
+use Rattle.gd_top.proofs.Counted.{rose_none, rose_then, rose_once, printed-append, printed-one, fault_count-append, memory_replies, memory_printed, memory_count, memory_many, same_store, same_after, same_then}
 use Rattle.gd_top.proofs.Settled.{holds_as, holds_same}
 use Rattle.gd_top.proofs.Split.{told_is}
 

@@ -1,10 +1,10 @@
 -- What stands for a run that is served stands for its history.
-use Rattle.std.proofs.Common.{◌≡◌, ℕ, suc, zero, ◌+◌, ◌≤◌, List, [], ◌∷◌, ◌++◌, Option, Some, None, IsSome, slice_get, refl, sym, subst, ap, ◌∙◌, inl, inr, ⊎_elim, ◌⊎◌, arith, append_assoc, map, Bool}
+use Rattle.std.proofs.Common.{◌≡◌, ℕ, suc, zero, ◌+◌, ◌≤◌, List, [], ◌∷◌, ◌++◌, Option, Some, None, IsSome, slice_get, refl, sym, subst, ap, ◌∙◌, inl, inr, ⊎_elim, arith, append_assoc, map, Bool}
 use Rattle.std.proofs.lemmas.List.{map-append}
 use Rattle.std.specs.Option.{ForSome}
 use Rattle.gd_prim.specs.declared.Batch.{Batch}
 use Rattle.gd_bytes.specs.File.{StandsFor, MayStandFor}
-use Rattle.gd_runs.specs.Legal.{Entry, History, batches, with_entry, with_entries, IsLegal}
+use Rattle.gd_runs.specs.Legal.{Entry, History, batches, with_entry}
 use Rattle.gd_runs.specs.Built.{is_built}
 use Rattle.gd_runs.specs.Explained.{Numbered, Run, MayBe, Holds, IsExplainedBy, IsOldDoubt, IsRoundAfter}
 use Rattle.gd_runs.proofs.Rounds.{some_same, no_some, one_round_more}

@@ -1,11 +1,10 @@
 -- Lines that are printed are found again among the pieces of the output.
-use Rattle.std.proofs.Common.{◌≡◌, ℕ, zero, suc, ◌+◌, ◌<◌, ◌≤◌, ◌==◌, Bool, true, false, if◌then◌else◌, List, [], ◌∷◌, ◌++◌, length, map, flat_map, Option, Some, slice_get, refl, sym, subst, ap, ◌∙◌, ◌⊎◌, inl, inr, ⊎_elim, arith, append-nil, append_assoc}
+use Rattle.std.proofs.Common.{◌≡◌, ℕ, suc, ◌+◌, ◌<◌, ◌≤◌, ◌==◌, Bool, false, if◌then◌else◌, List, [], ◌∷◌, ◌++◌, length, map, flat_map, Some, slice_get, refl, sym, subst, ap, ◌∙◌, ◌⊎◌, inl, inr, ⊎_elim, arith, append-nil, append_assoc}
 use Rattle.std.proofs.lemmas.Bool.Decides.{nat_tests}
 use Rattle.gd_prim.specs.declared.Batch.{Batch}
 use Rattle.gd_runs.specs.Legal.{History}
 use Rattle.gd_runs.specs.Built.{is_built}
 use Rattle.gd_runs.specs.Explained.{Numbered, Run, without_return, pieces, IsExplainedBy, fault_count, faults_told}
-use Rattle.gd_runs.proofs.Rounds.{some_same, no_some}
 use Rattle.gd_top.specs.Serves.{printed}
 use Rattle.gd_top.proofs.Counted.{fault_count-append}
 use Rattle.gd_top.proofs.Plain.{Plain, plain_reply}

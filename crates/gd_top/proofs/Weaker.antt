@@ -1,5 +1,5 @@
 -- How a run ended, said of what stands further out.
-use Rattle.std.proofs.Common.{◌≡◌, ◌≤◌, ◌+◌, ◌-◌, ◌^◌, min, ℕ, Bool, List, Option, Some, None, IfSome, subst, ◌⊎◌, inl, inr, ⊎_elim, arith}
+use Rattle.std.proofs.Common.{◌≡◌, ◌≤◌, ◌+◌, ◌-◌, ◌^◌, min, ℕ, Bool, List, Option, Some, None, IfSome, subst, inl, inr, ⊎_elim, arith}
 use Rattle.gd_base.specs.Counts.{Rose}
 use Rattle.gd_prim.specs.declared.Batch.{Batch}
 use Rattle.gd_runs.specs.Legal.{History}
@@ -67,10 +67,6 @@ causes_same s read sink disk disk' long kept told same failed c = subst (λ (t :
 })
 
 -- ---- counts
-
--- no count rises without a fault
-pub rose_nowhere : (n m : ℕ) → RoseBy 0 0 m → RoseBy n n m
-rose_nowhere n m rose = omega (arith, rose)
 
 -- the same over a longer time
 pub rose_within : (a b before after n : ℕ) → before ≤ a → b ≤ after → RoseBy a b n → RoseBy before after n
