@@ -33,11 +33,13 @@ A name in `code` is that of the definition. Behind a type stand the cases or the
 # the crates in the order in which one reads them, what each is about, and its files; of a crate that is listed
 # with `whole` the other files follow
 CRATES = [
-    ("gd_grammar", "Words for grammars of texts, which know nothing of the store.", ["Chain", "Maybe", "Grammar", "Mark"], True),
+    ("gd_grammar", "Words for grammars of texts, which know nothing of the store.", ["Chain", "Maybe", "Grammar", "Reading", "Options", "Mark"], True),
     ("gd_tree", "Trees: JSON values as every request and reply has them, and trees of places.",
      ["Hex", "Json", "Look", "JsonCode", "Trees"], True),
     ("gd_base", "The order of data.", ["Order"], False),
     ("gd_postings", "Posting lists.", ["Postings"], False),
+    ("gd_versions", "The successor of each place.", ["Versions"], False),
+    ("gd_keys", "The lists of key links.", ["Keys"], False),
     ("gd_prim", "Primitives: the built-in ones, which of them are live, and which batches may follow.",
      ["Builtin", "Live", "History", "Limits", "WellFormed"], False),
     ("gd_defs", "The meaning of queries and writes over a list of primitives.",
@@ -57,8 +59,8 @@ CRATES = [
       "Core", "Replay", "Pace", "Side"], True),
     ("gd_log", "A log: payloads that are groups of batches, and what its disk holds.", ["Groups", "State"], False),
     ("gd_words", "The command line: which words give which command.", ["Options", "Words"], False),
-    ("gd_serving", "One thread: what a line comes to over the store, and runs that are served line by line.", ["Step", "Served"], False),
-    ("gd_top", "The top call: which words it takes, and what it prints for its input.", ["Words", "Serves"], False),
+    ("gd_serving", "One thread: what a line comes to over the store, and runs that are served line by line.", ["Step", "Served", "Running"], False),
+    ("gd_top", "The top call: which words it takes, what it finds in a file and leaves there, what it prints for its input, and how it ends.", ["Words", "Held", "Serves", "Ends"], False),
 ]
 
 # comments that lean on the definition above them, said in full
