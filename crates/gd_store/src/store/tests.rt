@@ -160,3 +160,44 @@ fn refuses(rt: HostRuntime) -> Result<(), Fail> {
     assert_eq!(rt; store.fits(&batch), Ok(()));
     Ok(())
 }
+
+/// A batch behind `two_requests`: an object, its key `k` in the root namespace, and its end.
+fn keyed(alloc: Global) -> Result<Batch, Memory> {
+    let key = Primitive {
+        left: Some(Id(73)),
+        right: Some(Id(0)),
+        typ: Some(Id(15)),
+        value: Datum::Text(Text::of(alloc, "k")?),
+        ..object()
+    };
+    let end = Primitive {
+        previous: Some(Id(73)),
+        live: false,
+        ..object()
+    };
+    Ok(Batch {
+        moment: 5,
+        prims: Prims::from(vec![in alloc; object(), key, end]?),
+    })
+}
+
+#[test]
+fn absorbs_all_or_nothing(rt: HostRuntime) -> Result<(), Fail> {
+    let mut store = two_requests(rt.alloc())?;
+    let batch = keyed(rt.alloc())?;
+    let key = Text::of(rt.alloc(), "k")?;
+    let mut steps: Steps<()> = Steps::new();
+    store.check(&batch)?;
+    store.fits(&batch)?;
+    if store.absorb(&batch).is_err() {
+        assert_eq!(rt; store.requests(), 2);
+        assert_eq!(rt; store.primitives().len(), 73);
+        let before = store.view(2);
+        assert_eq!(rt; before.by_key(Id(0), &key, &mut steps), None);
+        assert_eq!(rt; before.key_at(Id(73), 0, &mut steps), None);
+        stored(&mut store, &batch)?;
+    }
+    assert_eq!(rt; store.requests(), 3);
+    assert_eq!(rt; store.primitives().len(), 76);
+    Ok(())
+}
