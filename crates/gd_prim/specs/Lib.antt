@@ -5,3 +5,4 @@ pub mod Limits
 pub mod WellFormed
 pub mod History
 pub mod End
+pub mod New

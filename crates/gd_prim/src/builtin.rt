@@ -1,5 +1,5 @@
 //! The primitives with which every store begins.
-ghost use Rattle.std.specs.Prelude.{◌≡◌, ◌≤◌, ◌++◌, OnOk, IfOk, map, length};
+ghost use Rattle.std.specs.Prelude.{◌≡◌, ◌≤◌, ◌++◌, Some, OnOk, IfOk, map, length};
 ghost use Rattle.std.specs.List.{AllPass};
 ghost use Rattle.gd_prim.specs.Builtin as listed;
 ghost use Rattle.gd_prim.specs.Tables.{key_row, name_row, short_key, short_name};
@@ -83,28 +83,18 @@ const NAMES: [(u32, &str); 5] = [
     (6, "Property"),
 ];
 
-/// A live primitive of moment 0, without scope, name and previous.
-fn primitive(left: Option<Id>, right: Option<Id>, typ: Option<Id>, value: Datum) -> Primitive
-    ensures { result ≡ listed.primitive left right typ value }
+/// A link of moment 0.
+fn link(left: u32, right: Option<Id>, typ: u32, value: Datum) -> Primitive
+    ensures { result ≡ listed.primitive (Some left) right (Some typ) value }
 {
-    Primitive {
-        left,
-        right,
-        typ,
-        scope: None,
-        value,
-        name: None,
-        previous: None,
-        live: true,
-        moment: 0,
-    }
+    Primitive::link(Id(left), right, Id(typ), value, 0)
 }
 
 fn push_objects(prims: &mut Vec<Primitive>) -> Result<(), Memory>
     ensures { OnOk result (prims.new.items ≡ prims.old.items ++ listed.objects) }
 {
     for _place in 0..OBJECTS {
-        prims.push(primitive(None, None, None, Datum::Empty))?;
+        prims.push(Primitive::object(0))?;
     }
     Ok(())
 }
@@ -120,7 +110,7 @@ fn push_keys(
 {
     for row in rows {
         let key = Datum::Text(Text::of(alloc, row.1)?);
-        prims.push(primitive(Some(Id(row.0)), Some(Id(row.2)), Some(Id(KEY)), key))?;
+        prims.push(link(row.0, Some(Id(row.2)), KEY, key))?;
     }
     Ok(())
 }
@@ -129,8 +119,7 @@ fn push_links(prims: &mut Vec<Primitive>, typ: u32, rows: &[(u32, u32)]) -> Resu
     ensures { OnOk result (prims.new.items ≡ prims.old.items ++ map (listed.link typ) rows.now) }
 {
     for row in rows {
-        let left = Some(Id(row.0));
-        prims.push(primitive(left, Some(Id(row.1)), Some(Id(typ)), Datum::Empty))?;
+        prims.push(link(row.0, Some(Id(row.1)), typ, Datum::Empty))?;
     }
     Ok(())
 }
@@ -139,7 +128,7 @@ fn push_unique_marks(prims: &mut Vec<Primitive>, rows: &[u32]) -> Result<(), Mem
     ensures { OnOk result (prims.new.items ≡ prims.old.items ++ map listed.unique_mark rows.now) }
 {
     for row in rows {
-        prims.push(primitive(Some(Id(*row)), None, Some(Id(UNIQUE)), Datum::Bool(true)))?;
+        prims.push(link(*row, None, UNIQUE, Datum::Bool(true)))?;
     }
     Ok(())
 }
@@ -151,7 +140,7 @@ fn push_names(alloc: Global, prims: &mut Vec<Primitive>, rows: &[(u32, &str)]) -
 {
     for row in rows {
         let name = Datum::Text(Text::of(alloc, row.1)?);
-        prims.push(primitive(Some(Id(row.0)), None, Some(Id(NAME)), name))?;
+        prims.push(link(row.0, None, NAME, name))?;
     }
     Ok(())
 }

@@ -3,6 +3,7 @@
 
 ghost use Rattle.std.specs.Prelude.{◌≡◌, ◌↔◌, [], ◌∷◌, ◌++◌, take, length, IsTrue, IfOk, OnOk, OnErr};
 ghost use Rattle.gd_prim.specs.End.{end_of};
+ghost use Rattle.gd_prim.specs.New as new;
 
 pub mod builtin;
 pub mod limits;
@@ -47,6 +48,51 @@ pub struct Primitive {
 }
 
 impl Primitive {
+    /// A live object of this moment, without references, value and name.
+    pub fn object(moment: u64) -> Primitive
+        ensures { result ≡ new.object moment }
+    {
+        Primitive {
+            left: None,
+            right: None,
+            typ: None,
+            scope: None,
+            value: Datum::Empty,
+            name: None,
+            previous: None,
+            live: true,
+            moment,
+        }
+    }
+
+    /// A live link of this moment from one object to another or to none, without scope and name.
+    pub fn link(left: Id, right: Option<Id>, typ: Id, value: Datum, moment: u64) -> Primitive
+        ensures { result ≡ new.link left right typ value moment }
+    {
+        Primitive {
+            left: Some(left),
+            right,
+            typ: Some(typ),
+            scope: None,
+            value,
+            name: None,
+            previous: None,
+            live: true,
+            moment,
+        }
+    }
+
+    /// The same as a newer version of the primitive at a place, live or not.
+    pub fn newer(self, previous: Id, live: bool) -> Primitive
+        ensures { result ≡ new.newer previous live self }
+    {
+        Primitive {
+            previous: Some(previous),
+            live,
+            ..self
+        }
+    }
+
     /// The reference at this end, if there is one.
     pub fn end(&self, end: End) -> Option<Id>
         ensures { result ≡ end_of end self.now }
