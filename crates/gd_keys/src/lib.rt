@@ -4,6 +4,4 @@
 pub mod keys;
 mod names;
 mod objects;
-#[cfg(test)]
-mod tests;
 mod texts;

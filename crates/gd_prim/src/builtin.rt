@@ -160,34 +160,3 @@ pub fn builtin(alloc: Global) -> Result<Vec<Primitive>, Memory>
     push_names(alloc, &mut prims, &NAMES)?;
     Ok(prims)
 }
-
-#[cfg(test)]
-mod tests {
-    use super::*;
-    use crate::live::live_at;
-    use std::test::Fail;
-
-    #[test]
-    fn lists_seventy(rt: HostRuntime) -> Result<(), Fail> {
-        let prims = builtin(rt.alloc())?;
-        assert_eq!(rt; prims.len(), 70);
-        for place in 0..70u32 {
-            assert!(rt; live_at(prims.as_slice(), Id(place)), "at {place}");
-        }
-        assert!(rt; !live_at(prims.as_slice(), Id(70)));
-        let key = &prims[31];
-        assert!(rt;
-            key.left == Some(Id(13)) && key.right == Some(Id(4)) && key.typ == Some(Id(15))
-        );
-        assert!(rt; key.value.is(&Datum::Text(Text::of(rt.alloc(), "name")?)));
-        let expected = &prims[60];
-        assert!(rt; expected.left == Some(Id(18)) && expected.right == Some(Id(6)));
-        assert!(rt; prims[64].left == Some(Id(18)) && prims[64].value.is(&Datum::Bool(true)));
-        assert!(rt;
-            prims[65]
-                .value
-                .is(&Datum::Text(Text::of(rt.alloc(), "English")?))
-        );
-        Ok(())
-    }
-}

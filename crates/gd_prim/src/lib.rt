@@ -265,6 +265,3 @@ pub enum What {
     /// The bytes of the write lines and results that were stored since the store was opened.
     History,
 }
-
-#[cfg(test)]
-mod tests;

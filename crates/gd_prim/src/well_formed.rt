@@ -102,6 +102,3 @@ pub fn is_well_formed(prior: &[Primitive], batch: &Batch) -> Result<(), BadBatch
     }
     Ok(())
 }
-
-#[cfg(test)]
-mod tests;

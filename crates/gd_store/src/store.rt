@@ -347,6 +347,3 @@ impl Store {
         View::new(self, dateline)
     }
 }
-
-#[cfg(test)]
-mod tests;

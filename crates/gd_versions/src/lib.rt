@@ -2,6 +2,4 @@
 #![tactic(auto)]
 
 mod slot;
-#[cfg(test)]
-mod tests;
 pub mod versions;

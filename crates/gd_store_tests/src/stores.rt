@@ -1,0 +1,124 @@
+//! Stores.
+use gd_base::datum::Datum;
+use gd_base::id::Id;
+use gd_base::memory::Memory;
+use gd_prim::well_formed::BadBatch;
+use gd_prim::{Batch, Primitive, Prims, What};
+use gd_store::store::{Full, Store};
+use std::alloc::Global;
+
+/// A batch of so many objects.
+fn objects(alloc: Global, count: usize) -> Result<Batch, Memory> {
+    let mut prims = Prims::new(alloc);
+    for _ in 0..count {
+        prims.push(Primitive::object(5))?;
+    }
+    Ok(Batch { moment: 5, prims })
+}
+
+/// A batch whose first primitive is its own left.
+fn own_left(alloc: Global) -> Result<Batch, Memory> {
+    let mut prims = Prims::new(alloc);
+    prims.push(Primitive::link(Id(70), None, Id(13), Datum::Empty, 5))?;
+    Ok(Batch { moment: 5, prims })
+}
+
+/// Whether the batch may be taken in and was.
+fn takes_in(store: &mut Store, batch: &Batch) -> bool {
+    if store.check(batch).is_err() || store.fits(batch).is_err() {
+        return false;
+    }
+    store.absorb(batch).is_ok()
+}
+
+/// How many requests a store has that begins with this batch.
+fn requests_with(alloc: Global, batch: &Batch) -> u32 {
+    let Ok(mut store) = Store::new(alloc) else {
+        return 0;
+    };
+    if takes_in(&mut store, batch) {
+        store.requests()
+    } else {
+        0
+    }
+}
+
+/// How many primitives a copy of the store has.
+fn copied_len(store: &Store) -> usize {
+    match store.copy() {
+        Ok(copied) => copied.primitives().len(),
+        Err(_) => 0,
+    }
+}
+
+/// What refuses the batch in a fresh store, of limits and of rules.
+fn refused(alloc: Global, batch: &Batch) -> (Option<Full>, Option<BadBatch>) {
+    match Store::new(alloc) {
+        Ok(store) => (store.fits(batch).err(), store.check(batch).err()),
+        Err(_) => (None, None),
+    }
+}
+
+#[test]
+fn new_store(rt: HostRuntime) {
+    let len = match Store::new(rt.alloc()) {
+        Ok(store) => store.primitives().len(),
+        Err(_) => 0,
+    };
+    assert!(rt; len == 70);
+}
+
+#[test]
+fn batch_absorbed(rt: HostRuntime) {
+    let requests = match objects(rt.alloc(), 1) {
+        Ok(batch) => requests_with(rt.alloc(), &batch),
+        Err(_) => 0,
+    };
+    assert!(rt; requests == 1);
+}
+
+#[test]
+fn store_copied(rt: HostRuntime) {
+    let len = match Store::new(rt.alloc()) {
+        Ok(store) => copied_len(&store),
+        Err(_) => 0,
+    };
+    assert!(rt; len == 70);
+}
+
+#[test]
+fn long_batch_refused(rt: HostRuntime) {
+    let faults = match objects(rt.alloc(), 4_097) {
+        Ok(batch) => refused(rt.alloc(), &batch),
+        Err(_) => (None, None),
+    };
+    let full = Full {
+        what: What::Batch,
+        count: 4_097,
+    };
+    let bad = BadBatch { place: Id(4_166) };
+    assert!(rt; faults == (Some(full), Some(bad)));
+}
+
+#[test]
+fn own_place_refused(rt: HostRuntime) {
+    let faults = match own_left(rt.alloc()) {
+        Ok(batch) => refused(rt.alloc(), &batch),
+        Err(_) => (None, None),
+    };
+    let bad = BadBatch { place: Id(70) };
+    assert!(rt; faults == (None, Some(bad)));
+}
+
+#[test]
+fn full_printed(rt: HostRuntime) {
+    let full = Full {
+        what: What::Batch,
+        count: 4_097,
+    };
+    let well = match format!(in rt.alloc(); "{full}") {
+        Ok(text) => text.as_str() == "the limit of Batch does not allow 4097",
+        Err(_) => false,
+    };
+    assert!(rt; well);
+}
