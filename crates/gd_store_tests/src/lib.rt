@@ -1,0 +1,13 @@
+//! Tests of what no clause says: that each call that may want memory succeeds where there is plenty, and printed texts.
+#![tactic(auto)]
+
+#[cfg(test)]
+mod base;
+#[cfg(test)]
+mod input;
+#[cfg(test)]
+mod json;
+#[cfg(test)]
+mod outside;
+#[cfg(test)]
+mod words;
