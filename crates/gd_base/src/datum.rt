@@ -61,6 +61,3 @@ impl Datum {
         self == other
     }
 }
-
-#[cfg(test)]
-mod tests;

@@ -45,17 +45,3 @@ impl<L> Steps<L> {
         self.taken
     }
 }
-
-#[cfg(test)]
-mod tests {
-    use super::*;
-
-    #[test]
-    fn counts(rt: HostRuntime) {
-        let mut steps: Steps<()> = Steps::new();
-        assert_eq!(rt; steps.taken(), 0);
-        steps.tick();
-        steps.tick();
-        assert_eq!(rt; steps.taken(), 2);
-    }
-}

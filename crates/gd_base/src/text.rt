@@ -152,6 +152,3 @@ impl Text {
         })
     }
 }
-
-#[cfg(test)]
-mod tests;

@@ -6,5 +6,3 @@ pub mod line;
 pub mod piece;
 pub mod reader;
 pub mod round;
-#[cfg(test)]
-mod tests;

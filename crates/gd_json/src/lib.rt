@@ -3,7 +3,5 @@
 
 pub mod copy;
 pub mod from;
-#[cfg(test)]
-mod tests;
 pub mod text;
 pub mod value;

@@ -82,6 +82,3 @@ impl<R: std::time::Clock> Clock for StdClock<R> {
         }
     }
 }
-
-#[cfg(test)]
-mod tests;

@@ -2,8 +2,18 @@
 #![tactic(auto)]
 
 #[cfg(test)]
+mod base;
+#[cfg(test)]
 mod indexes;
+#[cfg(test)]
+mod input;
+#[cfg(test)]
+mod json;
+#[cfg(test)]
+mod outside;
 #[cfg(test)]
 mod prims;
 #[cfg(test)]
 mod stores;
+#[cfg(test)]
+mod words;

@@ -6,6 +6,4 @@ pub mod help;
 mod number;
 mod parsing;
 pub mod reader;
-#[cfg(test)]
-mod tests;
 pub mod verbs;
