@@ -1,1 +1,2 @@
 pub mod FirstBad
+mod LimitRows

@@ -25,9 +25,14 @@ succeeds_current before previous = option_map_or (is_current before) previous tr
 abbrev pub is_moment : ℤ → Bool
 is_moment ms = int_le (negsuc 62_167_219_199_999) ms && int_le ms (pos max_moment)
 
+-- a whole number of 64 bits
+abbrev pub is_number : ℤ → Bool
+is_number n = int_le (negsuc 9_223_372_036_854_775_807) n && int_le n (pos 9_223_372_036_854_775_807)
+
 -- a value that a primitive may hold
 abbrev pub may_hold : Datum → Bool
 may_hold (datum.Object o) = false
+may_hold (datum.Int n) = is_number n
 may_hold (datum.Moment ms precision) = is_moment ms
 may_hold _ = true
 

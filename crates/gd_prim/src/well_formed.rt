@@ -54,12 +54,21 @@ fn succeeds_current(prior: &[Primitive], earlier: &[Primitive], previous: Option
     }
 }
 
+/// Whether the whole number has 64 bits, as each number of the type has.
+fn has_64_bits(number: i64) -> bool
+    ensures { result ≡ defined.is_number number }
+{
+    let _ = number;
+    true
+}
+
 /// Whether a primitive may hold the value.
 fn may_hold(value: &Datum) -> bool
     ensures { result ≡ defined.may_hold value.now }
 {
     match value {
         Datum::Object(_) => false,
+        Datum::Int(number) => has_64_bits(*number),
         Datum::Moment { ms, .. } => *ms >= MIN_MOMENT && *ms <= MAX_MOMENT as i64,
         _ => true,
     }
