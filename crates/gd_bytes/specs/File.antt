@@ -12,7 +12,7 @@ pub data Meaning : Type 0 where
   damaged : ℕ → Meaning
   groups : List (List Batch) → Meaning
 
--- the first eight bytes
+-- the first eight bytes of a file that is a store
 abbrev pub header : List ℕ
 header = codes "GRAPHD1\n"
 
@@ -35,7 +35,7 @@ pub record Payloads : Type 0 where
   pub list : List (ℕ × List ℕ)
   pub damaged : Option ℕ
 
--- none, and no damage
+-- no payloads, and no damage
 abbrev pub no_payloads : Payloads
 no_payloads = record { list = []; damaged = None }
 
@@ -49,7 +49,7 @@ payloads_from (suc more) offset (gate ∷ bytes) = if gate == 1 then next (paylo
     next None rest = record { list = []; damaged = Some offset }
     next (Some p) rest = let behind : Payloads = rest (length p) in record { list = (offset, p) ∷ behind.list; damaged = behind.damaged }
 
--- those of a file with the header
+-- the payloads of a file that begins with the header
 abbrev pub payloads : List ℕ → Payloads
 payloads bytes = payloads_from (length bytes) 8 (drop 8 bytes)
 
@@ -77,7 +77,7 @@ groups_of before (r ∷ rs) torn = next (record_batches before r.1) (λ bs. grou
     next None rest = damaged r.0
     next (Some bs) rest = with_group bs (rest bs)
 
--- a file of at most 9 bytes is an unfinished creation
+-- what the bytes of a file mean: a file of at most 9 bytes is an unfinished creation and has no groups, one that does not begin with the header is no store, and the rest is that of its payloads
 abbrev pub meaning : List ℕ → Meaning
 meaning bytes = if nat_le (length bytes) 9 then groups [] else if bytes_eq (take 8 bytes) header then groups_of [] (payloads bytes).list (payloads bytes).damaged else not_store
 

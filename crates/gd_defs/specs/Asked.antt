@@ -69,6 +69,7 @@ abbrev pub takes : Own → Operator → Bool
 takes its_link _ = false
 takes its_namespace query.one_of = false
 takes its_namespace query.differs = false
+takes its_timestamp query.no_operator = false
 takes its_timestamp query.one_of = false
 takes its_timestamp query.differs = false
 takes its_timestamp query.words = false
@@ -141,7 +142,7 @@ abbrev mutual
   pub asked_form : List Primitive → List (List ℕ) → Name → Property → Form → Result (Members → Members) Unknown
   asked_form prims path n p query.ask = Ok (ask_form n.spelled p false)
   asked_form prims path n p query.ask_all = Ok (ask_form n.spelled p true)
-  asked_form prims path n p (query.literal j) = checked_test prims (expects_of p.expected) path n.operator j >>= λ t. Ok (operand_form n.spelled p (expects_of p.expected) true j t)
+  asked_form prims path n p (query.literal j) = checked_test prims (expects_of p.expected) path query.no_operator j >>= λ t. Ok (operand_form n.spelled p (expects_of p.expected) true j t)
   asked_form prims path n p (query.operand j) = checked_test prims (expects_of p.expected) path n.operator j >>= λ t. Ok (operand_form n.spelled p (expects_of p.expected) false j t)
   asked_form prims path n p (query.one d ms) = below_property prims path p ms (λ t. asked prims t path ms) >>= λ c. Ok (clause_form n.spelled p d false c)
   asked_form prims path n p (query.many d ms) = below_property prims path p ms (λ t. asked prims t path ms) >>= λ c. Ok (clause_form n.spelled p d true c)

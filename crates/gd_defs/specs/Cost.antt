@@ -1,12 +1,12 @@
 -- What it costs to resolve a query: how many ids and keys it has, and how much is said of the objects that its words lead to.
-use Rattle.std.specs.Prelude.{ℕ, ◌+◌, List, length, sum_by, ◌||◌, Option, Some, None, if◌then◌else◌, codes, bytes_eq}
+use Rattle.std.specs.Prelude.{ℕ, ◌+◌, List, length, sum_by, ◌&&◌, ◌||◌, Option, Some, None, if◌then◌else◌, codes, bytes_eq}
 use Rattle.gd_prim.specs.declared.Primitive.{Primitive}
 use Rattle.gd_prim.specs.Live.{refers, places_where}
 use Rattle.gd_defs.specs.Ids.{id_keys, path_keys, object_of}
 use Rattle.gd_tree.specs.Json.{Json, text, list, Items, no_items, item}
-use Rattle.gd_defs.specs.Query.{is_path, Name, Form, ask, ask_all, literal, operand, one, many, Members, no_members, member, sort_by, is_identity, is_computed, Query}
-use Rattle.gd_defs.specs.Property.{Property, Expects, a_value, a_key, an_object_of_system, a_plain_object, expects_of, property, word_object}
-use Rattle.gd_defs.specs.Asked.{type_text}
+use Rattle.gd_defs.specs.Query.{is_path, Name, Form, ask, ask_all, literal, operand, one, many, Members, no_members, member, sort_by, SortWord, is_identity, is_computed, is_link, Query}
+use Rattle.gd_defs.specs.Property.{Property, Expects, a_value, a_key, an_object_of_system, a_plain_object, expects_of, holds_values, property, word_object}
+use Rattle.gd_defs.specs.Asked.{type_text, has_namespace}
 
 -- how many primitives have an object as their left end, none where there is no object
 abbrev pub said_of : List Primitive → Option ℕ → ℕ
@@ -22,9 +22,13 @@ key_count (Some ks) = length ks
 abbrev pub id_cost : List ℕ → ℕ
 id_cost t = 1 + key_count (id_keys t)
 
--- what a word costs: one for each of its keys, and one for each primitive of which the object that it leads to is the left end; a computed word leads to none
+-- what a word costs that asks for a property: one for each of its keys, and one for each primitive of which the object that it leads to is the left end
 abbrev pub word_cost : List Primitive → Option ℕ → List ℕ → ℕ
-word_cost prims context word = (if is_path word then key_count (path_keys word) else 1) + (if is_computed word then 0 else said_of prims (word_object prims context word))
+word_cost prims context word = (if is_path word then key_count (path_keys word) else 1) + said_of prims (word_object prims context word)
+
+-- what a sort word costs: nothing where it is computed
+abbrev pub sort_cost : List Primitive → Option ℕ → SortWord → ℕ
+sort_cost prims context w = if is_computed w.word then 0 else word_cost prims context w.word
 
 -- what the ids of an operand cost: a text, or the texts of a list
 abbrev pub ids_cost : Json → ℕ
@@ -62,21 +66,36 @@ abbrev pub expected_of : Option Property → Option ℕ
 expected_of None = None
 expected_of (Some p) = p.expected
 
+-- what a member costs that asks for no property: the ids of `id` and `guid`
+abbrev pub own_cost : Name → Form → ℕ
+own_cost n (literal j) = if is_identity n.word then ids_cost j else 0
+own_cost n (operand j) = if is_identity n.word then ids_cost j else 0
+own_cost n f = 0
+
+-- what a form on a value or a key costs: of a key the id of its namespace
+abbrev pub value_cost : Expects → Members → ℕ
+value_cost e no_members = 0
+value_cost e (sort_by ws ms) = value_cost e ms
+value_cost e (member n (literal j) ms) = (if bytes_eq n.word (codes "namespace") && has_namespace e then ids_cost j else 0) + value_cost e ms
+value_cost e (member n f ms) = value_cost e ms
+
 abbrev mutual
-  -- what the words and ids of a clause cost
+  -- what the words and ids of a clause on objects cost; a computed word and `link` ask for no property
   pub members_cost : List Primitive → Option ℕ → Members → ℕ
   members_cost prims c no_members = 0
-  members_cost prims c (sort_by ws ms) = sum_by (λ w. word_cost prims c w.word) ws + members_cost prims c ms
-  members_cost prims c (member n f ms) = word_cost prims c n.word + form_cost prims n (expected_of (property prims c n.reversed n.word)) f + members_cost prims c ms
+  members_cost prims c (sort_by ws ms) = sum_by (sort_cost prims c) ws + members_cost prims c ms
+  members_cost prims c (member n f ms) =
+      (if is_computed n.word || is_link n.word then own_cost n f else word_cost prims c n.word + form_cost prims (expected_of (property prims c n.reversed n.word)) f)
+      + members_cost prims c ms
 
-  -- what the form of a member costs
-  pub form_cost : List Primitive → Name → Option ℕ → Form → ℕ
-  form_cost prims n expected ask = if is_computed n.word then 0 else ask_cost prims (expects_of expected)
-  form_cost prims n expected ask_all = ask_cost prims (expects_of expected)
-  form_cost prims n expected (literal j) = if is_identity n.word || bytes_eq n.word (codes "namespace") then ids_cost j else operand_cost prims (expects_of expected) j
-  form_cost prims n expected (operand j) = if is_identity n.word then ids_cost j else operand_cost prims (expects_of expected) j
-  form_cost prims n expected (one d ms) = members_cost prims (context prims expected ms) ms
-  form_cost prims n expected (many d ms) = members_cost prims (context prims expected ms) ms
+  -- what the form of a member costs that asks for a property with this expected type
+  pub form_cost : List Primitive → Option ℕ → Form → ℕ
+  form_cost prims expected ask = ask_cost prims (expects_of expected)
+  form_cost prims expected ask_all = ask_cost prims (expects_of expected)
+  form_cost prims expected (literal j) = operand_cost prims (expects_of expected) j
+  form_cost prims expected (operand j) = operand_cost prims (expects_of expected) j
+  form_cost prims expected (one d ms) = if holds_values (expects_of expected) then value_cost (expects_of expected) ms else members_cost prims (context prims expected ms) ms
+  form_cost prims expected (many d ms) = if holds_values (expects_of expected) then value_cost (expects_of expected) ms else members_cost prims (context prims expected ms) ms
 
 -- what resolving a query costs: its ids and keys, and what is said of the objects that its words lead to
 abbrev pub resolving : List Primitive → Query → ℕ

@@ -4,6 +4,7 @@ use Rattle.std.specs.List.{list_any}
 use Rattle.std.specs.Ordering.{is_lt, is_gt}
 use Rattle.gd_base.specs.declared.datum.Datum.{Datum}
 use Rattle.gd_base.specs.declared.datum.Datum.TheVariants as datum
+use Rattle.gd_prim.specs.WellFormed.{is_number}
 use Rattle.gd_base.specs.Order.{variant, datum_cmp, datum_eq}
 use Rattle.gd_tree.specs.Json.{Json, null, boolean, number, text}
 use Rattle.gd_defs.specs.Moment.{moment_of, moment_text}
@@ -25,7 +26,7 @@ has_kind _ _ = false
 -- the datum of this kind that a JSON value spells
 abbrev pub datum_from : Kind → Json → Option Datum
 datum_from of_text (text t) = if nat_le (length t) 4096 then Some (datum.Text t) else None
-datum_from of_int (number n) = Some (datum.Int n)
+datum_from of_int (number n) = if is_number n then Some (datum.Int n) else None
 datum_from of_boolean (boolean b) = Some (datum.Bool b)
 datum_from of_datetime (text t) = option_map (λ m. datum.Moment m.0 m.1) (moment_of t)
 datum_from _ _ = None

@@ -7,8 +7,9 @@ use Rattle.std.specs.Option.{option_or}
 use Rattle.gd_grammar.specs.Maybe.{◌>>=◌}
 use Rattle.gd_tree.specs.Hex.{hex}
 use Rattle.gd_prim.specs.declared.Primitive.{Primitive}
-use Rattle.gd_prim.specs.Builtin.{root_place, key_place}
-use Rattle.gd_prim.specs.Live.{refers, is_object, is_live, places_where, value_at, end_at, is_text, text_of}
+use Rattle.gd_prim.specs.Builtin.{root_place}
+use Rattle.gd_prim.specs.Live.{is_object, is_live, places_where, value_at, end_at, text_of}
+pub use Rattle.gd_prim.specs.Keys.{is_key_link, is_key_of}
 
 -- ---- keys
 
@@ -62,10 +63,6 @@ is_id text = is_some (id_keys text) || is_some (guid_place text)
 abbrev pub object_at : List Primitive → ℕ → Option ℕ
 object_at prims place = if is_object prims place then Some place else None
 
--- the primitive is a link of this key into this namespace
-abbrev pub is_key_link : ℕ → List ℕ → Primitive → Bool
-is_key_link namespace key p = refers p.typ key_place && refers p.right namespace && is_text key p.value
-
 -- the object that a key in a namespace leads to: the left end of the last link of that key into that namespace, if the link is live and the end an object
 abbrev pub key_leads : List Primitive → ℕ → List ℕ → Option ℕ
 key_leads prims namespace key = last_or None (places_where (is_key_link namespace key) prims) >>= λ k.
@@ -84,7 +81,7 @@ object_of prims text = option_or (guid_place text >>= object_at prims) (id_keys 
 
 -- the key link by which an object is named: of its first eight the first one that is live and has a namespace
 abbrev pub naming_link : List Primitive → ℕ → Option ℕ
-naming_link prims o = find (λ k. is_live prims k && is_some (end_at (λ p. p.right) prims k)) (take 8 (places_where (λ p. refers p.typ key_place && refers p.left o) prims))
+naming_link prims o = find (λ k. is_live prims k && is_some (end_at (λ p. p.right) prims k)) (take 8 (places_where (is_key_of o) prims))
 
 -- the keys from the root down to an object, in front of a text, if at most so many steps lead up to the root
 abbrev pub path_up : List Primitive → ℕ → ℕ → List ℕ → Option (List ℕ)

@@ -176,10 +176,10 @@ page_cursor dateline page more = by (if more then last_or None page else None)
 
 -- ---- the reply
 
--- what the root prints, of all rows and of those of the page: a count, a list, an object or null
+-- what the root prints, of the rows behind the mark and of those of the page: a count, a list, an object or null
 abbrev pub result_json : List Primitive → Asked → List Row → List Row → Result Json Path
-result_json prims q all page =
-    if is_ambiguous q.single (length all) then Err []
+result_json prims q behind page =
+    if is_ambiguous q.single (length behind) then Err []
     else if q.count then Ok (count_json (length page))
     else as_list q.listed (each_row (λ r. object_json prims q.members 0 r.object >>= λ m. Ok (object m)) page)
 
@@ -223,7 +223,7 @@ asked_line prims dateline line with_cursor after q =
     if has_heavy_candidate prims q then err_line dateline line (too_wide (max_candidate_weight + 1))
     else if is_heavy_page prims q after then err_line dateline line (too_wide (max_page_weight + 1))
     else result_line dateline line (if with_cursor then Some (page_cursor dateline (page prims q after) (has_more prims q after)) else None)
-    (result_json prims q (rows prims q) (page prims q after))
+    (result_json prims q (rows_after prims q after) (page prims q after))
 
 -- the reply line to a query that may have no meaning at the dateline
 abbrev pub meant_line : List Primitive → ℕ → ℕ → Bool → Option Mark → Result Asked Unknown → List ℕ

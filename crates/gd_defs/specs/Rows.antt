@@ -94,13 +94,22 @@ pub record Row : Type 0 where
 abbrev pub row_of : List Primitive → List SortKey → ℕ → ℕ → Row
 row_of prims sort link o = record { object = o; link = link; keys = map (key_place prims o) sort }
 
--- the order of rows by their keys, one after another
+-- the first key of a row, missing where the row has none
+abbrev pub first_key : List (Option ℕ) → Option ℕ
+first_key [] = None
+first_key (k ∷ ks) = k
+
+-- the keys of a row behind the first one
+abbrev pub later_keys : List (Option ℕ) → List (Option ℕ)
+later_keys [] = []
+later_keys (k ∷ ks) = ks
+
+-- the order of rows by their keys, one after another; a key beyond the last one counts as missing
 abbrev pub keys_cmp : List Primitive → List SortKey → List (Option ℕ) → List (Option ℕ) → Ordering
 keys_cmp prims [] ks ls = Equal
-keys_cmp prims (s ∷ ss) [] ls = Equal
-keys_cmp prims (s ∷ ss) (k ∷ ks) [] = Equal
-keys_cmp prims (s ∷ ss) (k ∷ ks) (l ∷ ls) =
-    ordering_then (key_cmp s.descending (option_map (key_value prims s) k) (option_map (key_value prims s) l)) (keys_cmp prims ss ks ls)
+keys_cmp prims (s ∷ ss) ks ls =
+    ordering_then (key_cmp s.descending (option_map (key_value prims s) (first_key ks)) (option_map (key_value prims s) (first_key ls)))
+    (keys_cmp prims ss (later_keys ks) (later_keys ls))
 
 -- the order of rows: by their keys, then by their objects
 abbrev pub row_cmp : List Primitive → List SortKey → Row → Row → Ordering
@@ -151,7 +160,7 @@ abbrev pub goes_on : Mode → Bool → Bool
 goes_on required found = found
 goes_on _ found = true
 
--- the weight of an object in a clause with these sort keys: what its members add, one after another
+-- the weight of an object in a clause with these sort keys: what its members add, one after another; the sum ends after the first required member without an answer
 abbrev pub weight : List Primitive → List SortKey → Members → ℕ → ℕ → ℕ
 weight prims sort no_members link o = sort_weight prims sort o
 weight prims sort (own name w t operand ms) link o = weight prims sort ms link o

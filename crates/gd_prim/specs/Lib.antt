@@ -1,6 +1,7 @@
 pub mod Builtin
 pub mod Tables
 pub mod Live
+pub mod Keys
 pub mod Limits
 pub mod WellFormed
 pub mod History

@@ -10,5 +10,8 @@ mod BegunRows
 mod WorkRows
 mod ReplayRow
 mod ExplainedRow
+mod EventRows
+mod LoadedRow
+mod DoubtRow
 pub mod BuiltRows
 pub mod LineMore

@@ -3,7 +3,8 @@ use Rattle.std.proofs.Common.{◌≡◌, refl, ℕ, List, [], ◌∷◌, codes, 
 use Rattle.gd_prim.specs.Builtin.{builtin}
 use Rattle.gd_defs.specs.Query.{required}
 use Rattle.gd_defs.specs.Asked.{Asked}
-use Rattle.gd_defs.specs.Template.{template, clause, no_clauses, links_by, left}
+use Rattle.gd_prim.specs.declared.End.TheVariants.{Left}
+use Rattle.gd_defs.specs.Template.{template, clause, no_clauses, links_by}
 use Rattle.gd_bytes.specs.Disk.{Cut}
 use Rattle.gd_tree.specs.Trees.{and_list, no_lists, no_trees}
 use Rattle.gd_bytes.specs.Frozen.{Frozen}
@@ -43,7 +44,7 @@ unfolding asked_from
 by_value = refl
 
 -- below a literal clause the deeper frames add no weight
-pub literal_frames : left_weight builtin (template [] (clause required (links_by left) (template [] (clause required (links_by left) (template [] no_clauses) no_clauses)) no_clauses))
+pub literal_frames : left_weight builtin (template [] (clause required (links_by Left) (template [] (clause required (links_by Left) (template [] no_clauses) no_clauses)) no_clauses))
     (record { place = 0; iter = record { place = 70; accepted = None }; lists = and_list no_trees no_lists })
     (record { place = 1; iter = record { place = 0; accepted = None }; lists = and_list no_trees no_lists } ∷ []) ≡ 0
 literal_frames = refl

@@ -51,6 +51,24 @@ pub lists : AreReplies (
 unfolding replies
 lists = refl
 
+-- A list within a list, null within one, and literals beside forms have no form, in a read and in an existing clause of a write.
+pub items_of_lists : AreReplies (
+    codes "{\"sid\":0,\"read\":{\"query\":[{\"name\":[[\"x\"]]}]}}"
+    ⇒ codes "{\"code\":\"/api/status/error\",\"error\":\"BadQuery\",\"info\":{\"code\":\"list_form\",\"path\":[\"name\"]},\"line\":0}"
+    ∷ codes "{\"sid\":0,\"read\":{\"query\":[{\"name\":[null]}]}}"
+    ⇒ codes "{\"code\":\"/api/status/error\",\"error\":\"BadQuery\",\"info\":{\"code\":\"list_form\",\"path\":[\"name\"]},\"line\":1}"
+    ∷ codes "{\"sid\":0,\"read\":{\"query\":[{\"type\":[\"x\",{\"id\":\"/\"}]}]}}"
+    ⇒ codes "{\"code\":\"/api/status/error\",\"error\":\"BadQuery\",\"info\":{\"code\":\"list_form\",\"path\":[\"type\"]},\"line\":2}"
+    ∷ codes "{\"sid\":0,\"write\":{\"query\":{\"id\":\"/\",\"name\":[[\"x\"]]}}}"
+    ⇒ codes "{\"code\":\"/api/status/error\",\"error\":\"BadQuery\",\"info\":{\"code\":\"list_form\",\"path\":[\"name\"]},\"line\":3}"
+    ∷ codes "{\"sid\":0,\"write\":{\"query\":{\"id\":\"/\",\"name\":[null]}}}"
+    ⇒ codes "{\"code\":\"/api/status/error\",\"error\":\"BadQuery\",\"info\":{\"code\":\"list_form\",\"path\":[\"name\"]},\"line\":4}"
+    ∷ codes "{\"sid\":0,\"write\":{\"query\":{\"id\":\"/\",\"name\":[\"x\",{\"connect\":\"insert\",\"value\":\"y\"}]}}}"
+    ⇒ codes "{\"code\":\"/api/status/error\",\"error\":\"BadQuery\",\"info\":{\"code\":\"list_form\",\"path\":[\"name\"]},\"line\":5}"
+    ∷ [])
+unfolding replies
+items_of_lists = refl
+
 -- What is no word, and words that are left out.
 pub words : AreReplies (
     codes "{\"sid\":0,\"read\":{\"query\":[{\"!name\":null}]}}"
