@@ -3,3 +3,4 @@ pub mod Json
 pub mod Look
 pub mod JsonCode
 pub mod Trees
+pub mod Bounds
