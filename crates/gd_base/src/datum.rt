@@ -1,6 +1,7 @@
 //! Values of primitives.
 ghost use Rattle.std.specs.Prelude.{◌≡◌, ◌↔◌, IfOk, IsTrue};
-ghost use Rattle.gd_base.specs.Order.{datum_cmp};
+ghost use Rattle.std.specs.Cmp.{IsTotalOrder};
+ghost use Rattle.gd_base.specs.Order.{datum_cmp, datum_eq};
 
 use crate::id::Id;
 use crate::memory::Memory;
@@ -47,16 +48,19 @@ impl Datum {
         }
     }
 
-    /// Where this value stands beside another one in the order of data.
+    /// Where this value stands beside another one in the order of data, which is total.
     pub fn order(&self, other: &Datum) -> Ordering
-        ensures { result ≡ datum_cmp self.now other.now }
+        ensures order { result ≡ datum_cmp self.now other.now }
+        ensures ties { (result ≡ Ordering.Equal) ↔ (self.now ≡ other.now) }
+        ensures total { IsTotalOrder datum_cmp }
     {
         self.cmp(other)
     }
 
     /// Whether this value is the other one.
     pub fn is(&self, other: &Datum) -> bool
-        ensures { IsTrue result ↔ (self.now ≡ other.now) }
+        ensures same { IsTrue result ↔ (self.now ≡ other.now) }
+        ensures eq { result ≡ datum_eq self.now other.now }
     {
         self == other
     }

@@ -5,3 +5,4 @@ pub mod Ranges
 pub mod Utf8Runs
 pub mod Utf8
 pub mod Options
+pub mod Steps

@@ -1,3 +1,4 @@
 pub mod View
 pub mod Tokens
 pub mod Reading
+pub mod Bounded

@@ -1,9 +1,10 @@
 //! From bytes to a value.
 ghost use Rattle.gd_base.specs.Answers.{Gives};
-ghost use Rattle.std.specs.Prelude.{◌≡◌};
+ghost use Rattle.std.specs.Prelude.{◌≡◌, IfOk};
 ghost use Rattle.serde_json.specs.View.{view as value_view, items_view as values_view, members_view as map_view};
 ghost use Rattle.gd_json.specs.View.{view};
 ghost use Rattle.gd_json.specs.Reading.{value_at, items_at, members_at, list_of, object_of, json_from as json_of};
+ghost use Rattle.gd_json.specs.Bounded.{IsBounded};
 ghost use Rattle.gd_json.specs.declared.from.JsonFault.TheVariants.{Memory as no_memory};
 
 use crate::value::{Json, JsonText};
@@ -49,9 +50,11 @@ impl<T: Drop> From<AllocFailed<T>> for JsonFault {
 
 /// The value that the bytes spell. `BadJson`: `serde_json` gives no reading of them. Else the value is walked, each
 /// value before its parts and members in byte order of their names, and the first fault decides; at one value
-/// `TooDeep` is tested before `TooWide` and `FloatValue`. Of two members of one name the last counts.
+/// `TooDeep` is tested before `TooWide` and `FloatValue`. Of two members of one name the last counts, and the members of an
+/// object stand in byte order of their names.
 pub fn json_from(alloc: Global, bytes: &[u8]) -> Result<Json, JsonFault>
-    ensures { Gives view JsonFault.Memory (json_of bytes.now) result }
+    ensures read { Gives view JsonFault.Memory (json_of bytes.now) result }
+    ensures bounded { IfOk result (λ json. IsBounded (view json)) }
 {
     match Value::from_slice(alloc, bytes) {
         Ok(value) => convert(alloc, value, 1),

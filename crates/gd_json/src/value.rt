@@ -92,6 +92,20 @@ impl Json {
         Ok(Json::Text(JsonText::from_str(alloc, text)?))
     }
 
+    /// A list of these items.
+    pub fn list(items: Vec<Json>) -> Json
+        ensures { view result ≡ tree.list (items_view items.items) }
+    {
+        Json::List(items)
+    }
+
+    /// An object of these members, which stand in byte order of their names, each name once.
+    pub fn object(members: Vec<(JsonText, Json)>) -> Json
+        ensures { view result ≡ tree.object (members_view members.items) }
+    {
+        Json::Object(members)
+    }
+
     /// A member of an object, of this name and value.
     pub fn named(alloc: Global, name: &str, value: Json) -> Result<(JsonText, Json), Memory>
         ensures { IfOk result (λ member. member ≡ (name.now, value)) }
