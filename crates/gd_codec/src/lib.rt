@@ -13,6 +13,3 @@ mod write;
 pub use group::{Group, decode_group};
 pub use stop::CodecFault;
 pub use write::encode_group;
-
-#[cfg(test)]
-mod tests;

@@ -114,7 +114,7 @@ fn read_full(file: &File, at: u64, buf: &mut [u8]) -> io::Result<usize>
 }
 
 /// Writes bytes of the file over themselves.
-pub(crate) fn write_again(file: &File, from: u64, to: u64) -> io::Result<()> {
+pub fn write_again(file: &File, from: u64, to: u64) -> io::Result<()> {
     let mut buf = [0; 4096];
     let mut at = from;
     while at < to {

@@ -11,6 +11,3 @@ pub mod shelf;
 /// The disk or the shelf failed.
 #[derive(Clone, Copy, Debug, PartialEq, Eq)]
 pub struct Failed;
-
-#[cfg(test)]
-mod tests;

@@ -8,5 +8,3 @@ pub mod opening;
 pub mod payloads;
 pub mod reading;
 pub mod record;
-#[cfg(test)]
-mod tests;

@@ -4,5 +4,3 @@
 pub mod log;
 pub mod opening;
 mod replay;
-#[cfg(test)]
-mod tests;

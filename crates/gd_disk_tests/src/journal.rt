@@ -1,0 +1,71 @@
+//! A journal over a disk in memory.
+ghost use Rattle.std.specs.Prelude.{◌≡◌, None, IfOk};
+
+use gd_disk::memory_disk::MemoryDisk;
+use gd_journal::fault::JournalFault;
+use gd_journal::journal::Journal;
+use gd_journal::opening::open_journal;
+use gd_journal::payloads::{Payload, Payloads};
+use std::alloc::Global;
+
+/// A store of the payload `ab`.
+const ONE: &[u8] = b"GRAPHD1\n\x01\0\0\0\x02ab\0";
+
+/// The same store with the payload `c`.
+const TWO: &[u8] = b"GRAPHD1\n\x01\0\0\0\x02ab\x01\0\0\0\x01c\0";
+
+/// Opens a file in memory, of whose calls some fail.
+fn opened(alloc: Global, file: &[u8], failing: &[u64]) -> Result<Journal<MemoryDisk>, JournalFault>
+    ensures no_doubt { IfOk result (λ journal. journal.doubt ≡ None) }
+{
+    let disk = MemoryDisk::new(alloc, file, failing)?;
+    match open_journal(disk) {
+        Ok(journal) => Ok(journal),
+        Err((fault, _)) => Err(fault),
+    }
+}
+
+/// Whether a file that a stop left is opened, and cut behind its last gate.
+fn is_cut(alloc: Global) -> bool {
+    match opened(alloc, b"GRAPHD1\n\x01\0\0\0\x02ab\0\0\0\0\x01", &[]) {
+        Ok(journal) => journal.into_disk().bytes() == ONE,
+        Err(_) => false,
+    }
+}
+
+#[test]
+fn opening_cuts(rt: HostRuntime) {
+    assert!(rt; is_cut(rt.alloc()));
+}
+
+/// Reads a file of two payloads.
+fn payloads(alloc: Global) -> Result<Payloads, JournalFault> {
+    let mut journal = opened(alloc, TWO, &[])?;
+    journal.read_all(alloc)
+}
+
+/// Whether these are the payloads of the file.
+fn are_two(list: &[Payload]) -> bool {
+    match list {
+        [first, second] => {
+            first.offset == 8
+                && first.bytes.as_slice() == b"ab".as_slice()
+                && second.offset == 15
+                && second.bytes.as_slice() == b"c".as_slice()
+        }
+        _ => false,
+    }
+}
+
+/// Whether both are read.
+fn reads_two(alloc: Global) -> bool {
+    match payloads(alloc) {
+        Ok(found) => are_two(found.list.as_slice()),
+        Err(_) => false,
+    }
+}
+
+#[test]
+fn payloads_are_read(rt: HostRuntime) {
+    assert!(rt; reads_two(rt.alloc()));
+}
