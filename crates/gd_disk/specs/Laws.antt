@@ -1,7 +1,8 @@
 -- Laws of what a disk in memory leaves. They are those of the trait of disks.
-use Rattle.std.specs.Prelude.{◌≡◌, ℕ, ◌+◌, ◌≤◌, List, [], ◌∷◌, length, drop, Some, refl}
-use Rattle.std.proofs.Common.{zero, suc, inl, subst, arith}
-use Rattle.gd_disk.specs.Recorded.{Made, wrote, cut_to, synced, held, left, left_since}
+use Rattle.std.specs.Prelude.{◌≡◌, ℕ, ◌+◌, ◌≤◌, List, [], ◌∷◌, length, drop, Option, Some, None, refl}
+use Rattle.std.proofs.Common.{zero, suc, inl, sym, subst, arith}
+use Rattle.gd_disk.specs.Recorded.{Recorded, Made, wrote, cut_to, synced, held, left, left_since}
+use Rattle.gd_disk.specs.Shelved.{content_in, images_in}
 
 -- what a read gives may be left
 pub held_left : (first : List ℕ) (made : List Made) → left first made (held first made)
@@ -24,3 +25,9 @@ at_last first made (suc j) c le has = absurd (omega arith)
 
 pub only_now_law : (first : List ℕ) (made : List Made) (c : List ℕ) → left_since first made (length made) c → left first made c
 only_now_law first made c since = at_last first made since.0 c since.1 since.2
+
+-- what a slot of a shelf in memory holds as it reads may be left
+pub slot_reads_law : (slot : Option (Option Recorded)) (file : List ℕ) → content_in slot ≡ Some file → images_in slot file
+slot_reads_law None file is = let same : [] ≡ file = cc in sym same
+slot_reads_law (Some None) file is = tt
+slot_reads_law (Some (Some disk)) file is = reads_one_law disk.first disk.made file is

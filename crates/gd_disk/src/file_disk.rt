@@ -5,7 +5,7 @@ ghost use Rattle.gd_base.specs.Counts.{HasCause};
 use crate::Failed;
 use crate::disk::Disk;
 use gd_base::memory::Memory;
-use std::fs::{File, OpenOptions};
+use std::fs::{File, OpenOptions, TryLockError};
 use std::io;
 use std::marker::Model;
 use std::os::unix::fs::FileExt;
@@ -37,7 +37,9 @@ impl Model for FileDisk {
 }
 
 impl FileDisk {
-    /// Opens the file, and makes it where there is none. An error is that of the system.
+    /// Opens the file, makes it where there is none, and takes the system's exclusive lock of it, without waiting: the
+    /// lock is held as long as the disk is there. An error is that of the system, or `WouldBlock` where the file is open
+    /// and locked elsewhere; then it is left as it is.
     pub fn open<R: Files<File = File>>(files: &R, path: &str) -> io::Result<FileDisk>
         ensures { IfOk result (λ disk. disk ≡ 0) }
     {
@@ -47,6 +49,7 @@ impl FileDisk {
             .write(true)
             .create(true)
             .open(files, path)?;
+        lock(&file)?;
         Ok(FileDisk {
             file,
             folder,
@@ -83,6 +86,15 @@ impl FileDisk {
         self.from = u64::MAX;
         self.to = 0;
         Ok(())
+    }
+}
+
+/// Takes the lock of the file, unless it is taken.
+fn lock(file: &File) -> io::Result<()> {
+    match file.try_lock() {
+        Ok(()) => Ok(()),
+        Err(TryLockError::Error(fault)) => Err(fault),
+        Err(TryLockError::WouldBlock) => Err(io::ErrorKind::WouldBlock.into()),
     }
 }
 

@@ -28,7 +28,8 @@ impl<R> Model for FileShelf<R> {
 }
 
 impl<R: Files<File = File>> FileShelf<R> {
-    /// The files that `files` opens.
+    /// The files that `files` opens. A file is locked while it is out, and one that another program has locked is not
+    /// opened: the answer is `Failed`.
     pub fn new(alloc: Global, files: R) -> FileShelf<R>
         ensures out { result.out ≡ [] }
         ensures faults { result.faults ≡ 0 }
@@ -67,6 +68,8 @@ impl<R: Files<File = File>> Shelf for FileShelf<R> {
     ghost is_out = { λ s. is_among s.out };
 
     ghost faults = { λ s. s.faults };
+
+    ghost reads_one = { λ _ _ _ _. tt };
 
     fn open_at(&mut self, path: &Text) -> Result<FileDisk, ShelfFault> {
         self.out.reserve(1)?;

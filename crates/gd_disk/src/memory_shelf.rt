@@ -4,6 +4,7 @@ ghost use Rattle.std.specs.Option.{ForSome};
 ghost use Rattle.gd_base.specs.Counts.{Rose};
 ghost use Rattle.gd_bytes.specs.Disk.{HoldsSame};
 ghost use Rattle.gd_disk.specs.Recorded.{content_of, images_of};
+ghost use Rattle.gd_disk.specs.Laws.{slot_reads_law};
 ghost use Rattle.gd_disk.specs.Shelved.{slot_at, content_in, images_in, is_out_in, IsTried};
 
 use crate::Failed;
@@ -117,6 +118,8 @@ impl Shelf for MemoryShelf {
     ghost is_out = { λ s path. is_out_in (slot_at s.slots path) };
 
     ghost faults = { λ s. s.faults };
+
+    ghost reads_one = { λ s path file is. slot_reads_law (slot_at s.slots path) file is };
 
     fn open_at(&mut self, path: &Text) -> Result<MemoryDisk, ShelfFault>
         requires { is_out_in (slot_at self.old.slots path.now) ≡ false }

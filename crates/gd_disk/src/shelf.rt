@@ -1,5 +1,5 @@
 //! Where files are kept.
-ghost use Rattle.std.specs.Prelude.{◌≡◌, ◌≢◌, ◌+◌, ◌-◌, ◌^◌, ◌≤◌, ℕ, List, Option, Bool, true, false, min, is_ok, IfOk, OnErr, IsErrOf};
+ghost use Rattle.std.specs.Prelude.{◌≡◌, ◌≢◌, ◌+◌, ◌-◌, ◌^◌, ◌≤◌, ℕ, List, Option, Some, Bool, true, false, min, is_ok, IfOk, OnErr, IsErrOf};
 ghost use Rattle.gd_base.specs.Counts.{Rose};
 ghost use Rattle.gd_bytes.specs.Disk.{HoldsSame};
 ghost use Rattle.gd_disk.specs.declared.shelf.ShelfFault.TheVariants as why;
@@ -83,4 +83,7 @@ pub trait Shelf {
         ensures others { (other : List ℕ) → other ≢ path.now → HoldsSame (content self.old other) (content self.new other)
             (images self.old other) (images self.new other) × (is_out self.new other ≡ is_out self.old other) }
         ensures count { faults self.new ≡ min (faults self.old + Self.Device.faults device) (2 ^ 64 - 1) };
+
+    /// What a path holds as it reads is what a stop may leave there.
+    ghost reads_one: { (shelf : Self) (path file : List ℕ) → content shelf path ≡ Some file → images shelf path file };
 }
