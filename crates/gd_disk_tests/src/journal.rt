@@ -19,7 +19,7 @@ fn opened(alloc: Global, file: &[u8], failing: &[u64]) -> Result<Journal<MemoryD
     ensures no_doubt { IfOk result (λ journal. journal.doubt ≡ None) }
 {
     let disk = MemoryDisk::new(alloc, file, failing)?;
-    match open_journal(disk) {
+    match open_journal(alloc, disk) {
         Ok(journal) => Ok(journal),
         Err((fault, _)) => Err(fault),
     }

@@ -47,22 +47,14 @@ written_end at bytes file is =
     ∙ ap (λ (l : List ℕ). file ++ (bytes ++ l)) (drop_all (at + length bytes) file (omega arith))
     ∙ ap (λ (l : List ℕ). file ++ l) (append-nil bytes)
 
--- after the three writes
-pub staged : (ps : List (List ℕ)) (gate a b e : ℕ) (len p c0 c1 c2 c3 : List ℕ) → gate ≡ length (front ps) → a ≡ gate + 1 → b ≡ gate + 5 → e ≡ gate + 5 + length p → len ≡ to_be_bytes w32 (length p) → IsAtRest ps c0
-    → c1 ≡ written a len c0 → c2 ≡ written b p c1 → c3 ≡ written e (0 ∷ []) c2 → IsStaged ps p c3
-staged ps gate a b e len p c0 c1 c2 c3 place a_is b_is e_is spells rests w1 w2 w3 =
+-- after the write of a record
+pub staged : (ps : List (List ℕ)) (gate a : ℕ) (bytes p c0 c1 : List ℕ) → gate ≡ length (front ps) → a ≡ gate + 1 → bytes ≡ spelled p ++ 0 ∷ [] → IsAtRest ps c0 → c1 ≡ written a bytes c0 → IsStaged ps p c1
+staged ps gate a bytes p c0 c1 place a_is spells rests w =
     let f = front ps in
-    let four : length len ≡ 4 = ap length spells in
-    let size0 : length c0 ≡ gate + 1 = omega (arith, ap length rests.is, length-append f (rests.gate ∷ [])) in
-    let is1 : c1 ≡ c0 ++ len = w1 ∙ written_end a len c0 (omega (arith, size0)) in
-    let size1 : length c1 ≡ gate + 5 = omega (arith, ap length is1, length-append c0 len) in
-    let is2 : c2 ≡ c1 ++ p = w2 ∙ written_end b p c1 (omega (arith, size1)) in
-    let size2 : length c2 ≡ gate + 5 + length p = omega (arith, ap length is2, length-append c1 p) in
-    let is3 : c3 ≡ c2 ++ 0 ∷ [] = w3 ∙ written_end e (0 ∷ []) c2 (omega (arith, size2)) in
-    let tail : c2 ≡ c0 ++ spelled p = is2 ∙ ap (λ (l : List ℕ). l ++ p) is1 ∙ append_assoc c0 len p ∙ ap (λ (l : List ℕ). c0 ++ (l ++ p)) spells in
+    let size : length c0 ≡ gate + 1 = omega (arith, ap length rests.is, length-append f (rests.gate ∷ [])) in
     record {
       gate = rests.gate;
-      is = is3 ∙ ap (λ (l : List ℕ). l ++ 0 ∷ []) tail ∙ append_assoc c0 (spelled p) (0 ∷ [])
+      is = w ∙ written_end a bytes c0 (omega (arith, size)) ∙ ap (λ (l : List ℕ). c0 ++ l) spells
           ∙ ap (λ (l : List ℕ). l ++ (spelled p ++ 0 ∷ [])) rests.is ∙ append_assoc f (rests.gate ∷ []) (spelled p ++ 0 ∷ []);
     }
 

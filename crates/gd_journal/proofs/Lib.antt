@@ -6,3 +6,5 @@ mod Kept
 mod Heads
 mod Found
 mod Rows
+mod Settles
+mod Ends

@@ -1,8 +1,11 @@
 -- What contracts see of a journal, and what its disk may leave.
-use Rattle.std.specs.Prelude.{◌≡◌, ℕ, ◌+◌, ◌^◌, ◌<◌, List, length, Option, Some, None, IsSome}
+use Rattle.std.specs.Prelude.{◌≡◌, ℕ, ◌+◌, ◌^◌, ◌<◌, ◌≤◌, List, length, take, Option, Some, None, IsSome}
 use Rattle.std.specs.List.{AllByRecursion}
+use Rattle.std.specs.Option.{ForSome}
+use Rattle.gd_bytes.specs.Disk.{Only}
+use Rattle.gd_bytes.specs.File.{header}
 use Rattle.gd_journal.specs.Meaning.{StandsFor, MayStandFor, IsDamagedAt}
-use Rattle.gd_journal.specs.Shape.{IsPayload, front, IsAtRest, IsDoubtful}
+use Rattle.gd_journal.specs.Shape.{IsPayload, front, IsAtRest, IsDoubtful, IsWalked, EndsAt}
 
 -- What contracts see of a journal: its disk, the offset of the gate that ends its records, the offset of the next gate while a payload is in doubt, and that of the first damaged record.
 pub record Journaled (D : Type 0) : Type 0 where
@@ -42,3 +45,22 @@ Standing content images gate (Some next) (Some at) = ⊥
 -- Where the disk tells its content, each image stands for some payloads, with one in doubt or none, or has its first damaged record here.
 abbrev pub Keeps : Option (List ℕ) → (List ℕ → Type 0) → ℕ → Option ℕ → Option ℕ → Type 0
 Keeps content images gate doubt damaged = IsSome content → Standing content images gate doubt damaged
+
+-- What contracts see of a file that is being opened: its disk, its length, the offset of the gate that ends its records, and that of the first damaged record.
+pub record Looked (D : Type 0) : Type 0 where
+  pub disk : D
+  pub len : ℕ
+  pub gate : ℕ
+  pub damaged : Option ℕ
+
+-- The records of a file of this length end at this gate, or its first damaged record stands there. Of an unfinished creation it is the gate of an empty store.
+pub record HasEnd (file : List ℕ) (len gate : ℕ) (damaged : Option ℕ) : Type 0 where
+  pub size : len ≡ length file
+  pub short : len ≤ 9 → (gate ≡ 8) × (damaged ≡ None)
+  pub begins : 9 < len → take 8 file ≡ header
+  pub within : 9 < len → gate < len
+  pub ends : 9 < len → (ps : List (List ℕ)) × IsWalked ps gate file × EndsAt gate file damaged
+
+-- The file that the disk tells is its only image, and its records end there.
+abbrev pub Sees : Option (List ℕ) → (List ℕ → Type 0) → ℕ → ℕ → Option ℕ → Type 0
+Sees content images len gate damaged = ForSome content (λ file. Only file images × HasEnd file len gate damaged)

@@ -11,7 +11,7 @@ use crate::fault::JournalFault;
 use crate::head::PAYLOAD_LIMIT;
 use crate::payloads::Payloads;
 use crate::reading::read_payloads;
-use crate::record::{settle_record, write_record};
+use crate::record::{settle_record, spell, write_record};
 use gd_disk::disk::Disk;
 use std::alloc::Global;
 use std::marker::Model;
@@ -25,6 +25,8 @@ pub struct Journal<D: Disk> {
     gate: u64,
     doubt: Option<u64>,
     damaged: Option<u64>,
+    // the last record, without its gate: its memory is used again
+    buffer: Vec<u8>,
 }
 
 impl<D: Disk> Model for Journal<D> {
@@ -39,7 +41,7 @@ impl<D: Disk> Model for Journal<D> {
 
 impl<D: Disk> Journal<D> {
     /// A journal whose file was opened, and whose records end at this gate.
-    pub(crate) fn of(disk: D, gate: u64, damaged: Option<u64>) -> Journal<D>
+    pub(crate) fn of(disk: D, gate: u64, damaged: Option<u64>, buffer: Vec<u8>) -> Journal<D>
         requires { Keeps (D.content disk) (D.images disk) gate None damaged }
         ensures { result ≡ record { disk = disk; gate = gate; doubt = None; damaged = damaged } }
     {
@@ -48,6 +50,7 @@ impl<D: Disk> Journal<D> {
             gate,
             doubt: None,
             damaged,
+            buffer,
         }
     }
 
@@ -96,10 +99,11 @@ impl<D: Disk> Journal<D> {
     }
 
     /// Adds a payload of 1 to `PAYLOAD_LIMIT` bytes: writes its length, itself and the next closed gate behind the
-    /// closed gate that ends the file, syncs, opens that gate, and syncs again. Then it counts, whenever a stop comes.
+    /// closed gate that ends the file, in one write, syncs, opens that gate, and syncs again. Then it counts, whenever a
+    /// stop comes. These bytes are kept until the next call, so that it finds room for as many.
     ///
     /// At every moment of the call a stop leaves what stands for the payloads before, or for these and the new one.
-    /// `Memory`: there is no room on the disk, and nothing was changed. `DiskFault`: the disk failed, and the payload
+    /// `Memory`: there is no room in memory or on the disk, and nothing was changed. `DiskFault`: the disk failed, and the payload
     /// is in doubt until `settle` tells.
     pub fn append(&mut self, payload: &[u8]) -> Result<(), JournalFault>
         requires some { 1 ≤ length payload.now }
@@ -118,16 +122,18 @@ impl<D: Disk> Journal<D> {
         ensures moments { (ps : List (List ℕ))
             → IsSettled (D.content self.old.disk) (D.images self.old.disk) self.old.gate ps
             → LeavesOnly D.moment D.images D.images_since self.old.disk self.new.disk (MayStandFor ps payload.now) }
+        ensures told { is_some (D.content self.new.disk) ≡ is_some (D.content self.old.disk) }
         ensures memory { IsErrOf result JournalFault.Memory → (self.new.gate ≡ self.old.gate)
             × IsUntouched D.content D.moment D.images D.images_since self.old.disk self.new.disk }
         ensures later { D.faults self.old.disk ≤ D.faults self.new.disk }
         ensures cause { IfErr result (HasReason (D.faults self.old.disk) (D.faults self.new.disk)) }
     {
         let size = payload.len() as u64;
-        self.disk.reserve(6, size + 6)?;
+        spell(&mut self.buffer, payload)?;
+        self.disk.reserve(4, size + 6)?;
         let next = self.gate.saturating_add(size + 5);
         self.doubt = Some(next);
-        write_record(&mut self.disk, self.gate, payload)?;
+        write_record(&mut self.disk, self.gate, self.buffer.as_slice())?;
         self.gate = next;
         self.doubt = None;
         Ok(())
@@ -155,6 +161,7 @@ impl<D: Disk> Journal<D> {
         ensures moments { (next : ℕ) (ps : List (List ℕ)) (p : List ℕ) → self.old.doubt ≡ Some next
             → IsInDoubt (D.content self.old.disk) (D.images self.old.disk) self.old.gate next ps p
             → LeavesOnly D.moment D.images D.images_since self.old.disk self.new.disk (MayStandFor ps p) }
+        ensures told { is_some (D.content self.new.disk) ≡ is_some (D.content self.old.disk) }
         ensures memory { IsErrOf result JournalFault.Memory
             → IsUntouched D.content D.moment D.images D.images_since self.old.disk self.new.disk }
         ensures later { D.faults self.old.disk ≤ D.faults self.new.disk }

@@ -1,20 +1,25 @@
 //! Opening a file that a stop may have left.
-ghost use Rattle.std.specs.Prelude.{◌≡◌, ◌≢◌, ◌+◌, ◌<◌, ◌≤◌, ◌↔◌, [], List, ℕ, None, Some, true, length, take, OnOk, IfOk, IfErr, IsErrOf, MatchOption, MatchResult};
+ghost use Rattle.std.specs.Prelude.{◌≡◌, ◌≢◌, ◌+◌, ◌<◌, ◌≤◌, ◌↔◌, [], List, ℕ, None, Some, true, length, take, OnOk, OnErr, IfOk, IfErr, IsErrOf, MatchOption, MatchResult};
 ghost use Rattle.std.specs.Option.{ForSome, is_some};
 ghost use Rattle.gd_base.specs.Counts.{HasCause};
 ghost use Rattle.gd_bytes.specs.Disk.{LeavesOnly, IsUntouched, Only};
 ghost use Rattle.gd_bytes.specs.File.{header};
 ghost use Rattle.gd_journal.specs.Causes.{HasReason, MayRefuse};
 ghost use Rattle.gd_journal.specs.Meaning.{held_by, StandsFor, IsDamagedAt, MeansOneOf};
+ghost use Rattle.gd_journal.specs.Found.{found_in};
 ghost use Rattle.gd_journal.specs.Shape.{IsAtRest, IsWalked, EndsAt};
-ghost use Rattle.gd_journal.specs.State.{IsSettled, Keeps};
+ghost use Rattle.gd_journal.specs.State.{HasEnd, IsSettled, Keeps, Sees};
 
 use crate::fault::JournalFault;
 use crate::head::{HEAD, Head, head_at};
 use crate::journal::Journal;
+use crate::payloads::Payloads;
+use crate::reading::read_payloads;
 use crate::record::clear;
 use gd_disk::Failed;
 use gd_disk::disk::Disk;
+use std::alloc::Global;
+use std::marker::Model;
 
 /// The first bytes of a store's file: `GRAPHD1` and a newline.
 pub const HEADER: [u8; 8] = *b"GRAPHD1\n";
@@ -93,45 +98,30 @@ fn scan<D: Disk>(disk: &mut D, len: u64) -> Result<Ending, Failed>
     }
 }
 
-/// Makes room, makes certain what the file holds, and says how long it is.
+/// Makes certain what the file holds, and says how long it is.
 fn begin<D: Disk>(disk: &mut D) -> Result<u64, JournalFault>
     ensures untouched { IsUntouched D.content D.moment D.images D.images_since disk.old disk.new }
     ensures only { OnOk result (ForSome (D.content disk.new) (λ file. Only file (D.images disk.new))) }
     ensures len { IfOk result (λ len. ForSome (D.content disk.new) (λ file. len ≡ length file)) }
-    ensures calls { OnOk result (3 ≤ D.calls_left disk.new) }
-    ensures bytes { OnOk result (9 ≤ D.bytes_left disk.new) }
     ensures later { D.faults disk.old ≤ D.faults disk.new }
     ensures cause { IfErr result (HasReason (D.faults disk.old) (D.faults disk.new)) }
 {
-    disk.reserve(4, 9)?;
+    disk.reserve(1, 0)?;
     disk.sync()?;
     let len = disk.len()?;
     Ok(len)
 }
 
-/// Cuts a file of so many bytes behind the gate that ends its records, and makes an empty store of one that is an
-/// unfinished creation. A file with a damaged record is left as it is.
-fn recover<D: Disk>(disk: &mut D, len: u64) -> Result<Ending, JournalFault>
-    requires only { ForSome (D.content disk.old) (λ file. Only file (D.images disk.old)) }
+/// Finds where the records of a file of so many bytes end.
+fn find_end<D: Disk>(disk: &mut D, len: u64) -> Result<Ending, JournalFault>
     requires len { ForSome (D.content disk.old) (λ file. len ≡ length file) }
-    requires calls { 3 ≤ D.calls_left disk.old }
-    requires bytes { 9 ≤ D.bytes_left disk.old }
-    ensures told { is_some (D.content disk.new) ≡ is_some (D.content disk.old) }
-    ensures means { ForSome (D.content disk.old) (λ file.
-        LeavesOnly D.moment D.images D.images_since disk.old disk.new (λ c. held_by c ≡ held_by file)) }
-    ensures ends { IfOk result (λ end. ForSome (D.content disk.old) (λ file. MatchOption end.damaged
-        ((ps : List (List ℕ)) × StandsFor ps file × IsSettled (D.content disk.new) (D.images disk.new) end.gate ps)
-        (λ at. IsDamagedAt at file × IsUntouched D.content D.moment D.images D.images_since disk.old disk.new))) }
+    ensures ends { IfOk result (λ end. ForSome (D.content disk.old) (λ file. HasEnd file len end.gate end.damaged)) }
     ensures not_store { IsErrOf result JournalFault.NotStore → ForSome (D.content disk.old) (λ file. held_by file ≡ None) }
-    ensures refused { IsErrOf result JournalFault.NotStore
-        → IsUntouched D.content D.moment D.images D.images_since disk.old disk.new }
-    ensures memory { IsErrOf result JournalFault.Memory
-        → IsUntouched D.content D.moment D.images D.images_since disk.old disk.new }
+    ensures untouched { IsUntouched D.content D.moment D.images D.images_since disk.old disk.new }
     ensures later { D.faults disk.old ≤ D.faults disk.new }
     ensures cause { IfErr result (MayRefuse (D.faults disk.old) (D.faults disk.new)) }
 {
     if len <= UNFINISHED {
-        create(disk)?;
         return Ok(Ending {
             gate: 8,
             damaged: None,
@@ -141,32 +131,177 @@ fn recover<D: Disk>(disk: &mut D, len: u64) -> Result<Ending, JournalFault>
         return Err(JournalFault::NotStore);
     }
     let end = scan(disk, len)?;
-    if end.damaged.is_some() {
-        return Ok(end);
-    }
-    clear(disk, end.gate)?;
     Ok(end)
 }
 
-/// Makes certain what the file holds, and recovers it.
-fn start<D: Disk>(disk: &mut D) -> Result<Ending, JournalFault>
+/// Cuts a file of so many bytes behind the gate that ends its records, and makes an empty store of one that is an
+/// unfinished creation. A file with a damaged record is left as it is.
+fn mend<D: Disk>(disk: &mut D, len: u64, end: Ending) -> Result<(), Failed>
+    requires seen { Sees (D.content disk.old) (D.images disk.old) len end.gate end.damaged }
+    requires calls { 3 ≤ D.calls_left disk.old }
+    requires bytes { 9 ≤ D.bytes_left disk.old }
+    ensures told { is_some (D.content disk.new) ≡ is_some (D.content disk.old) }
     ensures means { ForSome (D.content disk.old) (λ file.
-        LeavesOnly D.moment D.images D.images_since disk.old disk.new (MeansOneOf (D.images disk.old))) }
-    ensures ends { IfOk result (λ end. ForSome (D.content disk.old) (λ file. MatchOption end.damaged
+        LeavesOnly D.moment D.images D.images_since disk.old disk.new (λ c. held_by c ≡ held_by file)) }
+    ensures ends { OnOk result (ForSome (D.content disk.old) (λ file. MatchOption end.damaged
         ((ps : List (List ℕ)) × StandsFor ps file × IsSettled (D.content disk.new) (D.images disk.new) end.gate ps)
         (λ at. IsDamagedAt at file × IsUntouched D.content D.moment D.images D.images_since disk.old disk.new))) }
-    ensures keeps { IfOk result (λ end. Keeps (D.content disk.new) (D.images disk.new) end.gate None end.damaged) }
+    ensures cause { HasCause (D.faults disk.old) (D.faults disk.new) result }
+{
+    if len <= UNFINISHED {
+        create(disk)?;
+        return Ok(());
+    }
+    if end.damaged.is_some() {
+        return Ok(());
+    }
+    clear(disk, end.gate)?;
+    Ok(())
+}
+
+/// A file that is being opened: what it holds is certain, and it was left as it is. Contracts see its disk, its length,
+/// the offset of the gate that ends its records, and that of the first damaged record.
+#[derive(Drop)]
+pub struct Opening<D: Disk> {
+    disk: D,
+    len: u64,
+    end: Ending,
+    alloc: Global,
+}
+
+impl<D: Disk> Model for Opening<D> {
+    ghost use Rattle.gd_journal.specs.State.{Looked, Sees};
+
+    ghost Value = { Looked D };
+
+    ghost view = { λ o. record { disk = o.disk; len = o.len; gate = o.end.gate; damaged = o.end.damaged } };
+
+    ghost invariant = { λ o. Sees (D.content o.disk) (D.images o.disk) o.len o.end.gate o.end.damaged };
+}
+
+/// Makes certain what the file holds, and finds where its records end.
+fn see<D: Disk>(disk: &mut D) -> Result<(u64, Ending), JournalFault>
+    ensures seen { IfOk result (λ found. Sees (D.content disk.new) (D.images disk.new) found.0 found.1.gate found.1.damaged) }
     ensures not_store { IsErrOf result JournalFault.NotStore → ForSome (D.content disk.old) (λ file. held_by file ≡ None) }
-    ensures refused { IsErrOf result JournalFault.NotStore
-        → IsUntouched D.content D.moment D.images D.images_since disk.old disk.new }
-    ensures memory { IsErrOf result JournalFault.Memory
-        → IsUntouched D.content D.moment D.images D.images_since disk.old disk.new }
+    ensures untouched { IsUntouched D.content D.moment D.images D.images_since disk.old disk.new }
     ensures later { D.faults disk.old ≤ D.faults disk.new }
     ensures cause { IfErr result (MayRefuse (D.faults disk.old) (D.faults disk.new)) }
 {
     let len = begin(disk)?;
-    let end = recover(disk, len)?;
-    Ok(end)
+    let end = find_end(disk, len)?;
+    Ok((len, end))
+}
+
+/// Looks at a file that a stop may have left: begins with a sync, and finds the gate that ends its records. Nothing is
+/// changed, whatever the answer; `Opening::finish` makes a journal of it.
+///
+/// An error hands the disk back. `NotStore`: the file has more than 9 bytes and does not begin with the header.
+/// `Memory`: there is no room on the disk. `DiskFault`: the disk failed. `Damaged` is never answered.
+pub fn look<D: Disk>(alloc: Global, disk: D) -> Result<Opening<D>, (JournalFault, D)>
+    ensures untouched { MatchResult result
+        (λ opening. IsUntouched D.content D.moment D.images D.images_since disk opening.disk)
+        (λ refused. IsUntouched D.content D.moment D.images D.images_since disk refused.1) }
+    ensures not_store { IfErr result (λ refused. refused.0 ≡ JournalFault.NotStore
+        → ForSome (D.content disk) (λ file. held_by file ≡ None)) }
+    ensures later { MatchResult result
+        (λ opening. D.faults disk ≤ D.faults opening.disk) (λ refused. D.faults disk ≤ D.faults refused.1) }
+    ensures cause { IfErr result (λ refused. MayRefuse (D.faults disk) (D.faults refused.1) refused.0) }
+{
+    let mut disk = disk;
+    match see(&mut disk) {
+        Ok((len, end)) => Ok(Opening {
+            disk,
+            len,
+            end,
+            alloc,
+        }),
+        Err(fault) => Err((fault, disk)),
+    }
+}
+
+/// What a finished opening leaves of its disk.
+fn finish_on<D: Disk>(disk: &mut D, len: u64, end: Ending) -> Result<(), JournalFault>
+    requires seen { Sees (D.content disk.old) (D.images disk.old) len end.gate end.damaged }
+    ensures told { is_some (D.content disk.new) ≡ is_some (D.content disk.old) }
+    ensures means { ForSome (D.content disk.old) (λ file.
+        LeavesOnly D.moment D.images D.images_since disk.old disk.new (λ c. held_by c ≡ held_by file)) }
+    ensures ends { OnOk result (ForSome (D.content disk.old) (λ file. MatchOption end.damaged
+        ((ps : List (List ℕ)) × StandsFor ps file × IsSettled (D.content disk.new) (D.images disk.new) end.gate ps)
+        (λ at. IsDamagedAt at file × IsUntouched D.content D.moment D.images D.images_since disk.old disk.new))) }
+    ensures keeps { OnOk result (Keeps (D.content disk.new) (D.images disk.new) end.gate None end.damaged) }
+    ensures memory { IsErrOf result JournalFault.Memory
+        → IsUntouched D.content D.moment D.images D.images_since disk.old disk.new }
+    ensures later { D.faults disk.old ≤ D.faults disk.new }
+    ensures cause { IfErr result (HasReason (D.faults disk.old) (D.faults disk.new)) }
+{
+    disk.reserve(3, 9)?;
+    mend(disk, len, end)?;
+    Ok(())
+}
+
+impl<D: Disk> Opening<D> {
+    /// The disk. It takes no memory, and leaves the file as it is.
+    pub fn into_disk(self) -> D
+        ensures { result ≡ self.disk }
+    {
+        self.disk
+    }
+
+    /// Reads each payload, as `Journal::read_all` does, and leaves the file as it is.
+    pub fn read_all(&mut self) -> Result<Payloads, JournalFault>
+        ensures found { IfOk result (λ found. ForSome (D.content self.old.disk) (λ file.
+            held_by file ≡ Some (found_in found))) }
+        ensures damaged { IfOk result (λ found. self.new.damaged ≡ found.damaged) }
+        ensures left { OnErr result (self.new.damaged ≡ self.old.damaged) }
+        ensures untouched { IsUntouched D.content D.moment D.images D.images_since self.old.disk self.new.disk }
+        ensures later { D.faults self.old.disk ≤ D.faults self.new.disk }
+        ensures cause { IfErr result (HasReason (D.faults self.old.disk) (D.faults self.new.disk)) }
+    {
+        let found = read_payloads(self.alloc, &mut self.disk)?;
+        self.end.damaged = found.damaged.or(self.end.damaged);
+        Ok(Payloads {
+            list: found.list,
+            damaged: self.end.damaged,
+        })
+    }
+
+    /// Makes a journal of the file: of one of at most 9 bytes, an unfinished creation, an empty store; any other is cut
+    /// behind the gate that ends its records. A file with a damaged record is left as it is.
+    ///
+    /// An error hands the disk back. `Memory`: there is no room on the disk, and nothing was changed. `DiskFault`: the
+    /// disk failed. At every moment of the call a stop leaves what means the same as the file before it.
+    pub fn finish(self) -> Result<Journal<D>, (JournalFault, D)>
+        ensures opened { IfOk result (λ journal. ForSome (D.content self.disk) (λ file. MatchOption journal.damaged
+            ((ps : List (List ℕ)) × StandsFor ps file × IsSettled (D.content journal.disk) (D.images journal.disk) journal.gate ps)
+            (λ at. IsDamagedAt at file × IsUntouched D.content D.moment D.images D.images_since self.disk journal.disk))) }
+        ensures no_doubt { IfOk result (λ journal. journal.doubt ≡ None) }
+        ensures damaged { IfOk result (λ journal. journal.damaged ≡ self.damaged) }
+        ensures moments { MatchResult result
+            (λ journal. ForSome (D.content self.disk) (λ file.
+            LeavesOnly D.moment D.images D.images_since self.disk journal.disk (λ c. held_by c ≡ held_by file)))
+            (λ refused. ForSome (D.content self.disk) (λ file.
+            LeavesOnly D.moment D.images D.images_since self.disk refused.1 (λ c. held_by c ≡ held_by file))) }
+        ensures told { MatchResult result
+            (λ journal. is_some (D.content journal.disk) ≡ is_some (D.content self.disk))
+            (λ refused. is_some (D.content refused.1) ≡ is_some (D.content self.disk)) }
+        ensures untouched { IfErr result (λ refused. refused.0 ≢ JournalFault.DiskFault
+            → IsUntouched D.content D.moment D.images D.images_since self.disk refused.1) }
+        ensures later { MatchResult result
+            (λ journal. D.faults self.disk ≤ D.faults journal.disk) (λ refused. D.faults self.disk ≤ D.faults refused.1) }
+        ensures cause { IfErr result (λ refused. HasReason (D.faults self.disk) (D.faults refused.1) refused.0) }
+    {
+        let Opening {
+            disk,
+            len,
+            end,
+            alloc,
+        } = self;
+        let mut disk = disk;
+        match finish_on(&mut disk, len, end) {
+            Ok(()) => Ok(Journal::of(disk, end.gate, end.damaged, Vec::new(alloc))),
+            Err(fault) => Err((fault, disk)),
+        }
+    }
 }
 
 /// Opens a file that a stop may have left, and begins with a sync. Of a file of at most 9 bytes, an unfinished
@@ -177,7 +312,7 @@ fn start<D: Disk>(disk: &mut D) -> Result<Ending, JournalFault>
 /// `Memory`: there is no room on the disk. Either changes nothing. `DiskFault`: the disk failed. `Damaged` is never
 /// answered. At every moment of the call a stop leaves what means the same as a file that a stop might have left
 /// before it.
-pub fn open_journal<D: Disk>(disk: D) -> Result<Journal<D>, (JournalFault, D)>
+pub fn open_journal<D: Disk>(alloc: Global, disk: D) -> Result<Journal<D>, (JournalFault, D)>
     ensures opened { IfOk result (λ journal. ForSome (D.content disk) (λ file. MatchOption journal.damaged
         ((ps : List (List ℕ)) × StandsFor ps file × IsSettled (D.content journal.disk) (D.images journal.disk) journal.gate ps)
         (λ at. IsDamagedAt at file × IsUntouched D.content D.moment D.images D.images_since disk journal.disk))) }
@@ -191,13 +326,14 @@ pub fn open_journal<D: Disk>(disk: D) -> Result<Journal<D>, (JournalFault, D)>
         → ForSome (D.content disk) (λ file. held_by file ≡ None)) }
     ensures untouched { IfErr result (λ refused. refused.0 ≢ JournalFault.DiskFault
         → IsUntouched D.content D.moment D.images D.images_since disk refused.1) }
+    ensures told { MatchResult result
+        (λ journal. is_some (D.content journal.disk) ≡ is_some (D.content disk))
+        (λ refused. is_some (D.content refused.1) ≡ is_some (D.content disk)) }
     ensures later { MatchResult result
         (λ journal. D.faults disk ≤ D.faults journal.disk) (λ refused. D.faults disk ≤ D.faults refused.1) }
     ensures cause { IfErr result (λ refused. MayRefuse (D.faults disk) (D.faults refused.1) refused.0) }
 {
-    let mut disk = disk;
-    match start(&mut disk) {
-        Ok(end) => Ok(Journal::of(disk, end.gate, end.damaged)),
-        Err(fault) => Err((fault, disk)),
-    }
+    let opening = look(alloc, disk)?;
+    let journal = opening.finish()?;
+    Ok(journal)
 }

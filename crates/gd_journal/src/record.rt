@@ -4,34 +4,46 @@ ghost use Rattle.std.specs.Option.{ForSome, is_some};
 ghost use Rattle.gd_base.specs.Counts.{HasCause};
 ghost use Rattle.gd_bytes.specs.Disk.{LeavesOnly, IsUntouched, Only};
 ghost use Rattle.gd_journal.specs.Causes.{HasReason};
-ghost use Rattle.gd_journal.specs.Shape.{IsClosed, IsAtRest, IsStaged, IsDoubtful};
+ghost use Rattle.gd_journal.specs.Shape.{spelled, IsClosed, IsAtRest, IsStaged, IsDoubtful};
 ghost use Rattle.gd_journal.specs.State.{AtGate};
 
 use crate::fault::JournalFault;
+use gd_base::memory::Memory;
 use gd_disk::Failed;
 use gd_disk::disk::Disk;
 
-/// Writes the length, the payload and the next closed gate behind the closed gate that ends the file, and syncs.
-fn stage<D: Disk>(disk: &mut D, gate: u64, payload: &[u8]) -> Result<(), Failed>
-    requires short { length payload.now ≤ 268435456 }
+/// Puts a payload behind its length and in front of the next closed gate into a buffer, which holds these bytes alone
+/// then.
+pub(crate) fn spell(buffer: &mut Vec<u8>, payload: &[u8]) -> Result<(), Memory>
+    requires { length payload.now ≤ 268435456 }
+    ensures { OnOk result (buffer.new.items ≡ spelled payload.now ++ 0 ∷ []) }
+{
+    buffer.clear();
+    buffer.reserve(payload.len() + 5)?;
+    buffer.extend_from_slice(&(payload.len() as u32).to_be_bytes())?;
+    buffer.extend_from_slice(payload)?;
+    buffer.push(0)?;
+    Ok(())
+}
+
+/// Writes a length, a payload and the next closed gate behind the closed gate that ends the file, and syncs.
+fn stage<D: Disk>(disk: &mut D, gate: u64, bytes: &[u8]) -> Result<(), Failed>
     requires reach { ForSome (D.content disk.old) (λ file. gate < length file) }
     requires near { ForSome (D.content disk.old) (λ file. gate < 2 ^ 62) }
-    requires calls { 4 ≤ D.calls_left disk.old }
-    requires bytes { length payload.now + 5 ≤ D.bytes_left disk.old }
+    requires calls { 2 ≤ D.calls_left disk.old }
+    requires bytes { length bytes.now ≤ D.bytes_left disk.old }
     ensures told { is_some (D.content disk.new) ≡ is_some (D.content disk.old) }
     ensures reach { ForSome (D.content disk.new) (λ file. gate < length file) }
     ensures closed { (ps : List (List ℕ)) → AtGate (D.content disk.old) (D.images disk.old) gate ps (IsClosed ps)
         → LeavesOnly D.moment D.images D.images_since disk.old disk.new (IsClosed ps) }
-    ensures staged { OnOk result ((ps : List (List ℕ)) → AtGate (D.content disk.old) (D.images disk.old) gate ps (IsAtRest ps)
-        → (c : List ℕ) → D.images disk.new c → IsStaged ps payload.now c) }
-    ensures calls { D.calls_left disk.old ≤ D.calls_left disk.new + 4 }
-    ensures bytes { D.bytes_left disk.old ≤ D.bytes_left disk.new + length payload.now + 5 }
+    ensures staged { OnOk result ((ps : List (List ℕ)) (p : List ℕ) → bytes.now ≡ spelled p ++ 0 ∷ []
+        → AtGate (D.content disk.old) (D.images disk.old) gate ps (IsAtRest ps)
+        → (c : List ℕ) → D.images disk.new c → IsStaged ps p c) }
+    ensures calls { D.calls_left disk.old ≤ D.calls_left disk.new + 2 }
+    ensures bytes { D.bytes_left disk.old ≤ D.bytes_left disk.new + length bytes.now }
     ensures cause { HasCause (D.faults disk.old) (D.faults disk.new) result }
 {
-    let size = (payload.len() as u32).to_be_bytes();
-    disk.write_at(gate.saturating_add(1), &size)?;
-    disk.write_at(gate.saturating_add(5), payload)?;
-    disk.write_at(gate.saturating_add(payload.len() as u64 + 5), &[0])?;
+    disk.write_at(gate.saturating_add(1), bytes)?;
     disk.sync()?;
     Ok(())
 }
@@ -55,21 +67,22 @@ fn open_gate<D: Disk>(disk: &mut D, gate: u64) -> Result<(), Failed>
     Ok(())
 }
 
-/// Writes a record behind the closed gate that ends the file: first all but its gate, and then its gate.
-pub(crate) fn write_record<D: Disk>(disk: &mut D, gate: u64, payload: &[u8]) -> Result<(), Failed>
-    requires short { length payload.now ≤ 268435456 }
+/// Writes a record behind the closed gate that ends the file: first all but its gate, in one write, and then its gate.
+pub(crate) fn write_record<D: Disk>(disk: &mut D, gate: u64, bytes: &[u8]) -> Result<(), Failed>
     requires reach { ForSome (D.content disk.old) (λ file. gate < length file) }
     requires near { ForSome (D.content disk.old) (λ file. gate < 2 ^ 62) }
-    requires calls { 6 ≤ D.calls_left disk.old }
-    requires bytes { length payload.now + 6 ≤ D.bytes_left disk.old }
+    requires calls { 4 ≤ D.calls_left disk.old }
+    requires bytes { length bytes.now + 1 ≤ D.bytes_left disk.old }
     ensures told { is_some (D.content disk.new) ≡ is_some (D.content disk.old) }
-    ensures doubtful { (ps : List (List ℕ)) → AtGate (D.content disk.old) (D.images disk.old) gate ps (IsAtRest ps)
-        → LeavesOnly D.moment D.images D.images_since disk.old disk.new (IsDoubtful ps payload.now) }
-    ensures opened { OnOk result ((ps : List (List ℕ)) → AtGate (D.content disk.old) (D.images disk.old) gate ps (IsAtRest ps)
-        → (c : List ℕ) → D.images disk.new c → IsAtRest (ps ++ payload.now ∷ []) c) }
+    ensures doubtful { (ps : List (List ℕ)) (p : List ℕ) → bytes.now ≡ spelled p ++ 0 ∷ []
+        → AtGate (D.content disk.old) (D.images disk.old) gate ps (IsAtRest ps)
+        → LeavesOnly D.moment D.images D.images_since disk.old disk.new (IsDoubtful ps p) }
+    ensures opened { OnOk result ((ps : List (List ℕ)) (p : List ℕ) → bytes.now ≡ spelled p ++ 0 ∷ []
+        → AtGate (D.content disk.old) (D.images disk.old) gate ps (IsAtRest ps)
+        → (c : List ℕ) → D.images disk.new c → IsAtRest (ps ++ p ∷ []) c) }
     ensures cause { HasCause (D.faults disk.old) (D.faults disk.new) result }
 {
-    stage(disk, gate, payload)?;
+    stage(disk, gate, bytes)?;
     open_gate(disk, gate)?;
     Ok(())
 }

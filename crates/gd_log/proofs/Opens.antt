@@ -1,22 +1,24 @@
 -- What opening a file says of its meaning.
-use Rattle.std.proofs.Common.{◌≡◌, ℕ, List, [], Some, None, refl, sym, ◌∙◌, ap, subst}
+use Rattle.std.proofs.Common.{◌≡◌, inl, inr, ℕ, ◌≤◌, List, [], Some, None, refl, sym, ◌∙◌, ap, subst, arith}
+use Rattle.std.specs.Option.{is_some}
+use Rattle.gd_base.specs.Counts.{Rose}
 use Rattle.std.specs.Prelude.{Option, MatchOption}
 use Rattle.gd_prim.specs.declared.Batch.{Batch}
 use Rattle.gd_bytes.specs.Disk.{LeavesOnly, IsUntouched}
 use Rattle.gd_bytes.specs.File.{Meaning, Payloads, groups_of, meaning, StandsFor}
-use Rattle.gd_disk.specs.Runs.{leaves_weaken, leaves_untouched}
+use Rattle.gd_disk.specs.Runs.{leaves_start, leaves_join, leaves_weaken, leaves_untouched}
 use Rattle.gd_journal.specs.declared.fault.JournalFault.{JournalFault}
 use Rattle.gd_journal.specs.declared.fault.JournalFault.TheVariants.{DiskFault, NotStore, Damaged, Memory}
 use Rattle.gd_journal.specs.declared.payloads.Payloads.{Payloads as Found}
-use Rattle.gd_journal.specs.Causes.{MayRefuse}
+use Rattle.gd_journal.specs.Causes.{HasReason, MayRefuse}
 use Rattle.gd_journal.specs.Found.{seen, found_in}
 use Rattle.gd_journal.specs.Meaning as journal
 use Rattle.gd_journal.specs.State.{IsSettled}
 use Rattle.gd_log.specs.Groups.{AreGroups}
 use Rattle.gd_log.specs.State.{IsHeld}
-use Rattle.gd_log.specs.Opening.{MeansOneOf, Refuses, Stops, Loads, bytes_of}
+use Rattle.gd_log.specs.Opening.{MeansOneOf, Refuses, Stops, Loads, IsKept, bytes_of}
 use Rattle.gd_log.proofs.Meaning.{bytes, of_payloads, meaning_held, walk_all, located_bytes}
-use Rattle.gd_log.proofs.Held.{hold, settled_untouched, told_file}
+use Rattle.gd_log.proofs.Held.{hold}
 
 -- what stops the reading of payloads is a refusal of the file
 pub stops_refuses : (f : JournalFault) (file : List ℕ) (found : Found) → journal.held_by file ≡ Some (found_in found) → Stops f (groups_of [] (seen found.list) found.damaged) → Refuses f (meaning file)
@@ -50,45 +52,66 @@ loads_stands file bs (found, is, (none, are)) =
     let w = walk_all (seen found.list) bs are in
     (w.0, meaning_held file ∙ ap of_payloads is ∙ ap (λ (o : Option ℕ). groups_of [] (seen found.list) o) none ∙ w.1, w.2)
 
-pub loads_same : (f file : List ℕ) (bs : List Batch) → journal.held_by f ≡ journal.held_by file → Loads f bs → Loads file bs
-loads_same f file bs same (found, is, are) = (found, sym same ∙ is, are)
+-- ---- files that hold the same payloads
 
-pub refuses_same : (fault : JournalFault) (f file : List ℕ) → journal.held_by f ≡ journal.held_by file → Refuses fault (meaning f) → Refuses fault (meaning file)
-refuses_same fault f file same refused = subst (λ (m : Meaning). Refuses fault m) (meaning_held f ∙ ap of_payloads same ∙ sym (meaning_held file)) refused
+pub same_meaning : (c file : List ℕ) → journal.held_by c ≡ journal.held_by file → meaning c ≡ meaning file
+same_meaning c file same = meaning_held c ∙ ap of_payloads same ∙ sym (meaning_held file)
 
--- the same of images
-pub means_of : (images : List ℕ → Type 0) (file : List ℕ) → journal.MeansOneOf images file → MeansOneOf images file
-means_of images file (before, there, same) = (before, there, meaning_held file ∙ ap of_payloads same ∙ sym (meaning_held before))
+pub same_stands : (c file : List ℕ) (bs : List Batch) → journal.held_by c ≡ journal.held_by file → StandsFor file bs → StandsFor c bs
+same_stands c file bs same (gs, is, all) = (gs, same_meaning c file same ∙ is, all)
+
+-- ---- what a journal answers as it is finished
+
+pub reason_refuses : (f : JournalFault) (before now : ℕ) (m : Meaning) → HasReason before now f → Refuses f m
+reason_refuses DiskFault before now m reason = tt
+reason_refuses NotStore before now m reason = absurd reason
+reason_refuses (Damaged offset) before now m reason = absurd reason
+reason_refuses Memory before now m reason = tt
+
+pub reason_rose : (f : JournalFault) (before mid now : ℕ) → before ≤ mid → HasReason mid now f → f ≡ DiskFault → Rose before now
+reason_rose DiskFault before mid now le reason e = omega (arith, reason)
+reason_rose NotStore before mid now le reason e = absurd reason
+reason_rose (Damaged offset) before mid now le reason e = absurd reason
+reason_rose Memory before mid now le reason e = cc
 
 module _ {D : Type 0} (content : D → Option (List ℕ)) (moment : D → ℕ) (images : D → List ℕ → Type 0) (images_since : D → ℕ → List ℕ → Type 0) where
-  pub leaves_meaning : (old new : D) → LeavesOnly moment images images_since old new (journal.MeansOneOf (images old)) → LeavesOnly moment images images_since old new (MeansOneOf (images old))
-  leaves_meaning old new run = leaves_weaken moment images images_since old new (journal.MeansOneOf (images old)) (MeansOneOf (images old)) (means_of (images old)) run
+  -- nothing was changed
+  pub untouched_means : (old new : D) → ((c : List ℕ) → images_since old (moment old) c → images old c) → IsUntouched content moment images images_since old new → LeavesOnly moment images images_since old new (MeansOneOf (images old))
+  untouched_means old new only_now u =
+      let P : List ℕ → Type 0 = MeansOneOf (images old) in
+      leaves_untouched content moment images images_since old old new P (leaves_start moment images images_since old P only_now (λ c now. (c, now, refl))) u
 
-  pub leaves_loaded : (old mid new : D) → LeavesOnly moment images images_since old mid (journal.MeansOneOf (images old)) → IsUntouched content moment images images_since mid new → LeavesOnly moment images images_since old new (MeansOneOf (images old))
-  leaves_loaded old mid new run u = leaves_untouched content moment images images_since old mid new (MeansOneOf (images old)) (leaves_meaning old mid run) u
+  pub kept_untouched : (old new : D) (file : List ℕ) → content old ≡ Some file → IsUntouched content moment images images_since old new → IsKept content moment images images_since file old new
+  kept_untouched old new file is u = record {
+    told = ap is_some (u.same ∙ is);
+    read = λ c there. let same : c ≡ file = cc (u.same, is, there) in inl same;
+    stops = λ c now. (c, u.now c now, inl refl);
+    left = λ _. u;
+  }
 
-  -- what was opened
-  abbrev pub Opened : D → D → ℕ → List ℕ → Option ℕ → Type 0
-  Opened old mid gate file d = MatchOption d ((ps : List (List ℕ)) × journal.StandsFor ps file × IsSettled (content mid) (images mid) gate ps) (λ at. journal.IsDamagedAt at file × IsUntouched content moment images images_since old mid)
+  -- nothing was changed, and then the file was cut
+  pub finished_means : (old mid new : D) (file : List ℕ) → ((c : List ℕ) → images_since old (moment old) c → images old c) → images old file → IsUntouched content moment images images_since old mid
+      → LeavesOnly moment images images_since mid new (λ c. journal.held_by c ≡ journal.held_by file) → LeavesOnly moment images images_since old new (MeansOneOf (images old))
+  finished_means old mid new file only_now there u run =
+      let P : List ℕ → Type 0 = MeansOneOf (images old) in
+      leaves_join moment images images_since old mid new P (untouched_means old mid only_now u)
+      (leaves_weaken moment images images_since mid new (λ c. journal.held_by c ≡ journal.held_by file) P (λ c same. (file, there, same_meaning c file same)) run)
 
-  -- the file that was opened holds what it held
-  pub reopened : ((disk : D) (f : List ℕ) → content disk ≡ Some f → images disk f) → (old mid : D) (gate : ℕ) (file : List ℕ) (d : Option ℕ) → content old ≡ Some file → Opened old mid gate file d → (f : List ℕ) × (content mid ≡ Some f) × (journal.held_by f ≡ journal.held_by file)
-  reopened reads_one old mid gate file None is (ps, stands_for, settled) =
-      let t = told_file (content mid) settled.rests.told in
-      (t.0, t.1, settled.means t.0 (reads_one mid t.0 t.1) ∙ sym stands_for)
-  reopened reads_one old mid gate file (Some at) is (damage, u) = (file, u.same ∙ is, refl)
+  pub kept_finished : (old mid new : D) (file : List ℕ) (bs : List Batch) → ((f : List ℕ) → content new ≡ Some f → images new f) → images old file → content old ≡ Some file → IsUntouched content moment images images_since old mid → StandsFor file bs
+      → LeavesOnly moment images images_since mid new (λ c. journal.held_by c ≡ journal.held_by file) → is_some (content new) ≡ is_some (content mid) → IsKept content moment images images_since file old new
+  kept_finished old mid new file bs reads_one there is u st run same_told = record {
+    told = same_told ∙ ap is_some (u.same ∙ is);
+    read = λ c told. inr (bs, st, same_stands c file bs (run.now c (reads_one c told)) st);
+    stops = λ c now. (file, there, inr (bs, st, same_stands c file bs (run.now c now) st));
+    left = λ none. absurd (none bs st);
+  }
 
-  no_damage : (file : List ℕ) (bs : List Batch) (at : ℕ) → Loads file bs → journal.IsDamagedAt at file → ⊥
-  no_damage file bs at (found, is, (none, are)) (other, is', some) =
-      let same : found_in found ≡ other = cc in
-      let there : found.damaged ≡ other.damaged = ap (λ (p : Payloads). p.damaged) same in
-      cc (none, some, there)
-
-  -- a journal that was opened, and whose payloads were loaded, holds what was loaded
-  pub opened_held : (old mid new : D) (gate : ℕ) (file : List ℕ) (d : Option ℕ) (bs : List Batch) → Opened old mid gate file d → Loads file bs → IsUntouched content moment images images_since mid new → IsHeld (content new) (images new) gate bs
-  opened_held old mid new gate file None bs (ps, stands_for, settled) (found, is, (none, are)) u =
-      let same : found_in found ≡ journal.whole ps = cc in
-      let list : seen found.list ≡ journal.located 8 ps = ap (λ (p : Payloads). p.list) same in
-      let all : bytes_of found.list ≡ ps = ap bytes list ∙ located_bytes 8 ps in
-      hold (content new) (images new) gate ps bs (subst (λ (l : List (List ℕ)). AreGroups [] l bs) all are) (settled_untouched content moment images images_since mid new gate ps u settled)
-  opened_held old mid new gate file (Some at) bs (damage, u') loads u = absurd (no_damage file bs at loads damage)
+-- a journal that was finished, and whose payloads were loaded, holds what was loaded
+pub held_finished : (co : Option (List ℕ)) (im : List ℕ → Type 0) (gate : ℕ) (file : List ℕ) (d : Option ℕ) (bs : List Batch) (B : ℕ → Type 0) → d ≡ None
+    → MatchOption d ((ps : List (List ℕ)) × journal.StandsFor ps file × IsSettled co im gate ps) B → Loads file bs → IsHeld co im gate bs
+held_finished co im gate file None bs B none (ps, stands_for, settled) (found, is, (undamaged, are)) =
+    let same : found_in found ≡ journal.whole ps = cc in
+    let list : seen found.list ≡ journal.located 8 ps = ap (λ (p : Payloads). p.list) same in
+    let all : bytes_of found.list ≡ ps = ap bytes list ∙ located_bytes 8 ps in
+    hold co im gate ps bs (subst (λ (l : List (List ℕ)). AreGroups [] l bs) all are) settled
+held_finished co im gate file (Some at) bs B none m loads = cc

@@ -1,7 +1,9 @@
 -- What a file means, and what an answer of opening it says.
-use Rattle.std.specs.Prelude.{◌≡◌, ℕ, List, [], ◌++◌, map, Some, None, ⊤}
+use Rattle.std.specs.Prelude.{◌≡◌, ◌⊎◌, ℕ, List, [], ◌++◌, map, Option, Some, None, IsSome, ⊤}
+use Rattle.std.specs.Option.{ForSome}
+use Rattle.gd_bytes.specs.Disk.{IsUntouched}
 use Rattle.gd_prim.specs.declared.Batch.{Batch}
-use Rattle.gd_bytes.specs.File.{Meaning, not_store, damaged, meaning}
+use Rattle.gd_bytes.specs.File.{Meaning, not_store, damaged, meaning, StandsFor}
 use Rattle.gd_journal.specs.declared.fault.JournalFault.{JournalFault}
 use Rattle.gd_journal.specs.declared.fault.JournalFault.TheVariants.{DiskFault, NotStore, Damaged, Memory}
 use Rattle.gd_journal.specs.declared.payloads.Payload.{Payload}
@@ -43,3 +45,14 @@ AreAll found bs = (found.damaged ≡ None) × AreGroups [] (bytes_of found.list)
 -- All that a file holds are payloads that are groups of these batches.
 abbrev pub Loads : List ℕ → List Batch → Type 0
 Loads file bs = (found : Found) × (held_by file ≡ Some (found_in found)) × AreAll found bs
+
+-- The same bytes, or both stand for the same batches.
+abbrev pub IsReadSame : List ℕ → List ℕ → Type 0
+IsReadSame before after = (after ≡ before) ⊎ ((bs : List Batch) × StandsFor before bs × StandsFor after bs)
+
+-- What opening leaves of a file: a read gives the same bytes, or what stands for the same batches, and so does what a stop leaves. What stood for no batches is left alone.
+pub record IsKept {D : Type 0} (content : D → Option (List ℕ)) (moment : D → ℕ) (images : D → List ℕ → Type 0) (images_since : D → ℕ → List ℕ → Type 0) (file : List ℕ) (old new : D) : Type 0 where
+  pub told : IsSome (content new)
+  pub read : ForSome (content new) (λ later. IsReadSame file later)
+  pub stops : (c : List ℕ) → images new c → (d : List ℕ) × images old d × IsReadSame d c
+  pub left : ((bs : List Batch) → StandsFor file bs → ⊥) → IsUntouched content moment images images_since old new

@@ -83,6 +83,7 @@ impl<D: Disk> Log<D> {
         ensures moments { (bs : List Batch)
             → HoldsBefore (D.content self.old.disk) (D.images self.old.disk) self.old.gate bs batches.now
             → LeavesOnly D.moment D.images D.images_since self.old.disk self.new.disk (MayStandFor bs (batches.now ∷ [])) }
+        ensures told { is_some (D.content self.new.disk) ≡ is_some (D.content self.old.disk) }
         ensures memory { IsErrOf result JournalFault.Memory → (self.new.gate ≡ self.old.gate)
             × IsUntouched D.content D.moment D.images D.images_since self.old.disk self.new.disk }
         ensures kept { IsErrOf result JournalFault.Memory → (bs : List Batch)
@@ -118,6 +119,7 @@ impl<D: Disk> Log<D> {
         ensures moments { (next : ℕ) (bs : List Batch) (more : List Batch) → self.old.doubt ≡ Some next
             → IsUnsure (D.content self.old.disk) (D.images self.old.disk) self.old.gate next bs more
             → LeavesOnly D.moment D.images D.images_since self.old.disk self.new.disk (MayStandFor bs (more ∷ [])) }
+        ensures told { is_some (D.content self.new.disk) ≡ is_some (D.content self.old.disk) }
         ensures memory { IsErrOf result JournalFault.Memory
             → IsUntouched D.content D.moment D.images D.images_since self.old.disk self.new.disk }
         ensures later { D.faults self.old.disk ≤ D.faults self.new.disk }

@@ -14,25 +14,6 @@ returns-in_err-write_at-clause-closed g c = λ ps s.
     let begun = leaves_start d.moment d.images d.images_since was (IsClosed ps) (g.met.D.Disk.only_now was) s.left in
     closed_write d.moment d.images d.images_since was was c.write_at.new.self ps _ _ begun (omega (arith, near, s.place)) c.write_at.ensures.images c.write_at.ensures.time
 
-pub returns-in_err-write_at-2-clause-closed : goal.returns-in_err-write_at-2-clause-closed
-returns-in_err-write_at-2-clause-closed g c = λ ps s.
-    let d = g.D.Disk in
-    let was = c.args.disk.now in
-    let near = let f = content_of (d.content was) s.told in c.requires.near f.0 f.1 in
-    let begun = leaves_start d.moment d.images d.images_since was (IsClosed ps) (g.met.D.Disk.only_now was) s.left in
-    let one = closed_write d.moment d.images d.images_since was was c.write_at.new.self ps _ _ begun (omega (arith, near, s.place)) c.write_at.ensures.images c.write_at.ensures.time in
-    closed_write d.moment d.images d.images_since was c.write_at.new.self c.write_at-2.new.self ps _ _ one (omega (arith, near, s.place)) c.write_at-2.ensures.images c.write_at-2.ensures.time
-
-pub returns-in_err-write_at-3-clause-closed : goal.returns-in_err-write_at-3-clause-closed
-returns-in_err-write_at-3-clause-closed g c = λ ps s.
-    let d = g.D.Disk in
-    let was = c.args.disk.now in
-    let near = let f = content_of (d.content was) s.told in c.requires.near f.0 f.1 in
-    let begun = leaves_start d.moment d.images d.images_since was (IsClosed ps) (g.met.D.Disk.only_now was) s.left in
-    let one = closed_write d.moment d.images d.images_since was was c.write_at.new.self ps _ _ begun (omega (arith, near, s.place)) c.write_at.ensures.images c.write_at.ensures.time in
-    let two = closed_write d.moment d.images d.images_since was c.write_at.new.self c.write_at-2.new.self ps _ _ one (omega (arith, near, s.place)) c.write_at-2.ensures.images c.write_at-2.ensures.time in
-    closed_write d.moment d.images d.images_since was c.write_at-2.new.self c.write_at-3.new.self ps _ _ two (omega (arith, near, s.place)) c.write_at-3.ensures.images c.write_at-3.ensures.time
-
 pub returns-in_err-sync-clause-closed : goal.returns-in_err-sync-clause-closed
 returns-in_err-sync-clause-closed g c = λ ps s.
     let d = g.D.Disk in
@@ -40,9 +21,7 @@ returns-in_err-sync-clause-closed g c = λ ps s.
     let near = let f = content_of (d.content was) s.told in c.requires.near f.0 f.1 in
     let begun = leaves_start d.moment d.images d.images_since was (IsClosed ps) (g.met.D.Disk.only_now was) s.left in
     let one = closed_write d.moment d.images d.images_since was was c.write_at.new.self ps _ _ begun (omega (arith, near, s.place)) c.write_at.ensures.images c.write_at.ensures.time in
-    let two = closed_write d.moment d.images d.images_since was c.write_at.new.self c.write_at-2.new.self ps _ _ one (omega (arith, near, s.place)) c.write_at-2.ensures.images c.write_at-2.ensures.time in
-    let three = closed_write d.moment d.images d.images_since was c.write_at-2.new.self c.write_at-3.new.self ps _ _ two (omega (arith, near, s.place)) c.write_at-3.ensures.images c.write_at-3.ensures.time in
-    leaves_stays d.moment d.images d.images_since was c.write_at-3.new.self c.sync.new.self (IsClosed ps) three c.sync.ensures.stays c.sync.ensures.time
+    leaves_stays d.moment d.images d.images_since was c.write_at.new.self c.sync.new.self (IsClosed ps) one c.sync.ensures.stays c.sync.ensures.time
 
 pub returns-clause-closed : goal.returns-clause-closed
 returns-clause-closed g c = λ ps s.
@@ -51,19 +30,14 @@ returns-clause-closed g c = λ ps s.
     let near = let f = content_of (d.content was) s.told in c.requires.near f.0 f.1 in
     let begun = leaves_start d.moment d.images d.images_since was (IsClosed ps) (g.met.D.Disk.only_now was) s.left in
     let one = closed_write d.moment d.images d.images_since was was c.write_at.new.self ps _ _ begun (omega (arith, near, s.place)) c.write_at.ensures.images c.write_at.ensures.time in
-    let two = closed_write d.moment d.images d.images_since was c.write_at.new.self c.write_at-2.new.self ps _ _ one (omega (arith, near, s.place)) c.write_at-2.ensures.images c.write_at-2.ensures.time in
-    let three = closed_write d.moment d.images d.images_since was c.write_at-2.new.self c.write_at-3.new.self ps _ _ two (omega (arith, near, s.place)) c.write_at-3.ensures.images c.write_at-3.ensures.time in
-    leaves_stays d.moment d.images d.images_since was c.write_at-3.new.self c.sync.new.self (IsClosed ps) three c.sync.ensures.stays c.sync.ensures.time
+    leaves_stays d.moment d.images d.images_since was c.write_at.new.self c.sync.new.self (IsClosed ps) one c.sync.ensures.stays c.sync.ensures.time
 
 pub returns-clause-staged : goal.returns-clause-staged
-returns-clause-staged g c = λ ps s f now.
+returns-clause-staged g c = λ ps p spells s f now.
     let d = g.D.Disk in
     let was = c.args.disk.now in
     let b0 = content_of (d.content was) s.told in
     let near = c.requires.near b0.0 b0.1 in
     let b1 = c.in_ok-write_at.ensures.content.forth b0.0 b0.1 in
-    let b2 = c.in_ok-write_at-2.ensures.content.forth b1.0 b1.1 in
-    let b3 = c.in_ok-write_at-3.ensures.content.forth b2.0 b2.1 in
-    let last = c.in_ok-sync.ensures.durable b3.0 (c.sync.ensures.stays.content ∙ b3.1) f now in
-    staged ps c.args.gate c.saturating_add.result c.saturating_add-2.result c.saturating_add-3.result c.to_be_bytes-size.result c.args.payload.now b0.0 b1.0 b2.0 f s.place (omega (arith, near)) (omega (arith, near)) (omega (arith, near)) c.to_be_bytes-size.ensures
-    (s.left b0.0 (g.met.D.Disk.reads_one was b0.0 b0.1)) b1.2 b2.2 (last ∙ b3.2)
+    let last = c.in_ok-sync.ensures.durable b1.0 (c.sync.ensures.stays.content ∙ b1.1) f now in
+    staged ps c.args.gate c.saturating_add.result c.args.bytes.now p b0.0 f s.place (omega (arith, near)) spells (s.left b0.0 (g.met.D.Disk.reads_one was b0.0 b0.1)) (last ∙ b1.2)
