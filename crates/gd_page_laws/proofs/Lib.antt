@@ -1,0 +1,5 @@
+pub mod Sorts
+pub mod TreeRows
+pub mod Printed
+pub mod Pages
+pub mod Laws

@@ -1,0 +1,10 @@
+pub mod Objects
+pub mod Links
+pub mod Start
+pub mod Orders
+pub mod Rising
+pub mod Replies
+pub mod Begun
+pub mod Settled
+pub mod Going
+pub mod Laws
