@@ -158,6 +158,10 @@ advances_not a n = record { bytes = []; consumed = Consumes-nil a; counted = ome
 pub advances_on : (a b c : Option (List ℕ)) (k m n : ℕ) → Advances a b k m → Advances b c m n → Advances a c k n
 advances_on a b c k m n p q = record { bytes = p.bytes ++ q.bytes; consumed = Consumes-trans a b c p.bytes q.bytes p.consumed q.consumed; counted = omega (arith, p.counted, q.counted, length-append p.bytes q.bytes) }
 
+-- what was taken since an earlier moment
+pub since : (b c : Option (List ℕ)) (m n : ℕ) → Advances b c m n → (first : Option (List ℕ)) (before : ℕ) → Advances first b before m → Advances first c before n
+since b c m n more first before taken = advances_on first b c before m n taken more
+
 pub pushed : (a b c : Option (List ℕ)) (lines : List RoundLine) (piece : Piece) (blank : Bool) → Known a b (Gathering lines) → Known b c (TakesPiece piece) → length lines < 256 → Tells piece.line blank → blank ≡ false → piece.by_newline ≡ true
     → Known a c (Gathering (lines ++ piece.line ∷ []))
 pushed a b c lines piece blank g taken few tells some ends =

@@ -1,5 +1,5 @@
 //! Rounds of the input.
-ghost use Rattle.std.specs.Prelude.{◌≡◌, ◌<◌, ◌≤◌, ◌^◌, [], IfOk, true, false, vec_len};
+ghost use Rattle.std.specs.Prelude.{◌≡◌, ◌<◌, ◌≤◌, ◌^◌, ℕ, List, Option, [], IfOk, true, false, vec_len};
 ghost use Rattle.std.specs.Io.KnownBytes.{prepend_known, IsAtEnd};
 ghost use Rattle.std.specs.List.{All};
 ghost use Rattle.gd_base.specs.Counts.{Rose};
@@ -43,6 +43,10 @@ impl Reader {
         // At any outcome bytes are only taken off the front of what is left, and are counted.
         ensures advances { Advances (prepend_known self.old.bytes (S.left source.old))
             (prepend_known self.new.bytes (S.left source.new)) self.old.consumed self.new.consumed }
+        // So it is with all that was taken since an earlier moment.
+        ensures since { (first : Option (List ℕ)) (before : ℕ)
+            → Advances first (prepend_known self.old.bytes (S.left source.old)) before self.old.consumed
+            → Advances first (prepend_known self.new.bytes (S.left source.new)) before self.new.consumed }
         ensures bounded { IsBounded self.new }
 
         // Each fault has its cause.

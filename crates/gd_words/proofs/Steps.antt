@@ -10,7 +10,7 @@ use Rattle.clap.specs.Lexer.{long_of, short_of}
 use Rattle.clap.proofs.OnLiterals.{clap_on_literals}
 use Rattle.clap.specs.declared.parser.matches.ValueSource.TheVariants.{CommandLine}
 use Rattle.gd_words.specs.Options.{Setting, is_name}
-use Rattle.gd_words.specs.Parser.{parser, long_rule}
+use Rattle.gd_words.specs.Parser.{parser, parser_options, long_rule}
 use Rattle.gd_words.proofs.Spelled.{same_text}
 
 abbrev pub top : Shape
@@ -127,11 +127,11 @@ pub use_once : (name v : Text) (rows : List Row) → has_row name rows ≡ false
 use_once name v rows none = rw none refl
 
 -- each option has its steps
-pub steps : (name : Text) → is_name name ≡ true → Steps name
-steps name known = elim (or_cases (bytes_eq name (codes "file")) (bytes_eq name (codes "workers") || bytes_eq name (codes "budget")) known) [
+pub steps : (name : Text) → is_name parser_options name ≡ true → Steps name
+steps name known = elim (or_cases (bytes_eq name (codes "file")) (is_name (codes "workers" ∷ codes "budget" ∷ []) name) known) [
   | inl e ↦ subst Steps (sym (same_text _ _ e)) file
-  | inr others ↦ elim (or_cases (bytes_eq name (codes "workers")) (bytes_eq name (codes "budget")) others) [
+  | inr others ↦ elim (or_cases (bytes_eq name (codes "workers")) (is_name (codes "budget" ∷ []) name) others) [
     | inl e ↦ subst Steps (sym (same_text _ _ e)) workers
-    | inr e ↦ subst Steps (sym (same_text _ _ e)) budget
+    | inr last ↦ elim (or_cases (bytes_eq name (codes "budget")) false last) [ inl e ↦ subst Steps (sym (same_text _ _ e)) budget | inr never ↦ cc ]
   ]
 ]

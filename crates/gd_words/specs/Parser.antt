@@ -1,6 +1,7 @@
 -- The parser of the options, as clap's model has it.
-use Rattle.std.specs.Prelude.{[], Some, true, codes}
+use Rattle.std.specs.Prelude.{[], ◌∷◌, Some, true, codes}
 use Rattle.clap.specs.Words.{App, Rule, Text, new_app, new_rule, with_rule}
+use Rattle.gd_words.specs.Options.{Names}
 
 -- an option with a long name, which is its id too
 abbrev pub long_rule : Text → Rule
@@ -13,6 +14,10 @@ bare = record {
   subs = [];
 }
 
--- `serve` with its three options
+-- the options that the parser knows: those of all verbs
+abbrev pub parser_options : Names
+parser_options = codes "file" ∷ codes "workers" ∷ codes "budget" ∷ []
+
+-- the parser of the options, whatever the verb
 abbrev pub parser : App
 parser = with_rule (with_rule (with_rule bare (long_rule (codes "file"))) (long_rule (codes "workers"))) (long_rule (codes "budget"))

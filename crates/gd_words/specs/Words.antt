@@ -7,7 +7,7 @@ use Rattle.std.specs.Str.Parse.{digits_value}
 use Rattle.gd_words.specs.declared.verbs.Command.{Command}
 use Rattle.gd_words.specs.declared.verbs.Command.TheVariants as command
 use Rattle.gd_words.specs.declared.verbs.Serve.{Serve}
-use Rattle.gd_words.specs.Options.{Setting, value_of, options_of}
+use Rattle.gd_words.specs.Options.{Names, Setting, value_of, options_of}
 
 -- 1 to 10 digits, without a sign
 abbrev pub is_number : List ℕ → Bool
@@ -22,6 +22,10 @@ number_of low high text = if is_number text && (nat_le low (digits_value 10 text
 abbrev pub number_or : ℕ → ℕ → ℕ → Option (List ℕ) → Option ℕ
 number_or default low high value = option_map_or (number_of low high) value (Some default)
 
+-- the options of `serve`
+abbrev pub serve_options : Names
+serve_options = codes "file" ∷ codes "workers" ∷ codes "budget" ∷ []
+
 -- `serve` with these settings: 1 to 16 workers, else 4, and a budget of 1 to 1,000,000, else 10,000
 abbrev pub serve_of : List Setting → Option Serve
 serve_of given = option_and_then (λ workers. option_map (λ budget. record {
@@ -34,4 +38,4 @@ serve_of given = option_and_then (λ workers. option_map (λ budget. record {
 unfoldable pub command_of : List (List ℕ) → Option Command
 command_of [] = None
 command_of (verb ∷ words) = if bytes_eq verb (codes "serve")
-    then option_map (λ serve. command.Serve serve) (option_and_then serve_of (options_of words)) else None
+    then option_map (λ serve. command.Serve serve) (option_and_then serve_of (options_of serve_options words)) else None

@@ -1,9 +1,11 @@
 //! The values of the options.
-ghost use Rattle.std.specs.Prelude.{◌≡◌, List, ℕ, Some, map, option_map, codes, IfOk, IsSome};
+ghost use Rattle.std.specs.Prelude.{◌≡◌, List, ℕ, Some, map, option_map, codes, IfOk, IfSome, IsTrue, is_some};
+ghost use Rattle.std.specs.List.{list_all};
 ghost use Rattle.clap.specs.Words.{app_of, with_rule};
-ghost use Rattle.gd_words.specs.Options.{Setting, options_of, value_of};
-ghost use Rattle.gd_words.specs.Parser.{long_rule, parser as parser_app};
+ghost use Rattle.gd_words.specs.Options.{Setting, is_name, options_of, value_of};
+ghost use Rattle.gd_words.specs.Parser.{long_rule, parser_options, parser as parser_app};
 
+use crate::grammar::are_options;
 use clap::error::ErrorKind;
 use clap::{Arg, Command};
 use gd_base::memory::Memory;
@@ -28,7 +30,7 @@ fn with_option<'a>(
     parser.arg(Arg::new(alloc, name).long(name))
 }
 
-/// The parser of the options of `serve`.
+/// The parser of the options of all verbs.
 fn parser<'a>(alloc: Global) -> Result<Command<'a>, AllocError>
     ensures { IfOk result (λ c. app_of c ≡ parser_app) }
 {
@@ -41,19 +43,30 @@ fn parser<'a>(alloc: Global) -> Result<Command<'a>, AllocError>
     with_option(alloc, with_workers, "budget")
 }
 
-/// The values of words that spell options.
-pub fn values_of<'a>(alloc: Global, words: &'a [&'a str]) -> Result<Values<'a>, Memory>
-    requires { IsSome (options_of (map (λ w. w.now) words.now)) }
-    ensures { IfOk result (λ v. ((given : List Setting) → options_of (map (λ w. w.now) words.entry.now) ≡ Some given
+/// The values of the options with these names that the words spell, each at most once. The names are among those that
+/// the parser knows. None: the words spell no such options.
+pub fn values_of<'a>(
+    alloc: Global,
+    names: &[&str],
+    words: &'a [&'a str],
+) -> Result<Option<Values<'a>>, Memory>
+    requires { IsTrue (list_all (is_name parser_options) (map (λ n. n.now) names.now)) }
+    ensures spelled { IfOk result (λ values. is_some values
+        ≡ is_some (options_of (map (λ n. n.now) names.now) (map (λ w. w.now) words.entry.now))) }
+    ensures values { IfOk result (λ values. IfSome values (λ v. (given : List Setting)
+        → options_of (map (λ n. n.now) names.now) (map (λ w. w.now) words.entry.now) ≡ Some given
         → (option_map (λ t. t.now) v.file ≡ value_of (codes "file") given) × (option_map (λ t. t.now) v.workers ≡ value_of (codes "workers") given)
         × (option_map (λ t. t.now) v.budget ≡ value_of (codes "budget") given))) }
 {
+    if !are_options(names, words) {
+        return Ok(None);
+    }
     match parser(alloc)?.try_get_matches_from(words) {
-        Ok(matches) => Ok(Values {
+        Ok(matches) => Ok(Some(Values {
             file: matches.get_str("file"),
             workers: matches.get_str("workers"),
             budget: matches.get_str("budget"),
-        }),
+        })),
         Err(error) => match error.kind() {
             ErrorKind::OutOfMemory => Err(Memory),
             _ => unreachable!(),

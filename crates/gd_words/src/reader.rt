@@ -1,9 +1,8 @@
 //! From words to a command.
 ghost use Rattle.std.specs.Prelude.{◌≡◌, ◌≤◌, ℕ, List, map, option_and_then, length, IfOk, IfSome, option_map, All};
 ghost use Rattle.gd_words.specs.Options.{options_of};
-ghost use Rattle.gd_words.specs.Words.{serve_of, command_of};
+ghost use Rattle.gd_words.specs.Words.{serve_options, serve_of, command_of};
 
-use crate::grammar::are_options;
 use crate::number::number_or;
 use crate::parsing::values_of;
 use crate::verbs::{Command, Serve};
@@ -43,25 +42,32 @@ pub fn command(alloc: Global, words: &[Text]) -> Result<Option<Command>, Memory>
     let Some((verb, options)) = words.split_first() else {
         return Ok(None);
     };
-    if verb.as_str() != "serve" {
-        return Ok(None);
-    }
     let options = strings(alloc, options)?;
-    match serve(alloc, &options)? {
-        Some(serve) => Ok(Some(Command::Serve(serve))),
-        None => Ok(None),
+    match verb.as_str() {
+        "serve" => match serve(alloc, &options)? {
+            Some(serve) => Ok(Some(Command::Serve(serve))),
+            None => Ok(None),
+        },
+        _ => Ok(None),
     }
+}
+
+/// The options of `serve`.
+fn serve_names() -> [&'static str; 3]
+    ensures { map (λ n. n.now) result ≡ serve_options }
+{
+    ["file", "workers", "budget"]
 }
 
 /// `serve` with the options that the words spell.
 fn serve(alloc: Global, words: &[&str]) -> Result<Option<Serve>, Memory>
     requires { All (λ w. length w.now ≤ 4096) words.now }
-    ensures { IfOk result (λ serve. serve ≡ option_and_then serve_of (options_of (map (λ w. w.now) words.now))) }
+    ensures { IfOk result (λ serve. serve ≡ option_and_then serve_of (options_of serve_options (map (λ w. w.now) words.now))) }
 {
-    if !are_options(words) {
+    let names = serve_names();
+    let Some(values) = values_of(alloc, &names, words)? else {
         return Ok(None);
-    }
-    let values = values_of(alloc, words)?;
+    };
     let Some(workers) = number_or(WORKERS, 1, MOST_WORKERS, values.workers) else {
         return Ok(None);
     };

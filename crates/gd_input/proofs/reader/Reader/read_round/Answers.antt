@@ -1,5 +1,5 @@
 use Rattle.std.proofs.Common.{◌≡◌, ◌<◌, length, refl, arith}
-use Rattle.gd_input.proofs.Gathering.{advances_on, blank_ends, last, pushed, full, one_more_short}
+use Rattle.gd_input.proofs.Gathering.{advances_on, since, blank_ends, last, pushed, full, one_more_short}
 use Rattle.gd_input.proofs.reader.Reader.read_round.Goals as goal
 
 pub returns-in_err-line-clause-advances : goal.returns-in_err-line-clause-advances
@@ -13,6 +13,21 @@ returns-in_err-push-clause-advances g c = advances_on _ _ _ _ _ _ c.loop-self.in
 
 pub returns-then-not-by_newline-clause-advances : goal.returns-then-not-by_newline-clause-advances
 returns-then-not-by_newline-clause-advances g c = advances_on _ _ _ _ _ _ c.loop-self.invariant.advances c.read_line.ensures.advances
+
+pub returns-in_err-line-clause-since : goal.returns-in_err-line-clause-since
+returns-in_err-line-clause-since g c = since _ _ _ _ (advances_on _ _ _ _ _ _ c.loop-self.invariant.advances c.read_line.ensures.advances)
+
+pub returns-then-is_blank-clause-since : goal.returns-then-is_blank-clause-since
+returns-then-is_blank-clause-since g c = since _ _ _ _ (advances_on _ _ _ _ _ _ c.loop-self.invariant.advances c.read_line.ensures.advances)
+
+pub returns-in_err-push-clause-since : goal.returns-in_err-push-clause-since
+returns-in_err-push-clause-since g c = since _ _ _ _ (advances_on _ _ _ _ _ _ c.loop-self.invariant.advances c.read_line.ensures.advances)
+
+pub returns-then-not-by_newline-clause-since : goal.returns-then-not-by_newline-clause-since
+returns-then-not-by_newline-clause-since g c = since _ _ _ _ (advances_on _ _ _ _ _ _ c.loop-self.invariant.advances c.read_line.ensures.advances)
+
+pub returns-clause-since : goal.returns-clause-since
+returns-clause-since g c = since _ _ _ _ c.loop-self.invariant.advances
 
 pub returns-then-is_blank-clause-round : goal.returns-then-is_blank-clause-round
 returns-then-is_blank-clause-round g c =
