@@ -1,20 +1,14 @@
 -- When a list says of the property `name` what the built-in list says.
-use Rattle.std.proofs.Common.{◌≡◌, ℕ, List, [], Bool, true, false, ◌&&◌, Option, Some, None, refl, ap, ◌∙◌, arith, codes}
+use Rattle.std.proofs.Common.{◌≡◌, ℕ, List, Bool, true, false, ◌&&◌, Option, Some, None, refl, ap, ◌∙◌, arith, codes}
 use Rattle.std.specs.Prelude.{nat_eq, not, ◌==◌}
 use Rattle.std.specs.Option.{option_eq}
 use Rattle.std.proofs.lemmas.Bool.{and_parts}
 use Rattle.std.proofs.lemmas.Bool.Decides.{nat_tests}
 use Rattle.gd_prim.specs.declared.Primitive.{Primitive}
-use Rattle.gd_prim.specs.Builtin.{builtin, name_place, text_place}
-use Rattle.gd_prim.specs.History.{prims_of}
+use Rattle.gd_prim.specs.Builtin.{name_place, text_place}
 use Rattle.gd_defs.specs.Property.{Property, property_object, stated}
 use Rattle.gd_defs.specs.Asked.{name_property}
 use Rattle.gd_runs.specs.Built.{SaysName, says_name, is_name_property}
-
--- the store without a request says it
-pub says_at_first : SaysName (prims_of [])
-unfolding prims_of
-says_at_first = record { found = refl; says = refl }
 
 same_number : (n m : ℕ) → nat_eq n m ≡ true → n ≡ m
 same_number n m same = grind (arith, nat_tests)

@@ -63,6 +63,3 @@ pub fn evaluate(
     let answer = create::answer(alloc, request.asks_guid, object, name)?;
     Ok((batch, answer))
 }
-
-#[cfg(test)]
-mod tests;

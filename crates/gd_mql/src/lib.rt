@@ -6,5 +6,3 @@ pub mod forms;
 pub mod ids;
 pub mod line;
 pub mod parts;
-#[cfg(test)]
-mod tests;

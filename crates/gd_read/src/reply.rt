@@ -161,6 +161,3 @@ pub fn reply<L>(
     let target = look_up(alloc, view, &request.id, steps)?;
     target_line(alloc, view, line, request, target, steps)
 }
-
-#[cfg(test)]
-mod tests;

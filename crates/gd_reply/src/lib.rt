@@ -3,4 +3,5 @@
 
 pub mod guid;
 pub mod lines;
+pub mod members;
 pub mod refusal;

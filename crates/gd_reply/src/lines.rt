@@ -1,41 +1,39 @@
 //! Reply lines: one line of JSON, whose newline is not part of it.
-ghost use Rattle.std.specs.Prelude.{◌≡◌, ◌<◌, ◌^◌, ◌∷◌, ◌++◌, [], IfOk};
+ghost use Rattle.std.specs.Prelude.{◌≡◌, ◌<◌, ◌^◌, ◌∷◌, ◌++◌, [], IfOk, OnOk, codes, map};
 ghost use Rattle.gd_tree.specs.Json as tree;
-ghost use Rattle.gd_json.specs.View.{view};
+ghost use Rattle.gd_json.specs.View.{view, member_view, members_view};
 ghost use Rattle.gd_defs.specs.Lines as printed;
 ghost use Rattle.gd_defs.specs.Reply as reply;
 ghost use Rattle.gd_runs.specs.Explained as explained;
 ghost use Rattle.gd_reply.specs.Refusals.{refusal_of, CountsFit};
 
+use crate::members::{Members, object, push_count, push_member, push_text};
 use crate::refusal::{Refusal, error_name, info};
 use gd_base::memory::Memory;
 use gd_json::text::json_text;
-use gd_json::value::{Json, JsonText};
+use gd_json::value::Json;
 use std::alloc::Global;
 
 /// The greatest number of bytes of a reply line.
 const REPLY_LIMIT: usize = 1_048_576;
 
-/// A text as JSON.
-pub fn text(alloc: Global, text: &str) -> Result<Json, Memory>
-    ensures { IfOk result (λ json. view json ≡ tree.text text.now) }
+/// The printed text of an object of these members.
+fn object_line(alloc: Global, members: Members) -> Result<Vec<u8>, Memory>
+    ensures { IfOk result (λ bytes. bytes.items
+        ≡ tree.compact (tree.object (members_view members.items))) }
 {
-    Ok(Json::Text(JsonText::from_str(alloc, text)?))
+    json_text(alloc, &object(members))
 }
 
-/// A number as JSON.
-pub fn count(n: u64) -> Json
-    requires { n < 2 ^ 63 }
-    ensures { view result ≡ printed.count_json n }
+/// The members with which a line of this code and dateline begins.
+fn begun(alloc: Global, code: &str, dateline: u32) -> Result<Members, Memory>
+    ensures { IfOk result (λ members. map member_view members.items
+        ≡ (codes "code", tree.text code.now) ∷ (codes "dateline", printed.count_json dateline) ∷ []) }
 {
-    Json::Int(n as i64)
-}
-
-/// A member of an object.
-pub fn member(alloc: Global, name: &str, value: Json) -> Result<(JsonText, Json), Memory>
-    ensures { IfOk result (λ member. (member.0 ≡ name.now) × (member.1 ≡ value)) }
-{
-    Ok((JsonText::from_str(alloc, name)?, value))
+    let mut members = Vec::new(alloc);
+    push_text(alloc, &mut members, "code", code)?;
+    push_count(alloc, &mut members, "dateline", u64::from(dateline))?;
+    Ok(members)
 }
 
 /// The reply line of an answer: its dateline, the number of its line and the result.
@@ -43,14 +41,30 @@ pub fn ok_line(alloc: Global, dateline: u32, line: u64, outcome: Json) -> Result
     requires { line < 2 ^ 63 }
     ensures { IfOk result (λ bytes. bytes.items ≡ printed.ok_line dateline line (view outcome)) }
 {
-    let code = member(alloc, "code", text(alloc, "/api/status/ok")?)?;
-    let dateline = member(alloc, "dateline", count(u64::from(dateline)))?;
-    let line = member(alloc, "line", count(line))?;
-    let outcome = member(alloc, "result", outcome)?;
-    json_text(
-        alloc,
-        &Json::Object(vec![in alloc; code, dateline, line, outcome]?),
-    )
+    let mut members = begun(alloc, "/api/status/ok", dateline)?;
+    push_count(alloc, &mut members, "line", line)?;
+    push_member(alloc, &mut members, "result", outcome)?;
+    object_line(alloc, members)
+}
+
+/// Appends what each refusal tells: its name, its information and the number of its line.
+fn push_refusal(
+    alloc: Global,
+    members: &mut Members,
+    line: u64,
+    refusal: &Refusal,
+) -> Result<(), Memory>
+    requires line { line < 2 ^ 63 }
+    requires counts { CountsFit refusal.now }
+    ensures { OnOk result (map member_view members.new.items ≡ map member_view members.old.items
+        ++ (codes "error", tree.text (refusal_of refusal.now).error)
+        ∷ (codes "info", tree.object (refusal_of refusal.now).info)
+        ∷ (codes "line", printed.count_json line) ∷ []) }
+{
+    push_text(alloc, members, "error", error_name(refusal))?;
+    push_member(alloc, members, "info", info(alloc, refusal)?)?;
+    push_count(alloc, members, "line", line)?;
+    Ok(())
 }
 
 /// The reply line of a refusal at a dateline.
@@ -65,15 +79,9 @@ pub fn err_line(
     ensures { IfOk result (λ bytes. bytes.items
         ≡ printed.err_line dateline line (refusal_of refusal.now)) }
 {
-    let code = member(alloc, "code", text(alloc, "/api/status/error")?)?;
-    let dateline = member(alloc, "dateline", count(u64::from(dateline)))?;
-    let error = member(alloc, "error", text(alloc, error_name(refusal))?)?;
-    let info = member(alloc, "info", info(alloc, refusal)?)?;
-    let line = member(alloc, "line", count(line))?;
-    json_text(
-        alloc,
-        &Json::Object(vec![in alloc; code, dateline, error, info, line]?),
-    )
+    let mut members = begun(alloc, "/api/status/error", dateline)?;
+    push_refusal(alloc, &mut members, line, refusal)?;
+    object_line(alloc, members)
 }
 
 /// The reply line of a refusal that names no dateline.
@@ -83,14 +91,10 @@ pub fn err_line_plain(alloc: Global, line: u64, refusal: &Refusal) -> Result<Vec
     ensures { IfOk result (λ bytes. bytes.items
         ≡ printed.err_line_plain line (refusal_of refusal.now)) }
 {
-    let code = member(alloc, "code", text(alloc, "/api/status/error")?)?;
-    let error = member(alloc, "error", text(alloc, error_name(refusal))?)?;
-    let info = member(alloc, "info", info(alloc, refusal)?)?;
-    let line = member(alloc, "line", count(line))?;
-    json_text(
-        alloc,
-        &Json::Object(vec![in alloc; code, error, info, line]?),
-    )
+    let mut members = Vec::new(alloc);
+    push_text(alloc, &mut members, "code", "/api/status/error")?;
+    push_refusal(alloc, &mut members, line, refusal)?;
+    object_line(alloc, members)
 }
 
 /// A reply line of at most 1,048,576 bytes as it is; in place of a longer one the refusal `ReplyTooLarge`, which tells how
@@ -118,6 +122,3 @@ pub fn memory_line(alloc: Global, line: u64) -> Result<Vec<u8>, Memory>
 {
     err_line_plain(alloc, line, &Refusal::Memory)
 }
-
-#[cfg(test)]
-mod tests;

@@ -1,6 +1,6 @@
 //! Why a line is refused.
 ghost use Rattle.std.specs.Prelude.{◌≡◌, ◌<◌, ◌^◌, ◌∷◌, [], IfOk, codes, map};
-ghost use Rattle.gd_tree.specs.Json.{object, list, text as text_of};
+ghost use Rattle.gd_tree.specs.Json.{object as object_tree, list as list_of, text as text_of};
 ghost use Rattle.gd_json.specs.View.{view};
 ghost use Rattle.gd_defs.specs.Lines.{object_of, count_json, texts};
 ghost use Rattle.gd_defs.specs.Reply.{code_text};
@@ -8,7 +8,7 @@ ghost use Rattle.gd_runs.specs.Request.{what_text};
 ghost use Rattle.gd_mql.specs.Line.{code_view};
 ghost use Rattle.gd_reply.specs.Refusals.{refusal_of, CountsFit};
 
-use crate::lines::{count, member, text};
+use crate::members::{list, object, push_count, push_member, push_text};
 use gd_base::memory::Memory;
 use gd_json::from::JsonFault;
 use gd_json::value::{Json, JsonText};
@@ -94,57 +94,61 @@ fn names(alloc: Global, path: &[JsonText]) -> Result<Vec<Json>, Memory>
 {
     let mut names = Vec::new(alloc);
     for name in path {
-        names.push(text(alloc, name.as_str())?)?;
+        names.push(Json::text(alloc, name.as_str())?)?;
     }
     Ok(names)
 }
 
 /// The names of a path as a list.
 fn path_list(alloc: Global, path: &Path) -> Result<Json, Memory>
-    ensures { IfOk result (λ json. view json ≡ list (texts path.now)) }
+    ensures { IfOk result (λ json. view json ≡ list_of (texts path.now)) }
 {
     let names = names(alloc, path.names())?;
-    Ok(Json::List(names))
+    Ok(list(names))
 }
 
 fn query_info(alloc: Global, code: Code, path: &Path) -> Result<Json, Memory>
-    ensures { IfOk result (λ json. view json ≡ object (object_of ((codes "code", text_of (code_text (code_view code)))
-        ∷ (codes "path", list (texts path.now)) ∷ []))) }
+    ensures { IfOk result (λ json. view json ≡ object_tree (object_of ((codes "code", text_of (code_text (code_view code)))
+        ∷ (codes "path", list_of (texts path.now)) ∷ []))) }
 {
-    let code = member(alloc, "code", text(alloc, code_name(code))?)?;
-    let path = member(alloc, "path", path_list(alloc, path)?)?;
-    Ok(Json::Object(vec![in alloc; code, path]?))
+    let mut members = Vec::new(alloc);
+    push_text(alloc, &mut members, "code", code_name(code))?;
+    push_member(alloc, &mut members, "path", path_list(alloc, path)?)?;
+    Ok(object(members))
 }
 
 fn full_info(alloc: Global, what: What, reached: u64) -> Result<Json, Memory>
     requires { reached < 2 ^ 63 }
-    ensures { IfOk result (λ json. view json ≡ object (object_of ((codes "count", count_json reached)
+    ensures { IfOk result (λ json. view json ≡ object_tree (object_of ((codes "count", count_json reached)
         ∷ (codes "what", text_of (what_text what)) ∷ []))) }
 {
-    let reached = member(alloc, "count", count(reached))?;
-    let what = member(alloc, "what", text(alloc, what_name(what))?)?;
-    Ok(Json::Object(vec![in alloc; reached, what]?))
+    let mut members = Vec::new(alloc);
+    push_count(alloc, &mut members, "count", reached)?;
+    push_text(alloc, &mut members, "what", what_name(what))?;
+    Ok(object(members))
 }
 
 fn count_info(alloc: Global, name: &str, n: u64) -> Result<Json, Memory>
     requires { n < 2 ^ 63 }
-    ensures { IfOk result (λ json. view json ≡ object (object_of ((name.now, count_json n) ∷ []))) }
+    ensures { IfOk result (λ json. view json ≡ object_tree (object_of ((name.now, count_json n) ∷ []))) }
 {
-    let member = member(alloc, name, count(n))?;
-    Ok(Json::Object(vec![in alloc; member]?))
+    let mut members = Vec::new(alloc);
+    push_count(alloc, &mut members, name, n)?;
+    Ok(object(members))
 }
 
 fn text_info(alloc: Global, name: &str, value: &JsonText) -> Result<Json, Memory>
-    ensures { IfOk result (λ json. view json ≡ object (object_of ((name.now, text_of value.now) ∷ []))) }
+    ensures { IfOk result (λ json. view json ≡ object_tree (object_of ((name.now, text_of value.now) ∷ []))) }
 {
-    let member = member(alloc, name, text(alloc, value.as_str())?)?;
-    Ok(Json::Object(vec![in alloc; member]?))
+    let mut members = Vec::new(alloc);
+    push_text(alloc, &mut members, name, value.as_str())?;
+    Ok(object(members))
 }
 
 /// What the reply tells of the refusal.
 pub fn info(alloc: Global, refusal: &Refusal) -> Result<Json, Memory>
     requires { CountsFit refusal.now }
-    ensures { IfOk result (λ json. view json ≡ object (refusal_of refusal.now).info) }
+    ensures { IfOk result (λ json. view json ≡ object_tree (refusal_of refusal.now).info) }
 {
     match refusal {
         Refusal::LineTooLong | Refusal::Json(_) | Refusal::BadLine | Refusal::Memory => {

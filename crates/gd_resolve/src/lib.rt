@@ -6,9 +6,5 @@ pub mod ids;
 mod look;
 mod path;
 pub mod property;
-#[cfg(test)]
-mod sample;
-#[cfg(test)]
-mod tests;
 pub mod up;
 pub mod words;

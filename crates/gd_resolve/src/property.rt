@@ -199,6 +199,3 @@ pub fn says_name<L>(view: &View<'_>, steps: &mut Steps<L>) -> bool
 {
     is_property(view, NAME, steps) && is_name_property(&stated(view, NAME, steps))
 }
-
-#[cfg(test)]
-mod tests;
