@@ -3,4 +3,3 @@ pub mod KeptName
 pub mod Created
 pub mod Followed
 pub mod Evaluated
-pub mod Tested

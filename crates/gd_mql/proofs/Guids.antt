@@ -1,97 +1,115 @@
--- Which texts are guids.
-use Rattle.std.proofs.Common.{◌≡◌, ◌<◌, ℕ, suc, ◌+◌, ◌*◌, ◌/◌, ◌%◌, ◌-◌, List, [], ◌∷◌, ◌++◌, length, drop, Bool, true, false, ◌&&◌, Option, Some, None, is_some, codes, refl, ap, sym, ◌∙◌, arith, append_assoc}
-use Rattle.std.specs.Prelude.{bytes_eq, ◌==◌, if◌then◌else◌}
+-- Guids and the digits in them.
+use Rattle.std.proofs.Common.{◌≡◌, ◌≢◌, ◌<◌, ◌≤◌, ◌^◌, ℕ, zero, suc, ◌+◌, ◌*◌, ◌-◌, ◌/◌, ◌%◌, List, [], ◌∷◌, ◌++◌, length, take, drop, Bool, true, false, Option, Some, None, refl, ap, sym, subst, lit<, ◌∙◌, arith, codes, append_assoc, append-nil, length-append}
+use Rattle.std.proofs.lemmas.List.{take-append-drop}
+use Rattle.std.specs.Prelude.{if◌then◌else◌, bytes_eq}
 use Rattle.std.specs.Char.{is_ascii_digit}
 use Rattle.std.specs.Int.{is_in_range}
-use Rattle.std.specs.List.{list_all, starts_with}
-use Rattle.std.proofs.lemmas.Bool.Decides.{nat_tests, Decides-eqb}
-use Rattle.std.proofs.lemmas.List.{length-drop}
-use Rattle.std.proofs.lemmas.Nat.{div-mul-add, mod-mul-add}
-use Rattle.std.proofs.lemmas.Slice.Eq.{bytes_eq-Decides, starts_is}
+use Rattle.std.proofs.Math.Nat.{pow-le-pow_right}
+use Rattle.std.proofs.lemmas.Bool.Decides.{nat_tests}
+use Rattle.std.proofs.lemmas.Slice.Eq.{bytes_eq-Decides}
 use Rattle.gd_grammar.specs.Maybe.{◌>>=◌}
 use Rattle.gd_tree.specs.Hex.{hex, hex_digit}
-use Rattle.gd_defs.specs.Ids.{hex_value, hex_number, guid, guid_place}
-use Rattle.gd_mql.specs.Line.{is_hex_digit}
-use Rattle.gd_mql.proofs.Asked.{step-is}
+use Rattle.gd_defs.specs.Ids.{guid, guid_place, hex_value, hex_number}
 
--- what stands in each guid before its digits
-abbrev pub front : List ℕ
-front = codes "#0000000000000001"
+-- ---- digits
 
--- a digit is that of its value
-value_is : (c d : ℕ) → hex_value c ≡ Some d → (d < 16) × (hex_digit d ≡ c)
-value_is c d is = by (is_ascii_digit c) (is_in_range 97 102 c) refl refl is
+low_digit : (n : ℕ) → n < 10 → hex_digit n ≡ 48 + n
+low_digit n low = grind (arith, nat_tests)
+
+high_digit : (n : ℕ) → 10 ≤ n → hex_digit n ≡ 87 + n
+high_digit n high = grind (arith, nat_tests)
+
+within : (low high c : ℕ) → is_in_range low high c ≡ true → (low ≤ c) × (c ≤ high)
+within low high c is = grind (arith, nat_tests)
+
+-- a digit's value is below 16, and its digit is the one that was read
+digit_back : (c d : ℕ) → hex_value c ≡ Some d → (d < 16) × (hex_digit d ≡ c)
+digit_back c d is = by (is_ascii_digit c) (is_in_range 97 102 c) refl refl is
   where
-    by : (low high : Bool) → is_ascii_digit c ≡ low → is_in_range 97 102 c ≡ high → (if low then Some (c - 48) else if high then Some (c - 87) else None) ≡ Some d → (d < 16) × (hex_digit d ≡ c)
-    by true high l h is = let same : c - 48 ≡ d = cc in rw (← same) (grind (arith, nat_tests), grind (arith, nat_tests))
-    by false true l h is = let same : c - 87 ≡ d = cc in rw (← same) (grind (arith, nat_tests), grind (arith, nat_tests))
-    by false false l h is = cc
+    by : (a b : Bool) → is_ascii_digit c ≡ a → is_in_range 97 102 c ≡ b → (if a then Some (c - 48) else if b then Some (c - 87) else None) ≡ Some d → (d < 16) × (hex_digit d ≡ c)
+    by true b low high value =
+        let range : (48 ≤ c) × (c ≤ 57) = within 48 57 c low in
+        let is : c - 48 ≡ d = cc in
+        (omega arith, low_digit d (omega arith) ∙ omega arith)
+    by false true low high value =
+        let range : (97 ≤ c) × (c ≤ 102) = within 97 102 c high in
+        let is : c - 87 ≡ d = cc in
+        (omega arith, high_digit d (omega arith) ∙ omega arith)
+    by false false low high value = cc
 
--- the digits of a number that was read
-hex_back : (ds : List ℕ) (w n m : ℕ) → hex_number n ds ≡ Some m → hex (w + length ds) m ≡ hex w n ++ ds
-hex_back [] w n m is = let same : n ≡ m = cc in let width : w + 0 ≡ w = omega arith in rw (width, same) (sym (append_nil (hex w m)))
+-- one digit more behind a front
+front_digit : (k w d c : ℕ) → d < 16 → hex_digit d ≡ c → hex (suc w) (16 * k + d) ≡ hex w k ++ c ∷ []
+front_digit k w d c small is =
+    let front : (16 * k + d) / 16 ≡ k = omega arith in
+    let last : (16 * k + d) % 16 ≡ d = omega arith in
+    rw (front, last, is) refl
+
+-- a number that digits spell behind a front is spelled by the digits of the front and these
+pub hex_of_number : (ds : List ℕ) (k w n : ℕ) → hex_number k ds ≡ Some n → hex (w + length ds) n ≡ hex w k ++ ds
+hex_of_number [] k w n is = let same : k ≡ n = cc in let count : w + 0 ≡ w = omega arith in rw (same, count) (sym (append-nil (hex w n)))
+hex_of_number (c ∷ cs) k w n is = step (hex_value c) refl (λ d. hex_of_number cs (16 * k + d) (suc w) n) is
   where
-    append_nil : (xs : List ℕ) → xs ++ [] ≡ xs
-    append_nil [] = refl
-    append_nil (x ∷ xs) = ap (λ ys. x ∷ ys) (append_nil xs)
-hex_back (c ∷ ds) w n m is =
-    let step = step-is (hex_value c) (λ d. hex_number (16 * n + d) ds) m is in
-    let d : ℕ = step.0 in
-    let digit = value_is c d step.1 in
-    let width : w + suc (length ds) ≡ suc w + length ds = omega arith in
-    let order : 16 * n + d ≡ n * 16 + d = omega arith in
-    let high : (16 * n + d) / 16 ≡ n = ap (λ k. k / 16) order ∙ div-mul-add n 16 d digit.0 in
-    let low : (16 * n + d) % 16 ≡ d = ap (λ k. k % 16) order ∙ mod-mul-add n 16 d digit.0 in
-    ap (λ k. hex k m) width ∙ (hex_back ds (suc w) (16 * n + d) m step.2
-    ∙ (ap (λ k. (hex w k ++ hex_digit ((16 * n + d) % 16) ∷ []) ++ ds) high ∙ (ap (λ k. (hex w n ++ hex_digit k ∷ []) ++ ds) low ∙ (ap (λ k. (hex w n ++ k ∷ []) ++ ds) digit.1 ∙ append_assoc (hex w n) (c ∷ []) ds))))
+    step : (o : Option ℕ) → hex_value c ≡ o → ((d : ℕ) → hex_number (16 * k + d) cs ≡ Some n → hex (suc w + length cs) n ≡ hex (suc w) (16 * k + d) ++ cs)
+        → (o >>= λ d. hex_number (16 * k + d) cs) ≡ Some n → hex (w + length (c ∷ cs)) n ≡ hex w k ++ c ∷ cs
+    step None value rest spelled = cc
+    step (Some d) value rest spelled =
+        let back : (d < 16) × (hex_digit d ≡ c) = digit_back c d value in
+        let count : w + length (c ∷ cs) ≡ suc w + length cs = omega arith in
+        rw count (rest d spelled ∙ ap (λ xs. xs ++ cs) (front_digit k w d c back.0 back.1) ∙ append_assoc (hex w k) (c ∷ []) cs)
 
-all_digits : (ds : List ℕ) (n : ℕ) → list_all is_hex_digit ds ≡ is_some (hex_number n ds)
-all_digits [] n = refl
-all_digits (c ∷ ds) n = by (hex_value c) (λ d. all_digits ds (16 * n + d))
+pub length-hex : (w n : ℕ) → length (hex w n) ≡ w
+length-hex zero n = refl
+length-hex (suc w) n = length-append (hex w (n / 16)) (hex_digit (n % 16) ∷ []) ∙ ap (λ m. m + 1) (length-hex w (n / 16)) ∙ omega arith
+
+-- ---- guids
+
+-- a text behind the front of guids, of 16 bytes, is a guid where these spell a number
+pub guid_place-behind : (text digits : List ℕ) → text ≡ codes "#0000000000000001" ++ digits → length digits ≡ 16 → guid_place text ≡ hex_number 0 digits
+guid_place-behind text digits is count = rw is (by (hex_number 0 digits) refl)
   where
-    by : (value : Option ℕ) → ((d : ℕ) → list_all is_hex_digit ds ≡ is_some (hex_number (16 * n + d) ds)) → (is_some value && list_all is_hex_digit ds) ≡ is_some (value >>= λ d. hex_number (16 * n + d) ds)
-    by None rest = refl
-    by (Some d) rest = rest d
+    same : (n : ℕ) → hex_number 0 digits ≡ Some n → bytes_eq (guid n) (codes "#0000000000000001" ++ digits) ≡ true
+    same n spelled =
+        let whole : hex (0 + length digits) n ≡ digits = hex_of_number digits 0 0 n spelled in
+        let all : 0 + length digits ≡ 16 = omega arith in
+        let sixteen : hex 16 n ≡ digits = subst (λ (w : ℕ). hex w n ≡ digits) all whole in
+        (bytes_eq-Decides (guid n) (codes "#0000000000000001" ++ digits)).1 (ap (λ ds. codes "#0000000000000001" ++ ds) sixteen)
 
--- what is no guid by a test that every guid passes
-no_guid : (t : List ℕ) → ((p : ℕ) → guid p ≡ t → ⊥) → is_some (guid_place t) ≡ false
-no_guid t none = by (hex_number 0 (drop 17 t))
+    by : (o : Option ℕ) → hex_number 0 digits ≡ o → (o >>= λ place. if bytes_eq (guid place) (codes "#0000000000000001" ++ digits) then Some place else None) ≡ o
+    by None spelled = refl
+    by (Some n) spelled = ap (λ b. if b then Some n else None) (same n spelled)
+
+-- a text that is the guid of no place
+pub guid_place-none : (text : List ℕ) → ((n : ℕ) → guid n ≢ text) → guid_place text ≡ None
+guid_place-none text other = by (hex_number 0 (drop 17 text))
   where
-    test : (p : ℕ) (b : Bool) → bytes_eq (guid p) t ≡ b → is_some (if b then Some p else None) ≡ false
-    test p true is = absurd (none p ((bytes_eq-Decides (guid p) t).0 is))
-    test p false is = refl
+    chosen : (n : ℕ) (b : Bool) → bytes_eq (guid n) text ≡ b → (if b then Some n else None) ≡ None
+    chosen n true is = absurd (other n ((bytes_eq-Decides (guid n) text).0 is))
+    chosen n false is = refl
 
-    by : (place : Option ℕ) → is_some (place >>= λ place. if bytes_eq (guid place) t then Some place else None) ≡ false
+    by : (o : Option ℕ) → (o >>= λ place. if bytes_eq (guid place) text then Some place else None) ≡ None
     by None = refl
-    by (Some p) = test p (bytes_eq (guid p) t) refl
+    by (Some n) = chosen n (bytes_eq (guid n) text) refl
 
-guid_length : (p : ℕ) → length (guid p) ≡ 33
-guid_length p = refl
+-- one digit more keeps a number of at most 16 digits below 2 ^ 64
+pub digit_more : (i n d : ℕ) → i < 16 → n < 16 ^ i → d < 16 → 16 * n + d < 2 ^ 64
+digit_more i n d few small digit =
+    let up : i ≤ 15 = omega arith in
+    let most : 16 ^ i ≤ 16 ^ 15 = pow-le-pow_right (lit< tt) up in
+    let below : n < 16 ^ 15 = omega arith in
+    omega arith
 
-guid_front : (p : ℕ) → starts_with ◌==◌ (guid p) front ≡ true
-guid_front p = refl
+-- a text that does not begin as guids do
+pub guid_place-other : (text : List ℕ) → bytes_eq (take 17 text) (codes "#0000000000000001") ≡ false → guid_place text ≡ None
+guid_place-other text is = guid_place-none text (λ n same.
+    let begins : bytes_eq (take 17 text) (codes "#0000000000000001") ≡ true = (bytes_eq-Decides (take 17 text) (codes "#0000000000000001")).1 (ap (take 17) (sym same)) in
+    cc)
 
-pub no_guid-length : (t : List ℕ) → (length t ≡ 33 → ⊥) → is_some (guid_place t) ≡ false
-no_guid-length t other = no_guid t (λ p is. other (sym (ap length is) ∙ guid_length p))
+-- a text of another length behind that
+pub guid_place-length : (text : List ℕ) → length (drop 17 text) ≢ 16 → guid_place text ≡ None
+guid_place-length text other = guid_place-none text (λ n same. other (ap (λ t. length (drop 17 t)) (sym same)))
 
-pub no_guid-front : (t : List ℕ) → starts_with ◌==◌ t front ≡ false → is_some (guid_place t) ≡ false
-no_guid-front t other = no_guid t (λ p is. (let e : true ≡ false = sym (guid_front p) ∙ (ap (λ g. starts_with ◌==◌ g front) is ∙ other) in cc))
-
-pub guid-digits : (t : List ℕ) → length t ≡ 33 → starts_with ◌==◌ t front ≡ true → list_all is_hex_digit (drop 17 t) ≡ is_some (guid_place t)
-guid-digits t long begins = all_digits (drop 17 t) 0 ∙ by (hex_number 0 (drop 17 t)) refl
-  where
-    split : t ≡ front ++ drop 17 t
-    split = (starts_is Decides-eqb t front (starts_with ◌==◌ t front) refl).0 begins
-
-    sixteen : length (drop 17 t) ≡ 16
-    sixteen = length-drop 17 t ∙ omega arith
-
-    width : 16 ≡ 0 + length (drop 17 t)
-    width = omega (arith, sixteen)
-
-    same : (p : ℕ) → hex_number 0 (drop 17 t) ≡ Some p → guid p ≡ t
-    same p is = ap (λ ds. front ++ ds) (ap (λ n. hex n p) width ∙ hex_back (drop 17 t) 0 0 p is) ∙ sym split
-
-    by : (place : Option ℕ) → hex_number 0 (drop 17 t) ≡ place → is_some place ≡ is_some (place >>= λ place. if bytes_eq (guid place) t then Some place else None)
-    by None is = refl
-    by (Some p) is = let passed : bytes_eq (guid p) t ≡ true = (bytes_eq-Decides (guid p) t).1 (same p is) in rw passed refl
+-- a text that begins as guids do, and goes on with 16 bytes
+pub guid_place-whole : (text digits : List ℕ) → bytes_eq (take 17 text) (codes "#0000000000000001") ≡ true → digits ≡ drop 17 text → length digits ≡ 16 → guid_place text ≡ hex_number 0 digits
+guid_place-whole text digits begins is count =
+    let front : take 17 text ≡ codes "#0000000000000001" = (bytes_eq-Decides (take 17 text) (codes "#0000000000000001")).0 begins in
+    guid_place-behind text digits (sym (take-append-drop 17 text) ∙ ap (λ a. a ++ drop 17 text) front ∙ ap (λ b. codes "#0000000000000001" ++ b) (sym is)) count

@@ -1,5 +1,5 @@
 -- Lines and faults of a line, as the definitions have them.
-use Rattle.std.specs.Prelude.{◌≡◌, ◌≢◌, ℕ, List, [], ◌∷◌, ◌||◌, Option, Some, None, option_map, is_some, Result, Ok, Err, MatchResult, Bool, codes, if◌then◌else◌}
+use Rattle.std.specs.Prelude.{◌≡◌, ◌≢◌, ℕ, List, [], ◌∷◌, ◌||◌, Option, Some, None, option_map,  Result, Ok, Err, MatchResult, Bool, codes, if◌then◌else◌}
 use Rattle.gd_grammar.specs.Maybe.{◌>>=◌}
 use Rattle.gd_tree.specs.Json.{Json, object}
 use Rattle.gd_tree.specs.Look.{get, only}
@@ -9,7 +9,6 @@ use Rattle.gd_runs.specs.Request as request
 use Rattle.gd_runs.specs.Request.{session_of}
 use Rattle.gd_runs.specs.Input as input
 use Rattle.gd_runs.specs.Input.{InputFault}
-use Rattle.gd_defs.specs.Ids.{hex_value}
 use Rattle.gd_runs.specs.Built.{IdAsk, no_id, any_id, this_id, FormAsk, pair_of, read_asked, create_asked, form_request, create_request}
 use Rattle.gd_mql.specs.declared.forms.IdAsked.{IdAsked}
 use Rattle.gd_mql.specs.declared.forms.IdAsked.TheVariants as borrowed
@@ -81,7 +80,3 @@ form_asked j = pair_of (codes "read") (codes "sid") j >>= λ parts. read_asked p
 -- whether the guid is asked for, and the name of the new object, where a line is a write of the built form
 abbrev pub object_asked : Json → Option (Bool × List ℕ)
 object_asked j = pair_of (codes "sid") (codes "write") j >>= λ parts. create_asked parts.1
-
--- the byte is a lower-case hexadecimal digit
-abbrev pub is_hex_digit : ℕ → Bool
-is_hex_digit c = is_some (hex_value c)

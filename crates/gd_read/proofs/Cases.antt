@@ -8,7 +8,7 @@ use Rattle.gd_prim.specs.declared.Primitive.{Primitive}
 use Rattle.gd_prim.specs.Live.{is_object}
 use Rattle.gd_defs.specs.Lines.{err_line, too_wide}
 use Rattle.gd_runs.specs.Built.{FormAsk}
-use Rattle.gd_reply.proofs.Places.{and-true, filter-same}
+use Rattle.gd_list_laws.proofs.Places.{and-true, filter-same}
 use Rattle.gd_read.specs.Form.{places, name_count, ends, times, has_name, is_found, found, weight, is_heavy, total, rows_line, found_line}
 use Rattle.gd_read.proofs.NameLinks.{times-ends}
 

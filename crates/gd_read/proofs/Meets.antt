@@ -22,7 +22,7 @@ use Rattle.gd_defs.specs.Rows as rows
 use Rattle.gd_defs.specs.Rows.{met, meets, answer_meets, is_met, meets_given, candidates, row_weight, Row, row_of, row_cmp, insert_row, sorted_onto}
 use Rattle.gd_defs.specs.Reply.{page, has_heavy_candidate, max_candidate_weight, each_row, object_json}
 use Rattle.gd_runs.specs.Built.{IdAsk, no_id, any_id, this_id, FormAsk}
-use Rattle.gd_reply.proofs.Places.{Rising, Rising-filter, Rising-range, and-true, filter-filter, filter-same, list_any-filter, live_where-places, objects-places}
+use Rattle.gd_list_laws.proofs.Places.{Rising, Rising-filter, Rising-range, and-true, filter-filter, filter-same, list_any-filter, live_where-places, objects-places}
 use Rattle.gd_read.specs.Form.{places, names, name_count, is_target, has_name, is_found, found, weight, is_heavy, total, row_json, rows_json}
 use Rattle.gd_read.proofs.Lookup.{asking, name_part, id_part, guid_part, clause, looked_up, Matches}
 

@@ -12,7 +12,7 @@ use Rattle.gd_prim.specs.declared.End.TheVariants.{Left}
 use Rattle.gd_prim.specs.End.{places_with}
 use Rattle.gd_prim.specs.Builtin.{name_place}
 use Rattle.gd_prim.specs.Live.{refers, passes_at, is_current, is_text, is_object}
-use Rattle.gd_reply.proofs.Places.{and-comm, filter-filter, filter-same, filter_map-places, list_any-filter}
+use Rattle.gd_list_laws.proofs.Places.{and-comm, filter-filter, filter-same, filter_map-places, list_any-filter}
 use Rattle.gd_read.specs.Form.{places, is_link, names, name_count, named_by, ends, times, is_found}
 
 -- ---- counts

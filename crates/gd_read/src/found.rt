@@ -7,7 +7,6 @@ ghost use Rattle.gd_defs.specs.Lines.{err_line as err_line_of, too_wide as too_w
 ghost use Rattle.gd_mql.specs.Line.{ask_view};
 ghost use Rattle.gd_read.specs.Form as form;
 
-use crate::look::is_object;
 use crate::names::{ends, name_count};
 use crate::rows::rows_line;
 use gd_base::id::Id;
@@ -17,6 +16,7 @@ use gd_json::value::JsonText;
 use gd_mql::line::ReadRequest;
 use gd_reply::lines::err_line;
 use gd_reply::refusal::Refusal;
+use gd_resolve::look::is_object;
 use gd_store::view::View;
 use std::alloc::Global;
 

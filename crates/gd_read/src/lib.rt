@@ -2,7 +2,6 @@
 #![tactic(auto)]
 
 mod found;
-mod look;
 mod names;
 pub mod reply;
 mod rows;

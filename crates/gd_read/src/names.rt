@@ -5,12 +5,12 @@ ghost use Rattle.gd_prim.specs.History.{prims_of};
 ghost use Rattle.gd_prim.specs.Live as live;
 ghost use Rattle.gd_read.specs.Form as form;
 
-use crate::look::prim_at;
 use gd_base::datum::Datum;
 use gd_base::id::Id;
 use gd_base::memory::Memory;
 use gd_base::steps::Steps;
 use gd_prim::{End, Primitive};
+use gd_resolve::look::prim_at;
 use gd_store::view::View;
 use std::alloc::Global;
 

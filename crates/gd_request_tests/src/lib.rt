@@ -5,6 +5,8 @@
 #[cfg(test)]
 mod change;
 #[cfg(test)]
+mod datum;
+#[cfg(test)]
 mod mql;
 #[cfg(test)]
 mod read;

@@ -7,7 +7,7 @@ use Rattle.gd_prim.specs.declared.Primitive.{Primitive}
 use Rattle.gd_prim.specs.Builtin.{type_link_place, unique_place}
 use Rattle.gd_prim.specs.Live.{refers, is_current, live_where, passes_at, value_at, end_at}
 use Rattle.gd_defs.specs.Property.{first, links_from, first_right, has_type, is_unique, boolean_of}
-use Rattle.gd_reply.proofs.Places.{live_where-places, filter-filter, filter-same, list_any-filter}
+use Rattle.gd_list_laws.proofs.Places.{live_where-places, filter-filter, filter-same, list_any-filter}
 use Rattle.gd_resolve.specs.Found.{is_link, gives_type, is_mark, is_found, first_found}
 
 -- the first that a test keeps is the one that a search finds

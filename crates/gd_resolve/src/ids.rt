@@ -11,12 +11,12 @@ ghost use Rattle.gd_resolve.specs.Asked.{id_asked};
 
 use crate::fault::ResolveFault;
 use crate::look::{is_object, left_at};
-use crate::path::{guid_place, id_keys};
 use gd_base::id::Id;
 use gd_base::memory::Memory;
 use gd_base::steps::Steps;
 use gd_base::text::Text;
 use gd_json::value::JsonText;
+use gd_mql::ids::{guid_place, id_keys};
 use gd_store::view::View;
 use std::alloc::Global;
 

@@ -3,8 +3,7 @@
 
 pub mod fault;
 pub mod ids;
-mod look;
-mod path;
+pub mod look;
 pub mod property;
 pub mod up;
 pub mod words;

@@ -9,7 +9,7 @@ use gd_prim::Primitive;
 use gd_store::view::View;
 
 /// The primitive at a place, if there is one.
-pub(crate) fn prim_at<'a, L>(
+pub fn prim_at<'a, L>(
     view: &View<'a>,
     place: Id,
     steps: &mut Steps<L>,
@@ -26,7 +26,7 @@ pub(crate) fn prim_at<'a, L>(
 }
 
 /// Whether an object stands at a place.
-pub(crate) fn is_object<L>(view: &View<'_>, place: Id, steps: &mut Steps<L>) -> bool
+pub fn is_object<L>(view: &View<'_>, place: Id, steps: &mut Steps<L>) -> bool
     ensures object { result ≡ live.is_object (prims_of view.now) place }
     ensures work { steps.new ≤ steps.old + 3 }
     ensures later { steps.old ≤ steps.new }
@@ -38,7 +38,7 @@ pub(crate) fn is_object<L>(view: &View<'_>, place: Id, steps: &mut Steps<L>) -> 
 }
 
 /// The left end of the primitive at a place, if it has one.
-pub(crate) fn left_at<L>(view: &View<'_>, place: Id, steps: &mut Steps<L>) -> Option<Id>
+pub fn left_at<L>(view: &View<'_>, place: Id, steps: &mut Steps<L>) -> Option<Id>
     ensures left { result ≡ live.end_at (λ p. p.left) (prims_of view.now) place }
     ensures work { steps.new ≤ steps.old + 1 }
     ensures later { steps.old ≤ steps.new }
@@ -47,7 +47,7 @@ pub(crate) fn left_at<L>(view: &View<'_>, place: Id, steps: &mut Steps<L>) -> Op
 }
 
 /// The right end of the primitive at a place, if it has one.
-pub(crate) fn right_at<L>(view: &View<'_>, place: Id, steps: &mut Steps<L>) -> Option<Id>
+pub fn right_at<L>(view: &View<'_>, place: Id, steps: &mut Steps<L>) -> Option<Id>
     ensures right { result ≡ live.end_at (λ p. p.right) (prims_of view.now) place }
     ensures work { steps.new ≤ steps.old + 1 }
     ensures later { steps.old ≤ steps.new }

@@ -3,7 +3,7 @@ use Rattle.std.proofs.Common.{◌≡◌, List, [], ◌∷◌, ◌++◌, length, 
 use Rattle.gd_prim.specs.declared.Batch.{Batch}
 use Rattle.gd_prim.specs.History.{prims_of, prims_at}
 use Rattle.gd_runs.specs.Built.{SaysName, says_name}
-use Rattle.gd_change.proofs.Tested.{says_if_tested, tested_if_says}
+use Rattle.gd_list_laws.proofs.Says.{says_if_tested, tested_if_says}
 use Rattle.gd_serving.proofs.Whole.{prims_at-all}
 
 -- what the test tells, it says

@@ -4,7 +4,7 @@ use Rattle.std.specs.List.{range_with_len}
 use Rattle.std.proofs.lemmas.Grind.{common_steps}
 use Rattle.gd_prim.specs.History.{prims_of}
 use Rattle.gd_prim.specs.Live.{is_object}
-use Rattle.gd_reply.proofs.Places.{filter_more}
+use Rattle.gd_list_laws.proofs.Places.{filter_more}
 use Rattle.gd_read.proofs.NameLinks.{take-front}
 use Rattle.gd_read.proofs.found.first_objects.Goals as goal
 use Rattle.gd_read.proofs.found.first_objects.Goals.{then-is_object+in_ok-push, else-is_object}
@@ -28,11 +28,11 @@ loop-place-preserved g c =
       | then-is_object+in_ok-push w ↦
           let items = ap (λ (r : Vec ℕ Global). r.items) w.objects-is ∙ w.in_ok-push.ensures.items in
           record {
-            objects = items ∙ (ap (λ xs. xs ++ n ∷ []) c.loop-place.invariant.objects ∙ sym (filter_more p n true (sym w.if-is_object.true ∙ c.is_object.ensures)));
+            objects = items ∙ (ap (λ xs. xs ++ n ∷ []) c.loop-place.invariant.objects ∙ sym (filter_more p n true (sym w.if-is_object.true ∙ c.is_object.ensures.object)));
             few = let more = ap length items in omega (arith, more, length-append old (n ∷ []));
           }
       | else-is_object w ↦ record {
-        objects = ap (λ (r : Vec ℕ Global). r.items) w.objects-is ∙ (c.loop-place.invariant.objects ∙ sym (filter_more p n false (sym w.if-is_object.false ∙ c.is_object.ensures) ∙ append-nil _));
+        objects = ap (λ (r : Vec ℕ Global). r.items) w.objects-is ∙ (c.loop-place.invariant.objects ∙ sym (filter_more p n false (sym w.if-is_object.false ∙ c.is_object.ensures.object) ∙ append-nil _));
         few = let same = ap (λ (r : Vec ℕ Global). length r.items) w.objects-is in omega (arith, same);
       }
     ]

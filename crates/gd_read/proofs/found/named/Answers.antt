@@ -4,7 +4,7 @@ use Rattle.std.specs.List.{list_any}
 use Rattle.gd_prim.specs.History.{prims_of}
 use Rattle.gd_prim.specs.Live.{is_object}
 use Rattle.gd_read.specs.Form.{is_found}
-use Rattle.gd_reply.proofs.Places.{filter_more}
+use Rattle.gd_list_laws.proofs.Places.{filter_more}
 use Rattle.gd_read.proofs.NameLinks.{named-found}
 use Rattle.gd_read.proofs.found.named.Goals as goal
 use Rattle.gd_read.proofs.found.named.Goals.{then-is_named+in_ok-push, else-is_named}

@@ -1,0 +1,2 @@
+//! Laws of the general definitions over plain lists. They stand in `proofs/`.
+#![tactic(auto)]
