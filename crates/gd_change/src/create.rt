@@ -1,5 +1,5 @@
 //! The create of an object with a name.
-ghost use Rattle.std.specs.Prelude.{◌≡◌, IfOk};
+ghost use Rattle.std.specs.Prelude.{◌≡◌, IfOk, true, false};
 ghost use Rattle.gd_tree.specs.Json.{object as tree_object};
 ghost use Rattle.gd_json.specs.View.{view};
 ghost use Rattle.gd_change.specs.Create as defined;

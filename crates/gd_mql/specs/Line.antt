@@ -1,5 +1,5 @@
 -- Lines and faults of a line, as the definitions have them.
-use Rattle.std.specs.Prelude.{◌≡◌, ◌≢◌, ℕ, List, [], ◌∷◌, ◌||◌, Option, Some, None, option_map,  Result, Ok, Err, MatchResult, Bool, codes, if◌then◌else◌}
+use Rattle.std.specs.Prelude.{◌≡◌, ◌≢◌, ℕ, List, [], ◌∷◌, ◌||◌, Option, Some, None, option_map, Result, Ok, Err, MatchResult, Bool, codes, if◌then◌else◌}
 use Rattle.gd_grammar.specs.Maybe.{◌>>=◌}
 use Rattle.gd_tree.specs.Json.{Json, object}
 use Rattle.gd_tree.specs.Look.{get, only}

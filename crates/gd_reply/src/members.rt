@@ -26,12 +26,7 @@ pub fn push_member(
 }
 
 /// Appends a member whose value is a text.
-pub fn push_text(
-    alloc: Global,
-    members: &mut Members,
-    name: &str,
-    text: &str,
-) -> Result<(), Memory>
+pub fn push_text(alloc: Global, members: &mut Members, name: &str, text: &str) -> Result<(), Memory>
     ensures { OnOk result (map member_view members.new.items
         ≡ map member_view members.old.items ++ (name.now, text_of text.now) ∷ []) }
 {
@@ -48,12 +43,7 @@ fn count(n: u64) -> Json
 }
 
 /// Appends a member whose value is a number.
-pub fn push_count(
-    alloc: Global,
-    members: &mut Members,
-    name: &str,
-    n: u64,
-) -> Result<(), Memory>
+pub fn push_count(alloc: Global, members: &mut Members, name: &str, n: u64) -> Result<(), Memory>
     requires { n < 2 ^ 63 }
     ensures { OnOk result (map member_view members.new.items
         ≡ map member_view members.old.items ++ (name.now, count_json n) ∷ []) }

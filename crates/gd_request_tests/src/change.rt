@@ -52,7 +52,13 @@ fn creates(alloc: Global, name: &str, wanted: &[u8]) -> bool {
 
 #[test]
 fn creates_an_object(rt: HostRuntime) {
-    assert!(rt; creates(rt.alloc(), "Ann", b"{\"create\":\"created\",\"guid\":\"#00000000000000010000000000000046\",\"name\":\"Ann\"}"));
+    assert!(rt;
+        creates(
+            rt.alloc(),
+            "Ann",
+            b"{\"create\":\"created\",\"guid\":\"#00000000000000010000000000000046\",\"name\":\"Ann\"}"
+        )
+    );
 }
 
 /// Whether the fault prints this.
@@ -69,5 +75,11 @@ fn prints_a_fault(rt: HostRuntime) {
         what: What::Text,
         count: 134_217_729,
     };
-    assert!(rt; says(rt.alloc(), &full, "the limit of Text does not allow 134217729"));
+    assert!(rt;
+        says(
+            rt.alloc(),
+            &full,
+            "the limit of Text does not allow 134217729"
+        )
+    );
 }

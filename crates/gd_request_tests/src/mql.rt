@@ -45,7 +45,8 @@ fn spells(alloc: Global, text: &str, wanted: Result<Line, Memory>) -> bool {
 
 #[test]
 fn reads_a_read(rt: HostRuntime) {
-    let text = "{\"read\":{\"query\":[{\"guid\":null,\"id\":\"/type\",\"name\":\"Type\"}]},\"sid\":7}";
+    let text =
+        "{\"read\":{\"query\":[{\"guid\":null,\"id\":\"/type\",\"name\":\"Type\"}]},\"sid\":7}";
     assert!(rt; spells(rt.alloc(), text, read(rt.alloc())));
 }
 

@@ -42,5 +42,11 @@ fn replies(alloc: Global, name: &str, wanted: &[u8]) -> bool {
 
 #[test]
 fn replies_to_a_read(rt: HostRuntime) {
-    assert!(rt; replies(rt.alloc(), "Type", b"{\"code\":\"/api/status/ok\",\"dateline\":0,\"line\":7,\"result\":[{\"guid\":\"#00000000000000010000000000000005\",\"id\":\"/type/type\",\"name\":\"Type\"}]}"));
+    assert!(rt;
+        replies(
+            rt.alloc(),
+            "Type",
+            b"{\"code\":\"/api/status/ok\",\"dateline\":0,\"line\":7,\"result\":[{\"guid\":\"#00000000000000010000000000000005\",\"id\":\"/type/type\",\"name\":\"Type\"}]}"
+        )
+    );
 }

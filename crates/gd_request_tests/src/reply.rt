@@ -25,13 +25,24 @@ fn is_guid(alloc: Global, place: Id, wanted: &str) -> bool {
 
 #[test]
 fn prints_a_guid(rt: HostRuntime) {
-    assert!(rt; is_guid(rt.alloc(), Id(1_048_575), "#000000000000000100000000000fffff"));
+    assert!(rt;
+        is_guid(
+            rt.alloc(),
+            Id(1_048_575),
+            "#000000000000000100000000000fffff"
+        )
+    );
 }
 
 #[test]
 fn prints_an_answer(rt: HostRuntime) {
     let line = ok_line(rt.alloc(), 1, 0, Json::Null);
-    assert!(rt; is_line(line, b"{\"code\":\"/api/status/ok\",\"dateline\":1,\"line\":0,\"result\":null}"));
+    assert!(rt;
+        is_line(
+            line,
+            b"{\"code\":\"/api/status/ok\",\"dateline\":1,\"line\":0,\"result\":null}"
+        )
+    );
 }
 
 #[test]
@@ -41,19 +52,34 @@ fn prints_a_refusal(rt: HostRuntime) {
         count: 4_194_304,
     };
     let line = err_line(rt.alloc(), 9, 2, &refusal);
-    assert!(rt; is_line(line, b"{\"code\":\"/api/status/error\",\"dateline\":9,\"error\":\"Full\",\"info\":{\"count\":4194304,\"what\":\"requests\"},\"line\":2}"));
+    assert!(rt;
+        is_line(
+            line,
+            b"{\"code\":\"/api/status/error\",\"dateline\":9,\"error\":\"Full\",\"info\":{\"count\":4194304,\"what\":\"requests\"},\"line\":2}"
+        )
+    );
 }
 
 #[test]
 fn prints_a_refusal_without_a_dateline(rt: HostRuntime) {
     let line = err_line_plain(rt.alloc(), 2, &Refusal::LineTooLong);
-    assert!(rt; is_line(line, b"{\"code\":\"/api/status/error\",\"error\":\"LineTooLong\",\"info\":{},\"line\":2}"));
+    assert!(rt;
+        is_line(
+            line,
+            b"{\"code\":\"/api/status/error\",\"error\":\"LineTooLong\",\"info\":{},\"line\":2}"
+        )
+    );
 }
 
 #[test]
 fn prints_want_of_memory(rt: HostRuntime) {
     let line = memory_line(rt.alloc(), 3);
-    assert!(rt; is_line(line, b"{\"code\":\"/api/status/error\",\"error\":\"Memory\",\"info\":{},\"line\":3}"));
+    assert!(rt;
+        is_line(
+            line,
+            b"{\"code\":\"/api/status/error\",\"error\":\"Memory\",\"info\":{},\"line\":3}"
+        )
+    );
 }
 
 #[test]

@@ -9,11 +9,7 @@ use gd_prim::Primitive;
 use gd_store::view::View;
 
 /// The primitive at a place, if there is one.
-pub fn prim_at<'a, L>(
-    view: &View<'a>,
-    place: Id,
-    steps: &mut Steps<L>,
-) -> Option<&'a Primitive>
+pub fn prim_at<'a, L>(view: &View<'a>, place: Id, steps: &mut Steps<L>) -> Option<&'a Primitive>
     ensures prim { option_map (λ prim. prim.now) result ≡ slice_get (prims_of view.now) place }
     ensures work { steps.new ≤ steps.old + 1 }
     ensures later { steps.old ≤ steps.new }
