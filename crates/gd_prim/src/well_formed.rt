@@ -44,12 +44,41 @@ fn refers_back(place: usize, prim: &Primitive) -> bool
         && refers_below(place, prim.previous)
 }
 
+/// A list of primitives that a batch is to follow.
+pub trait Prior {
+    ghost use Rattle.std.specs.Prelude.{List};
+    ghost use Rattle.gd_prim.specs.declared.Primitive.{Primitive};
+
+    ghost prims: { Self → List Primitive };
+
+    /// How many primitives there are.
+    fn count(&self) -> usize
+        ensures { result ≡ length (prims self.now) };
+
+    /// Whether some primitive of the list has this place as `previous`.
+    fn is_succeeded(&self, place: Id) -> bool
+        ensures { result ≡ graph.has_successor (prims self.now) place };
+}
+
+/// A plain list, all of which is looked at for a successor.
+impl Prior for &[Primitive] {
+    ghost prims = { λ list. list.now };
+
+    fn count(&self) -> usize {
+        self.len()
+    }
+
+    fn is_succeeded(&self, place: Id) -> bool {
+        has_successor(self, place)
+    }
+}
+
 /// Whether the previous primitive, if there is one, is current in the two lists one behind the other.
-fn succeeds_current(prior: &[Primitive], earlier: &[Primitive], previous: Option<Id>) -> bool
-    ensures { result ≡ defined.succeeds_current (prior.now ++ earlier.now) previous }
+fn succeeds_current<P: Prior>(prior: &P, earlier: &[Primitive], previous: Option<Id>) -> bool
+    ensures { result ≡ defined.succeeds_current (P.prims prior.now ++ earlier.now) previous }
 {
     match previous {
-        Some(place) => !has_successor(prior, place) && !has_successor(earlier, place),
+        Some(place) => !prior.is_succeeded(place) && !has_successor(earlier, place),
         None => true,
     }
 }
@@ -75,13 +104,13 @@ fn may_hold(value: &Datum) -> bool
 }
 
 /// Whether the primitive keeps the rules behind the two lists, of which the second is what its batch has before it.
-fn is_well_placed(prior: &[Primitive], earlier: &[Primitive], moment: u64, prim: &Primitive) -> bool
-    requires prior { length prior.now ≤ 2_097_151 }
+fn is_well_placed<P: Prior>(prior: &P, earlier: &[Primitive], moment: u64, prim: &Primitive) -> bool
+    requires prior { length (P.prims prior.now) ≤ 2_097_151 }
     requires earlier { length earlier.now ≤ 4_096 }
-    ensures keeps { result ≡ defined.is_well_placed (prior.now ++ earlier.now) moment (length earlier.now) prim.now }
+    ensures keeps { result ≡ defined.is_well_placed (P.prims prior.now ++ earlier.now) moment (length earlier.now) prim.now }
     ensures room { IsTrue result → length earlier.now < 4_096 }
 {
-    let place = prior.len() + earlier.len();
+    let place = prior.count() + earlier.len();
     refers_back(place, prim)
         && (prim.live || prim.previous.is_some())
         && may_hold(&prim.value)
@@ -90,6 +119,23 @@ fn is_well_placed(prior: &[Primitive], earlier: &[Primitive], moment: u64, prim:
         && place < MAX_PRIMS
         && earlier.len() < MAX_BATCH
         && succeeds_current(prior, earlier, prim.previous)
+}
+
+/// The same as `is_well_formed` of any list that says which of its primitives have a successor. For each primitive that
+/// has a `previous` it asks the list once, and looks at what the batch has before it. It takes no memory.
+pub fn is_well_formed_behind<P: Prior>(prior: &P, batch: &Batch) -> Result<(), BadBatch>
+    requires { length (P.prims prior.now) ≤ 2_097_151 }
+    ensures { MatchResult result (λ _. defined.bad_place (P.prims prior.now) batch.now ≡ None)
+        (λ bad. defined.bad_place (P.prims prior.now) batch.now ≡ Some bad.place) }
+{
+    let prims = batch.prims.as_slice();
+    for (i, prim) in prims.iter().enumerate() {
+        if !is_well_placed(prior, &prims[..i], batch.moment, prim) {
+            let place = (prior.count() + i) as u32;
+            return Err(BadBatch { place: Id(place) });
+        }
+    }
+    Ok(())
 }
 
 /// Whether the batch may follow these primitives. `BadBatch`: some primitive of it breaks a rule, with the place of the
@@ -102,12 +148,5 @@ pub fn is_well_formed(prior: &[Primitive], batch: &Batch) -> Result<(), BadBatch
     ensures { MatchResult result (λ _. defined.bad_place prior.now batch.now ≡ None)
         (λ bad. defined.bad_place prior.now batch.now ≡ Some bad.place) }
 {
-    let prims = batch.prims.as_slice();
-    for (i, prim) in prims.iter().enumerate() {
-        if !is_well_placed(prior, &prims[..i], batch.moment, prim) {
-            let place = (prior.len() + i) as u32;
-            return Err(BadBatch { place: Id(place) });
-        }
-    }
-    Ok(())
+    is_well_formed_behind(&prior, batch)
 }

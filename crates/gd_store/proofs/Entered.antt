@@ -1,6 +1,6 @@
 -- What entering a primitive, and taking it out again, means for the indexes.
 use Rattle.std.proofs.Common.{◌≡◌, ◌≢◌, ℕ, zero, suc, ◌+◌, ◌-◌, ◌<◌, ◌≤◌, Bool, true, false, List, [], ◌∷◌, ◌++◌, length, take, refl, sym, ap, ◌∙◌, subst, append_assoc, length-append, ⊎_elim, arith}
-use Rattle.std.specs.Prelude.{Option, None, Some, ◌&&◌, ◌==◌, nat_lt, bytes_eq, if◌then◌else◌, slice_get, slice_set, IsSome}
+use Rattle.std.specs.Prelude.{Option, None, Some, ◌&&◌, ◌==◌, bytes_eq, if◌then◌else◌, slice_get, is_some, IsSome}
 use Rattle.std.specs.Option.{option_map_or, option_or}
 use Rattle.std.proofs.lemmas.Bool.{eq-eqb, ne_eqb, ltb-true, not-true, cases_eq}
 use Rattle.std.proofs.lemmas.List.{append-nil}
@@ -11,14 +11,13 @@ use Rattle.gd_prim.specs.declared.Primitive.{Primitive}
 use Rattle.gd_prim.specs.Live.{refers, has_successor, successor, places_where, is_text, text_of}
 use Rattle.gd_prim.specs.WellFormed.{refers_below, succeeds_current}
 use Rattle.gd_postings.specs.Postings.{IsAbove, ids_below}
-use Rattle.gd_versions.specs.Versions.{successor_of, with_places}
-use Rattle.gd_versions.proofs.Laws.{written_here, written_elsewhere, reserved, within_slots}
+use Rattle.gd_versions.specs.Versions.{successor_of}
 use Rattle.gd_keys.specs.Keys.{KeysValue, key_list, object_list, is_under, is_of, with_entry, without_entry, last_of, SameIds}
 use Rattle.gd_store.specs.Keys.{is_key_link, is_key_of}
-use Rattle.gd_store.specs.Indexed.{may_come, may_enter, AreSuccessors, AreKeys, AreIndexes, IsIndexed}
+use Rattle.gd_store.specs.Indexed.{may_come, may_enter, AreSuccessors, AreKeys, AreIndexes, IsIndexed, below_end}
 use Rattle.gd_store.specs.declared.indexes.Indexes.{Indexes}
 use Rattle.gd_store.proofs.Follows.{first, second, both}
-use Rattle.gd_store.proofs.Places.{places_more, places_above, places_front, first_more, first_none, first_front}
+use Rattle.gd_store.proofs.Places.{places_more, places_above, places_front, first_more, first_none, first_cut, first_some}
 
 -- ---- fronts of a list
 
@@ -291,25 +290,26 @@ previous_small prims place p q is there entered previous =
     omega (arith, comes_below (take place prims) p q (comes prims place p entered is) previous, length_front prims place (omega arith))
 
 -- and has no successor before it
-pub previous_vacant : (old new : List (Option ℕ)) (prims : List Primitive) (place : ℕ) (p : Primitive) (q n : ℕ) → slice_get prims place ≡ Some p → may_enter [] prims ≡ true → p.previous ≡ Some q
-    → AreSuccessors old (take place prims) → new ≡ with_places n old → successor_of new q ≡ None
-previous_vacant old new prims place p q n is entered previous are room =
-    ap (λ vs. successor_of vs q) room ∙ reserved n old q ∙ are q ∙ comes_vacant (take place prims) p q (comes prims place p entered is) previous
+pub previous_vacant : (old new : List (Option ℕ)) (prims : List Primitive) (place : ℕ) (p : Primitive) (q : ℕ) → slice_get prims place ≡ Some p → may_enter [] prims ≡ true → p.previous ≡ Some q
+    → AreSuccessors old (take place prims) → ((r : ℕ) → successor_of new r ≡ successor_of old r) → successor_of new q ≡ None
+previous_vacant old new prims place p q is entered previous are same =
+    same q ∙ are q ∙ comes_vacant (take place prims) p q (comes prims place p entered is) previous
 
-pub versions_entered : (old mid new : List (Option ℕ)) (prims : List Primitive) (place : ℕ) (p : Primitive) (q n : ℕ)
+pub versions_entered : (old mid new : List (Option ℕ)) (prims : List Primitive) (place : ℕ) (p : Primitive) (q : ℕ)
     → slice_get prims place ≡ Some p → place < length prims → may_enter [] prims ≡ true → p.previous ≡ Some q
-    → AreSuccessors old (take place prims) → mid ≡ with_places n old → q < length mid → new ≡ slice_set mid q (Some place) → AreSuccessors new (take (place + 1) prims)
-versions_entered old mid new prims place p q n is there entered previous are room within set r = ⊎_elim here elsewhere (cases_eq r q)
+    → AreSuccessors old (take place prims) → ((r : ℕ) → successor_of mid r ≡ successor_of old r)
+    → ((r : ℕ) → successor_of new r ≡ (if r == q then Some place else successor_of mid r)) → AreSuccessors new (take (place + 1) prims)
+versions_entered old mid new prims place p q is there entered previous are room set r = ⊎_elim here elsewhere (cases_eq r q)
   where
     here : r ≡ q → successor_of new r ≡ successor (take (place + 1) prims) r
     here same =
-        ap (successor_of new) same ∙ ap (λ vs. successor_of vs q) set ∙ written_here mid q (Some place) within
+        set r ∙ ap (λ b. if b then Some place else successor_of mid r) (eq-eqb r q same)
         ∙ sym (successors_here (take place prims) p q place (comes prims place p entered is) previous (sym (length_front prims place (omega arith))))
         ∙ ap (λ ps. successor ps q) (sym (front_more prims place p is)) ∙ ap (successor (take (place + 1) prims)) (sym same)
 
     elsewhere : (r ≡ q → ⊥) → successor_of new r ≡ successor (take (place + 1) prims) r
     elsewhere apart =
-        ap (λ vs. successor_of vs r) set ∙ written_elsewhere mid q (Some place) r apart ∙ ap (λ vs. successor_of vs r) room ∙ reserved n old r ∙ are r
+        set r ∙ ap (λ b. if b then Some place else successor_of mid r) (ne_eqb r q apart) ∙ room r ∙ are r
         ∙ sym (successors_elsewhere (take place prims) p q r previous apart) ∙ ap (λ ps. successor ps r) (sym (front_more prims place p is))
 
 pub versions_passed : (versions : List (Option ℕ)) (prims : List Primitive) (place : ℕ) (p : Primitive) → slice_get prims place ≡ Some p → p.previous ≡ None
@@ -325,21 +325,18 @@ previous_has versions prims place p q is there entered previous are =
     ∙ successors_here (take place prims) p q place (comes prims place p entered is) previous (sym (length_front prims place (omega arith)))
 
 pub versions_taken : (old new : List (Option ℕ)) (prims : List Primitive) (place : ℕ) (p : Primitive) (q : ℕ)
-    → slice_get prims place ≡ Some p → place < length prims → may_enter [] prims ≡ true → p.previous ≡ Some q
-    → AreSuccessors old (take (place + 1) prims) → new ≡ slice_set old q None → AreSuccessors new (take place prims)
-versions_taken old new prims place p q is there entered previous are set r = ⊎_elim here elsewhere (cases_eq r q)
+    → slice_get prims place ≡ Some p → may_enter [] prims ≡ true → p.previous ≡ Some q
+    → AreSuccessors old (take (place + 1) prims) → ((r : ℕ) → successor_of new r ≡ (if r == q then None else successor_of old r)) → AreSuccessors new (take place prims)
+versions_taken old new prims place p q is entered previous are set r = ⊎_elim here elsewhere (cases_eq r q)
   where
-    within : q < length old
-    within = within_slots old q place (previous_has old prims place p q is there entered previous are)
-
     here : r ≡ q → successor_of new r ≡ successor (take place prims) r
     here same =
-        ap (successor_of new) same ∙ ap (λ vs. successor_of vs q) set ∙ written_here old q None within
+        set r ∙ ap (λ b. if b then None else successor_of old r) (eq-eqb r q same)
         ∙ sym (comes_vacant (take place prims) p q (comes prims place p entered is) previous) ∙ ap (successor (take place prims)) (sym same)
 
     elsewhere : (r ≡ q → ⊥) → successor_of new r ≡ successor (take place prims) r
     elsewhere apart =
-        ap (λ vs. successor_of vs r) set ∙ written_elsewhere old q None r apart ∙ are r
+        set r ∙ ap (λ b. if b then None else successor_of old r) (ne_eqb r q apart) ∙ are r
         ∙ ap (λ ps. successor ps r) (front_more prims place p is) ∙ successors_elsewhere (take place prims) p q r previous apart
 
 pub versions_left : (versions : List (Option ℕ)) (prims : List Primitive) (place : ℕ) (p : Primitive) → slice_get prims place ≡ Some p → p.previous ≡ None
@@ -359,13 +356,16 @@ below_where t n prims ids is =
     let here : n ≡ 0 + n = omega arith in
     ap (ids_below n) is ∙ ap (λ m. ids_below m (places_where t prims)) here ∙ places_front t 0 n prims
 
--- a place has a successor in a front where its successor is less than the front's end
+-- the successor of a place in a front is that in the list, where it is less than the front's end
 pub below_successor : (n : ℕ) (prims : List Primitive) (versions : List (Option ℕ)) (place : ℕ) → AreSuccessors versions prims
-    → option_map_or (λ next. nat_lt next n) (successor_of versions place) false ≡ has_successor (take n prims) place
+    → below_end n (successor_of versions place) ≡ successor (take n prims) place
 below_successor n prims versions place are =
     let here : n ≡ 0 + n = omega arith in
-    ap (λ o. option_map_or (λ next. nat_lt next n) o false) (are place) ∙ ap (λ m. option_map_or (λ next. nat_lt next m) (successor prims place) false) here
-    ∙ first_front (λ e. refers e.previous place) 0 n prims
+    ap (below_end n) (are place) ∙ ap (λ m. below_end m (successor prims place)) here ∙ first_cut (λ e. refers e.previous place) 0 n prims
+
+-- a place has a successor where some primitive has it as previous one
+pub some_successor : (prims : List Primitive) (versions : List (Option ℕ)) (place : ℕ) → AreSuccessors versions prims → is_some (successor_of versions place) ≡ has_successor prims place
+some_successor prims versions place are = ap is_some (are place) ∙ first_some (λ e. refers e.previous place) 0 prims
 
 -- ---- a list with its indexes
 

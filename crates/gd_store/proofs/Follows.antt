@@ -77,7 +77,7 @@ room prims count more h =
     record { batch = batch.0; prims_fit = fits.0; text = text.0; requests = requests.0 }
 
 -- the test that it is nothing
-nothing : {A : Type 0} (o : Option A) → not (is_some o) ≡ true → o ≡ None
+pub nothing : {A : Type 0} (o : Option A) → not (is_some o) ≡ true → o ≡ None
 nothing None h = refl
 nothing (Some x) h = cc
 
@@ -91,7 +91,7 @@ small_batch prims count (c ∷ bs) zero b h is =
 small_batch prims count (c ∷ bs) (suc n) b h is = small_batch (prims ++ c.prims) (count + 1) bs n b (second _ _ h) is
 
 -- a test failed on the way
-not_bad : (b : Bool) (o : Option ℕ) (n : ℕ) → (if b then o else Some n) ≡ None → (b ≡ true) × (o ≡ None)
+pub not_bad : (b : Bool) (o : Option ℕ) (n : ℕ) → (if b then o else Some n) ≡ None → (b ≡ true) × (o ≡ None)
 not_bad true o n h = (refl, h)
 not_bad false o n h = cc
 

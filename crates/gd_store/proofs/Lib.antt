@@ -1,7 +1,9 @@
 pub mod Cut
 pub mod Entered
 pub mod Follows
+pub mod Held
 pub mod History
 pub mod Places
 pub mod Rising
 pub mod Stored
+pub mod Within

@@ -1,13 +1,14 @@
 -- The places that a test finds: behind one primitive more, and in a front of the list.
 use Rattle.std.proofs.Common.{◌≡◌, ℕ, zero, suc, ◌+◌, ◌<◌, ◌≤◌, Bool, true, false, cond, List, [], ◌∷◌, ◌++◌, length, take, refl, sym, ap, ◌∙◌, subst, arith}
-use Rattle.std.specs.Prelude.{Option, None, Some, option_map, nat_lt, find, if◌then◌else◌, ◌||◌}
-use Rattle.std.specs.Option.{option_map_or, option_or}
+use Rattle.std.specs.Prelude.{Option, None, Some, option_map, is_some, nat_lt, find, if◌then◌else◌, ◌||◌}
+use Rattle.std.specs.Option.{option_or}
 use Rattle.std.specs.List.{cons_option, enumerate_from, list_any}
 use Rattle.std.proofs.lemmas.Bool.{lt-ltb, le-ltb}
 use Rattle.gd_prim.specs.declared.Primitive.{Primitive}
 use Rattle.gd_postings.specs.Postings.{IsAbove, ids_below}
 use Rattle.gd_keys.specs.Keys.{with_entry}
 use Rattle.gd_store.specs.Scan.{places_from}
+use Rattle.gd_store.specs.Indexed.{below_end}
 
 -- the place, where the test passed
 abbrev found : Bool → ℕ → Option ℕ
@@ -102,34 +103,54 @@ first_more t k (x ∷ xs) y =
     ∙ ap (λ o. option_or o (found (t y) (k + 1 + length xs))) (sym (first_cons t k x xs))
     ∙ ap (λ n. option_or (first_place t k (x ∷ xs)) (found (t y) n)) same
 
--- a place, less than the end
-abbrev pub is_below : ℕ → Option ℕ → Bool
-is_below end o = option_map_or (λ s. nat_lt s end) o false
+cut_less : (b : Bool) (k end : ℕ) (o : Option ℕ) → nat_lt k end ≡ true → below_end end (cond b (Some k) o) ≡ cond b (Some k) (below_end end o)
+cut_less true k end o less = ap (λ c. cond c (Some k) None) less
+cut_less false k end o less = refl
 
-below_cond : (b : Bool) (k end : ℕ) (o : Option ℕ) → nat_lt k end ≡ true → is_below end (cond b (Some k) o) ≡ (b || is_below end o)
-below_cond true k end o less = less
-below_cond false k end o less = refl
+cut_more : (b : Bool) (k end : ℕ) (o : Option ℕ) → nat_lt k end ≡ false → below_end end o ≡ None → below_end end (cond b (Some k) o) ≡ None
+cut_more true k end o more rest = ap (λ c. cond c (Some k) None) more
+cut_more false k end o more rest = rest
 
-not_below : (b : Bool) (k end : ℕ) (o : Option ℕ) → nat_lt k end ≡ false → is_below end o ≡ false → is_below end (cond b (Some k) o) ≡ false
-not_below true k end o more rest = more
-not_below false k end o more rest = rest
-
-first_above : (t : Primitive → Bool) (k end : ℕ) (xs : List Primitive) → end ≤ k → is_below end (first_place t k xs) ≡ false
+first_above : (t : Primitive → Bool) (k end : ℕ) (xs : List Primitive) → end ≤ k → below_end end (first_place t k xs) ≡ None
 first_above t k end [] up = refl
 first_above t k end (x ∷ xs) up =
-    ap (is_below end) (first_cons t k x xs)
-    ∙ not_below (t x) k end (first_place t (k + 1) xs) (le-ltb k end up) (first_above t (k + 1) end xs (omega arith))
+    ap (below_end end) (first_cons t k x xs)
+    ∙ cut_more (t x) k end (first_place t (k + 1) xs) (le-ltb k end up) (first_above t (k + 1) end xs (omega arith))
 
--- a front of the list has a place that passes exactly where the first one is less than its end
-pub first_front : (t : Primitive → Bool) (k n : ℕ) (xs : List Primitive) → is_below (k + n) (first_place t k xs) ≡ list_any t (take n xs)
-first_front t k zero xs = first_above t k (k + 0) xs (omega arith)
-first_front t k (suc n) [] = refl
-first_front t k (suc n) (x ∷ xs) =
+-- the first place in a front of the list is that in the list, where it is less than the front's end
+pub first_cut : (t : Primitive → Bool) (k n : ℕ) (xs : List Primitive) → below_end (k + n) (first_place t k xs) ≡ first_place t k (take n xs)
+first_cut t k zero xs = first_above t k (k + 0) xs (omega arith)
+first_cut t k (suc n) [] = refl
+first_cut t k (suc n) (x ∷ xs) =
     let same : k + suc n ≡ k + 1 + n = omega arith in
-    ap (is_below (k + suc n)) (first_cons t k x xs)
-    ∙ below_cond (t x) k (k + suc n) (first_place t (k + 1) xs) (lt-ltb k (k + suc n) (omega arith))
-    ∙ ap (λ m. t x || is_below m (first_place t (k + 1) xs)) same
-    ∙ ap (λ b. t x || b) (first_front t (k + 1) n xs)
+    ap (below_end (k + suc n)) (first_cons t k x xs)
+    ∙ cut_less (t x) k (k + suc n) (first_place t (k + 1) xs) (lt-ltb k (k + suc n) (omega arith))
+    ∙ ap (λ m. cond (t x) (Some k) (below_end m (first_place t (k + 1) xs))) same
+    ∙ ap (cond (t x) (Some k)) (first_cut t (k + 1) n xs)
+    ∙ sym (first_cons t k x (take n xs))
+
+some_cond : (b : Bool) (k : ℕ) (o : Option ℕ) → is_some (cond b (Some k) o) ≡ (b || is_some o)
+some_cond true k o = refl
+some_cond false k o = refl
+
+-- there is one exactly where some primitive passes
+pub first_some : (t : Primitive → Bool) (k : ℕ) (xs : List Primitive) → is_some (first_place t k xs) ≡ list_any t xs
+first_some t k [] = refl
+first_some t k (x ∷ xs) =
+    ap is_some (first_cons t k x xs) ∙ some_cond (t x) k (first_place t (k + 1) xs) ∙ ap (λ b. t x || b) (first_some t (k + 1) xs)
+
+first_of_two : (b : Bool) (k m x : ℕ) (o : Option ℕ) → cond b (Some k) o ≡ Some x → k < m → (o ≡ Some x → x < m) → x < m
+first_of_two true k m x o is less rest =
+    let same : k ≡ x = cc in
+    omega (arith, less, same)
+first_of_two false k m x o is less rest = rest is
+
+-- it is less than the end of the list
+pub first_within : (t : Primitive → Bool) (k : ℕ) (xs : List Primitive) (x : ℕ) → first_place t k xs ≡ Some x → x < k + length xs
+first_within t k [] x is = cc
+first_within t k (y ∷ ys) x is =
+    first_of_two (t y) k (k + suc (length ys)) x (first_place t (k + 1) ys) (sym (first_cons t k y ys) ∙ is) (omega arith)
+    (λ found. let rest : x < k + 1 + length ys = first_within t (k + 1) ys x found in omega (arith, rest))
 
 none_first : (b : Bool) (k : ℕ) (o : Option ℕ) (r : Bool) → (b || r) ≡ false → (r ≡ false → o ≡ None) → cond b (Some k) o ≡ None
 none_first true k o r h rest = cc

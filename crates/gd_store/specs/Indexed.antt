@@ -1,5 +1,5 @@
 -- What the indexes of a list of primitives hold.
-use Rattle.std.specs.Prelude.{◌≡◌, ℕ, List, [], ◌∷◌, ◌++◌, length, Bool, true, ◌&&◌, nat_lt, Option, IsTrue}
+use Rattle.std.specs.Prelude.{◌≡◌, ℕ, List, [], ◌∷◌, ◌++◌, length, Bool, true, ◌&&◌, nat_lt, Option, Some, None, option_and_then, if◌then◌else◌, IsTrue}
 use Rattle.gd_prim.specs.declared.Primitive.{Primitive}
 use Rattle.gd_prim.specs.Limits.{max_prims}
 use Rattle.gd_prim.specs.Live.{successor, places_where}
@@ -36,3 +36,7 @@ pub record AreIndexes (indexes : Indexes) (prims : List Primitive) : Type 0 wher
 pub record IsIndexed (indexes : Indexes) (prims : List Primitive) : Type 0 where
   pub entered : IsTrue (may_enter [] prims)
   pub indexed : AreIndexes indexes prims
+
+-- the place, if it is below an end
+abbrev pub below_end : ℕ → Option ℕ → Option ℕ
+below_end end place = option_and_then (λ p. if nat_lt p end then Some p else None) place

@@ -2,3 +2,4 @@ pub mod Indexed
 pub mod Keys
 pub mod Scan
 pub mod Stored
+pub mod Viewed

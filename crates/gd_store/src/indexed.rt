@@ -1,6 +1,7 @@
 //! A list of primitives with its indexes.
 ghost use Rattle.std.specs.Prelude.{◌≡◌, ◌+◌, ◌≤◌, [], ◌++◌, None, length, take, slice_get, IsTrue, IfOk, OnOk, OnErr};
 ghost use Rattle.std.specs.List.{last_or};
+ghost use Rattle.gd_base.specs.Counts.{Rose};
 ghost use Rattle.gd_prim.specs.Live as graph;
 ghost use Rattle.gd_store.specs.Indexed.{may_enter};
 ghost use Rattle.gd_store.specs.Keys.{is_key_link, is_key_of};
@@ -10,6 +11,7 @@ use gd_base::id::Id;
 use gd_base::memory::Memory;
 use gd_base::steps::Steps;
 use gd_base::text::Text;
+use gd_prim::well_formed::Prior;
 use gd_prim::{Primitive, Prims};
 use std::alloc::Global;
 use std::marker::Model;
@@ -92,13 +94,23 @@ impl IndexedPrims {
         IndexedPrims::new(alloc, self.prims.copy()?)
     }
 
+    /// The primitive below `end` that has this place as `previous`, if there is one.
+    pub(crate) fn successor<L>(&self, id: Id, end: u32, steps: &mut Steps<L>) -> Option<Id>
+        ensures successor { result ≡ graph.successor (take end self.now) id }
+        ensures work { steps.new ≤ steps.old + 1 }
+        ensures later { steps.old ≤ steps.new }
+        ensures counted { Rose steps.old steps.new }
+    {
+        self.indexes.successor(id, Id(end), steps)
+    }
+
     /// Whether some primitive below `end` has this place as `previous`.
     fn has_successor<L>(&self, id: Id, end: u32, steps: &mut Steps<L>) -> bool
         ensures found { result ≡ graph.has_successor (take end self.now) id }
         ensures work { steps.new ≤ steps.old + 1 }
         ensures later { steps.old ≤ steps.new }
     {
-        self.indexes.has_successor(id, Id(end), steps)
+        self.successor(id, end, steps).is_some()
     }
 
     /// The first `end` primitives.
@@ -116,6 +128,7 @@ impl IndexedPrims {
         ensures live { result ≡ graph.is_live (take end self.now) id }
         ensures work { steps.new ≤ steps.old + 2 }
         ensures later { steps.old ≤ steps.new }
+        ensures counted { Rose steps.old steps.new }
     {
         steps.tick();
         match self.below(end).get(id.place() as usize) {
@@ -133,18 +146,35 @@ impl IndexedPrims {
         steps: &mut Steps<L>,
     ) -> Option<Id>
         ensures last { result ≡ last_or None (graph.places_where (is_key_link namespace key.now) (take end self.now)) }
-        ensures work { steps.new ≤ steps.old + 23 }
+        ensures work { steps.new ≤ steps.old + 24 }
         ensures later { steps.old ≤ steps.new }
+        ensures counted { Rose steps.old steps.new }
     {
+        steps.tick();
         self.indexes.last_key_link(namespace, key, Id(end), steps)
     }
 
     /// The k-th place below `end`, from 0 in rising order, whose primitive is a key link of this object, if there is one.
     pub(crate) fn key_of<L>(&self, object: Id, k: u32, end: u32, steps: &mut Steps<L>) -> Option<Id>
         ensures place { result ≡ slice_get (graph.places_where (is_key_of object) (take end self.now)) k }
-        ensures work { steps.new ≤ steps.old + 1 }
+        ensures work { steps.new ≤ steps.old + 2 }
         ensures later { steps.old ≤ steps.new }
+        ensures counted { Rose steps.old steps.new }
     {
+        steps.tick();
         self.indexes.key_of(object, k, Id(end), steps)
+    }
+}
+
+/// What succeeds a place is looked up.
+impl Prior for IndexedPrims {
+    ghost prims = { λ list. list };
+
+    fn count(&self) -> usize {
+        self.len()
+    }
+
+    fn is_succeeded(&self, place: Id) -> bool {
+        self.indexes.is_succeeded(place)
     }
 }

@@ -1,12 +1,13 @@
 //! Indexes of a list of primitives: which one succeeds which, and where the key links are.
-ghost use Rattle.std.specs.Prelude.{◌≡◌, ◌+◌, ◌<◌, ◌≤◌, [], None, length, take, slice_get, nat_lt, false, IsTrue, OnOk, OnErr};
+ghost use Rattle.std.specs.Prelude.{◌≡◌, ◌+◌, ◌<◌, ◌≤◌, [], None, length, take, slice_get, is_some, IsTrue, OnOk, OnErr};
 ghost use Rattle.std.specs.List.{last_or};
-ghost use Rattle.std.specs.Option.{option_copied, option_map_or};
+ghost use Rattle.std.specs.Option.{option_copied};
+ghost use Rattle.gd_base.specs.Counts.{Rose};
 ghost use Rattle.gd_prim.specs.Live as graph;
 ghost use Rattle.gd_postings.specs.Postings.{ids_below};
 ghost use Rattle.gd_versions.specs.Versions.{successor_of};
 ghost use Rattle.gd_keys.specs.Keys.{key_list, object_list};
-ghost use Rattle.gd_store.specs.Indexed.{AreSuccessors, AreKeys, AreIndexes, may_enter};
+ghost use Rattle.gd_store.specs.Indexed.{AreSuccessors, AreKeys, AreIndexes, may_enter, below_end};
 
 use crate::below::{at_below, last_below};
 use gd_base::datum::Datum;
@@ -198,15 +199,24 @@ impl Indexes {
         at_below(self.keys.by_object(object), k, end, steps)
     }
 
-    /// Whether the successor of a place is below `end`.
-    pub(crate) fn has_successor<L>(&self, id: Id, end: Id, steps: &mut Steps<L>) -> bool
-        ensures found { result ≡ option_map_or (λ next. nat_lt next end) (successor_of self.now.versions id) false }
+    /// The successor of a place, if it is below `end`.
+    pub(crate) fn successor<L>(&self, id: Id, end: Id, steps: &mut Steps<L>) -> Option<Id>
+        ensures successor { result ≡ below_end end (successor_of self.now.versions id) }
         ensures work { steps.new ≤ steps.old + 1 }
         ensures later { steps.old ≤ steps.new }
+        ensures counted { Rose steps.old steps.new }
     {
         match self.versions.successor(id, steps) {
-            Some(next) => next < end,
-            None => false,
+            Some(next) if next < end => Some(next),
+            _ => None,
         }
+    }
+
+    /// Whether some primitive of the list has this place as `previous`.
+    pub(crate) fn is_succeeded(&self, id: Id) -> bool
+        ensures { result ≡ is_some (successor_of self.now.versions id) }
+    {
+        let mut steps: Steps<()> = Steps::new();
+        self.versions.successor(id, &mut steps).is_some()
     }
 }

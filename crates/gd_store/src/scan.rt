@@ -1,5 +1,6 @@
 //! Scans of a list of primitives. Each primitive that is looked at is a step.
 ghost use Rattle.std.specs.Prelude.{◌≡◌, ◌+◌, ◌<◌, ◌≤◌, Some, length, slice_get};
+ghost use Rattle.gd_base.specs.Counts.{Rose};
 ghost use Rattle.gd_prim.specs.End.{end_of, places_with};
 ghost use Rattle.gd_prim.specs.Live as graph;
 
@@ -21,6 +22,7 @@ pub(crate) fn count_with<L>(prims: &[Primitive], end: End, node: Id, steps: &mut
     ensures count { result ≡ length (places_with end node prims.now) }
     ensures work { steps.new ≤ steps.old + length prims.now }
     ensures later { steps.old ≤ steps.new }
+    ensures counted { 0 < length prims.now → Rose steps.old steps.new }
 {
     let mut count = 0;
     for prim in prims {
@@ -45,6 +47,7 @@ pub(crate) fn place_with<L>(
     ensures place { slice_get (places_with end node prims.now) k ≡ Some result }
     ensures work { steps.new ≤ steps.old + length prims.now }
     ensures later { steps.old ≤ steps.new }
+    ensures counted { Rose steps.old steps.new }
 {
     let mut left = k;
     for (place, prim) in prims.iter().enumerate() {

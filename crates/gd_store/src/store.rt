@@ -1,7 +1,8 @@
 //! The store.
 ghost use Rattle.std.specs.Prelude.{◌≡◌, ◌^◌, ◌+◌, ◌-◌, ◌<◌, ◌≤◌, [], ◌∷◌, ◌++◌, None, Some, length, take, drop, slice_get, option_map, sum_by, nat_lt, if◌then◌else◌, Ok, Err, IsTrue, IfOk, IfErr, OnOk, OnErr, MatchResult};
-ghost use Rattle.gd_prim.specs.History.{prims_of, prims_at, is_history};
 ghost use Rattle.std.specs.List.{last_or};
+ghost use Rattle.gd_base.specs.Counts.{Rose};
+ghost use Rattle.gd_prim.specs.History.{prims_of, prims_at, is_history, AreHeld, AreTimed};
 ghost use Rattle.gd_prim.specs.Live as graph;
 ghost use Rattle.gd_prim.specs.WellFormed.{bad_place};
 ghost use Rattle.gd_prim.specs.Limits.{limits, first_full, text_bytes};
@@ -17,7 +18,7 @@ use gd_base::steps::Steps;
 use gd_base::text::Text;
 use gd_prim::builtin::builtin;
 use gd_prim::limits::{MAX_BATCH, MAX_PRIMS, MAX_REQUESTS, MAX_TEXT, batch_text_bytes};
-use gd_prim::well_formed::{BadBatch, is_well_formed};
+use gd_prim::well_formed::{BadBatch, is_well_formed_behind};
 use gd_prim::{Batch, Primitive, Prims, What};
 use std::alloc::Global;
 use std::marker::Model;
@@ -169,6 +170,10 @@ impl Store {
 
         // Each batch may follow those before it, within the limits.
         ensures history { IsTrue (is_history self.now) }
+
+        // Each primitive may hold its value, and is of a moment of a clock.
+        ensures held { AreHeld (prims_of self.now) }
+        ensures timed { AreTimed (prims_of self.now) }
     {
         self.prims.as_slice()
     }
@@ -182,13 +187,13 @@ impl Store {
         self.text
     }
 
-    /// Whether the batch may follow what is stored, as `is_well_formed` says of the list of all primitives. It takes no
-    /// memory.
+    /// Whether the batch may follow what is stored, as `is_well_formed` says of the list of all primitives. What succeeds
+    /// a place is looked up, not searched for. It takes no memory.
     pub fn check(&self, batch: &Batch) -> Result<(), BadBatch>
         ensures { MatchResult result (λ _. bad_place (prims_of self.now) batch.now ≡ None)
             (λ bad. bad_place (prims_of self.now) batch.now ≡ Some bad.place) }
     {
-        is_well_formed(self.primitives(), batch)
+        is_well_formed_behind(&self.prims, batch)
     }
 
     /// Whether no limit is passed with the batch. `Full`: one is, with the number that would be reached. The limits are
@@ -287,10 +292,13 @@ impl Store {
 
     /// The primitives below a dateline: the built-in ones and those of the first `dateline` requests.
     #[tactic(auto, using(crate::proofs::History::front_of_all))]
-    pub(crate) fn below(&self, dateline: u32) -> &[Primitive]
+    pub fn below(&self, dateline: u32) -> &[Primitive]
         requires { dateline ≤ length self.now }
         ensures below { result.now ≡ prims_at self.now dateline }
         ensures few { length result.now ≤ 2_097_151 }
+
+        // They are a front of all primitives.
+        ensures front { take (length (prims_at self.now dateline)) (prims_of self.now) ≡ prims_at self.now dateline }
     {
         &self.primitives()[..self.end(dateline) as usize]
     }
@@ -302,8 +310,20 @@ impl Store {
         ensures live { result ≡ graph.is_live (prims_at self.now dateline) id }
         ensures work { steps.new ≤ steps.old + 2 }
         ensures later { steps.old ≤ steps.new }
+        ensures counted { Rose steps.old steps.new }
     {
         self.prims.is_live(id, self.end(dateline), steps)
+    }
+
+    /// The primitive below a dateline that has this place as `previous`.
+    pub(crate) fn successor<L>(&self, dateline: u32, id: Id, steps: &mut Steps<L>) -> Option<Id>
+        requires { dateline ≤ length self.now }
+        ensures successor { result ≡ graph.successor (prims_at self.now dateline) id }
+        ensures work { steps.new ≤ steps.old + 1 }
+        ensures later { steps.old ≤ steps.new }
+        ensures counted { Rose steps.old steps.new }
+    {
+        self.prims.successor(id, self.end(dateline), steps)
     }
 
     /// The last place below a dateline whose primitive is a link of this key into this namespace.
@@ -316,8 +336,9 @@ impl Store {
     ) -> Option<Id>
         requires { dateline ≤ length self.now }
         ensures last { result ≡ last_or None (graph.places_where (is_key_link namespace key.now) (prims_at self.now dateline)) }
-        ensures work { steps.new ≤ steps.old + 23 }
+        ensures work { steps.new ≤ steps.old + 24 }
         ensures later { steps.old ≤ steps.new }
+        ensures counted { Rose steps.old steps.new }
     {
         self.prims
             .last_key_link(namespace, key, self.end(dateline), steps)
@@ -333,8 +354,9 @@ impl Store {
     ) -> Option<Id>
         requires { dateline ≤ length self.now }
         ensures place { result ≡ slice_get (graph.places_where (is_key_of object) (prims_at self.now dateline)) k }
-        ensures work { steps.new ≤ steps.old + 1 }
+        ensures work { steps.new ≤ steps.old + 2 }
         ensures later { steps.old ≤ steps.new }
+        ensures counted { Rose steps.old steps.new }
     {
         self.prims.key_of(object, k, self.end(dateline), steps)
     }
@@ -344,6 +366,7 @@ impl Store {
         requires { dateline ≤ length self.now }
         ensures { result ≡ take dateline self.now }
     {
+        prove!(dateline <= self.requests());
         View::new(self, dateline)
     }
 }

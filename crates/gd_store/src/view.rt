@@ -1,9 +1,11 @@
 //! Views of a store.
-ghost use Rattle.std.specs.Prelude.{◌≡◌, ◌+◌, ◌<◌, ◌≤◌, None, Some, length, take, slice_get};
+ghost use Rattle.std.specs.Prelude.{◌≡◌, ◌+◌, ◌-◌, ◌^◌, ◌<◌, ◌≤◌, None, Some, length, take, slice_get, min, IfSome, IsTrue};
 ghost use Rattle.std.specs.List.{last_or};
+ghost use Rattle.gd_base.specs.Counts.{Rose};
 ghost use Rattle.gd_prim.specs.End.{places_with};
-ghost use Rattle.gd_prim.specs.History.{prims_of};
+ghost use Rattle.gd_prim.specs.History.{prims_of, is_history, AreHeld, AreTimed};
 ghost use Rattle.gd_prim.specs.Live as graph;
+ghost use Rattle.gd_prim.specs.WellFormed.{may_hold};
 ghost use Rattle.gd_store.specs.Keys.{is_key_link, is_key_of};
 
 use crate::scan::{count_with, place_with};
@@ -23,20 +25,22 @@ pub struct View<'a> {
 }
 
 impl<'a> Model for View<'a> {
-    ghost use Rattle.std.specs.Prelude.{List, length, take, ◌≤◌};
+    ghost use Rattle.std.specs.Prelude.{List, take};
     ghost use Rattle.gd_prim.specs.declared.Batch.{Batch};
+    ghost use Rattle.gd_store.specs.Viewed.{IsViewed};
 
     ghost Value = { List Batch };
 
     ghost view = { λ v. take v.dateline v.store.now };
 
-    ghost invariant = { λ v. v.dateline ≤ length v.store.now };
+    ghost invariant = { λ v. IsViewed v.dateline v.store.now };
 }
 
 impl<'a> View<'a> {
     /// The store as it was at this dateline.
     pub(crate) fn new(store: &'a Store, dateline: u32) -> View<'a>
-        requires { dateline ≤ length store.now }
+        requires there { dateline ≤ length store.now }
+        requires history { IsTrue (is_history store.now) }
         ensures { result ≡ take dateline store.now }
     {
         View { store, dateline }
@@ -44,7 +48,11 @@ impl<'a> View<'a> {
 
     /// How many requests lie below the view.
     pub fn dateline(&self) -> u32
-        ensures { result ≡ length self.now }
+        ensures dateline { result ≡ length self.now }
+        ensures few { result ≤ 4_194_303 }
+
+        // Each batch may follow those before it, within the limits.
+        ensures history { IsTrue (is_history self.now) }
     {
         self.dateline
     }
@@ -64,6 +72,9 @@ impl<'a> View<'a> {
     fn prims(&self) -> &'a [Primitive]
         ensures prims { result.now ≡ prims_of self.now }
         ensures few { length result.now ≤ 2_097_151 }
+        ensures some { 0 < length result.now }
+        ensures held { AreHeld result.now }
+        ensures timed { AreTimed result.now }
     {
         let store = self.store;
         store.below(self.dateline)
@@ -71,7 +82,12 @@ impl<'a> View<'a> {
 
     /// The first place above the dateline.
     pub fn end(&self) -> Id
-        ensures { result ≡ length (prims_of self.now) }
+        ensures end { result ≡ length (prims_of self.now) }
+        ensures few { result ≤ 2_097_151 }
+
+        // Each primitive below it may hold its value, and is of a moment of a clock.
+        ensures held { AreHeld (prims_of self.now) }
+        ensures timed { AreTimed (prims_of self.now) }
     {
         Id(self.prims().len() as u32)
     }
@@ -80,8 +96,11 @@ impl<'a> View<'a> {
     pub fn primitive<L>(&self, id: Id, steps: &mut Steps<L>) -> &'a Primitive
         requires { id < length (prims_of self.now) }
         ensures primitive { slice_get (prims_of self.now) id ≡ Some result.now }
+        ensures held { IsTrue (may_hold result.now.value) }
+        ensures timed { result.now.moment ≤ 253_402_300_799_999 }
         ensures work { steps.new ≤ steps.old + 1 }
         ensures later { steps.old ≤ steps.new }
+        ensures counted { steps.new ≡ min (steps.old + 1) (2 ^ 64 - 1) }
     {
         steps.tick();
         &self.prims()[id.place() as usize]
@@ -93,20 +112,34 @@ impl<'a> View<'a> {
         ensures live { result ≡ graph.is_live (prims_of self.now) id }
         ensures work { steps.new ≤ steps.old + 2 }
         ensures later { steps.old ≤ steps.new }
+        ensures counted { Rose steps.old steps.new }
     {
         let store = self.store;
         store.is_live(self.dateline, id, steps)
+    }
+
+    /// The primitive below the dateline that has this place as `previous`, if there is one. It takes no memory.
+    pub fn successor<L>(&self, id: Id, steps: &mut Steps<L>) -> Option<Id>
+        ensures successor { result ≡ graph.successor (prims_of self.now) id }
+        ensures below { IfSome result (λ next. next < length (prims_of self.now)) }
+        ensures work { steps.new ≤ steps.old + 1 }
+        ensures later { steps.old ≤ steps.new }
+        ensures counted { Rose steps.old steps.new }
+    {
+        let store = self.store;
+        store.successor(self.dateline, id, steps)
     }
 
     /// The last place below the dateline whose primitive is a link of this key into this namespace, if there is one. The
     /// link may be dead: whether it is live is the caller's to ask. It takes no memory.
     pub fn by_key<L>(&self, namespace: Id, key: &Text, steps: &mut Steps<L>) -> Option<Id>
         ensures last { result ≡ last_or None (graph.places_where (is_key_link namespace key.now) (prims_of self.now)) }
+        ensures below { IfSome result (λ link. link < length (prims_of self.now)) }
         ensures work { steps.new ≤ steps.old + 24 }
         ensures later { steps.old ≤ steps.new }
+        ensures counted { Rose steps.old steps.new }
     {
         let store = self.store;
-        steps.tick();
         store.last_key_link(self.dateline, namespace, key, steps)
     }
 
@@ -114,11 +147,12 @@ impl<'a> View<'a> {
     /// is one. The link may be dead. It takes no memory.
     pub fn key_at<L>(&self, object: Id, k: u32, steps: &mut Steps<L>) -> Option<Id>
         ensures place { result ≡ slice_get (graph.places_where (is_key_of object) (prims_of self.now)) k }
+        ensures below { IfSome result (λ link. link < length (prims_of self.now)) }
         ensures work { steps.new ≤ steps.old + 3 }
         ensures later { steps.old ≤ steps.new }
+        ensures counted { Rose steps.old steps.new }
     {
         let store = self.store;
-        steps.tick();
         store.key_of(self.dateline, object, k, steps)
     }
 
@@ -127,6 +161,7 @@ impl<'a> View<'a> {
         ensures len { result ≡ length (places_with end node (prims_of self.now)) }
         ensures work { steps.new ≤ steps.old + length (prims_of self.now) }
         ensures later { steps.old ≤ steps.new }
+        ensures counted { Rose steps.old steps.new }
     {
         count_with(self.prims(), end, node, steps)
     }
@@ -135,8 +170,10 @@ impl<'a> View<'a> {
     pub fn list_at<L>(&self, end: End, node: Id, k: u32, steps: &mut Steps<L>) -> Id
         requires { k < length (places_with end node (prims_of self.now)) }
         ensures place { slice_get (places_with end node (prims_of self.now)) k ≡ Some result }
+        ensures below { result < length (prims_of self.now) }
         ensures work { steps.new ≤ steps.old + length (prims_of self.now) }
         ensures later { steps.old ≤ steps.new }
+        ensures counted { Rose steps.old steps.new }
     {
         place_with(self.prims(), end, node, k, steps)
     }

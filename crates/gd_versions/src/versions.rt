@@ -1,5 +1,5 @@
 //! Which primitive succeeds which.
-ghost use Rattle.std.specs.Prelude.{◌≡◌, ◌+◌, ◌-◌, ◌^◌, ◌<◌, ◌≤◌, [], None, Some, length, min, slice_set, OnOk, OnErr, IsSome};
+ghost use Rattle.std.specs.Prelude.{◌≡◌, ℕ, ◌+◌, ◌-◌, ◌^◌, ◌<◌, ◌≤◌, ◌==◌, [], None, Some, length, min, slice_set, if◌then◌else◌, OnOk, OnErr, IfSome, IsSome};
 ghost use Rattle.gd_versions.specs.Versions.{successor_of, with_places};
 
 use crate::slot::Slot;
@@ -38,6 +38,8 @@ impl Versions {
     /// leaves all as it was, and comes only where there were fewer slots.
     pub fn reserve(&mut self, places: u32) -> Result<(), Memory>
         ensures ok { OnOk result (self.new ≡ with_places places self.old) }
+        ensures successors { (place : ℕ) → successor_of self.new place ≡ successor_of self.old place }
+        ensures room { OnOk result (places ≤ length self.new) }
         ensures err { OnErr result (self.new ≡ self.old) }
         ensures short { OnErr result (length self.old < places) }
     {
@@ -53,7 +55,8 @@ impl Versions {
         requires within { previous < length self.old }
         requires vacant { successor_of self.old previous ≡ None }
         requires small { successor < 2_097_151 }
-        ensures { self.new ≡ slice_set self.old previous (Some successor) }
+        ensures slots { self.new ≡ slice_set self.old previous (Some successor) }
+        ensures successors { (place : ℕ) → successor_of self.new place ≡ (if place == previous then Some successor else successor_of self.old place) }
     {
         self.slots[previous.0 as usize] = Slot::of(successor);
     }
@@ -61,7 +64,8 @@ impl Versions {
     /// Takes the successor of a place that has one away again. It takes no memory.
     pub fn retract(&mut self, previous: Id)
         requires { IsSome (successor_of self.old previous) }
-        ensures { self.new ≡ slice_set self.old previous None }
+        ensures slots { self.new ≡ slice_set self.old previous None }
+        ensures successors { (place : ℕ) → successor_of self.new place ≡ (if place == previous then None else successor_of self.old place) }
     {
         self.slots[previous.0 as usize] = Slot::vacant();
     }

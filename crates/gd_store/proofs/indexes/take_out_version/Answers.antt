@@ -13,7 +13,7 @@ pub returns-in-Some : goal.returns-in-Some
 returns-in-Some c =
     versions_taken c.args.versions.now c.retract.new.self c.args.prims.now c.args.place c.index-prims-place.result c.in-Some.previous
     (slice_get_read c.args.prims.now (length c.args.prims.now) c.args.place c.index-prims-place.result refl c.requires.there c.index-prims-place.is)
-    c.requires.there c.requires.entered c.in-Some.is c.requires.before c.retract.ensures
+    c.requires.entered c.in-Some.is c.requires.before c.retract.ensures.successors
 
 pub returns-in_default : goal.returns-in_default
 returns-in_default c =

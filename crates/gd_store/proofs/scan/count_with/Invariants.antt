@@ -1,4 +1,5 @@
-use Rattle.std.proofs.Common.{◌≡◌, ◌+◌, ◌≤◌, length, drop}
+use Rattle.std.proofs.Common.{◌≡◌, ◌+◌, ◌<◌, ◌≤◌, length, drop}
+use Rattle.gd_base.specs.Counts.{Rose}
 use Rattle.gd_prim.specs.Live.{refers}
 use Rattle.gd_prim.specs.End.{end_of, places_with}
 use Rattle.gd_store.specs.Scan.{places_from}
@@ -10,4 +11,5 @@ invariant-loop-prim g l = record {
   small : l.count ≤ l.prim-index;
   work : l.steps ≤ l.initial.steps + l.prim-index;
   later : l.initial.steps ≤ l.steps;
+  counted : 0 < l.prim-index → Rose l.initial.steps l.steps;
 }

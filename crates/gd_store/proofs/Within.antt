@@ -1,0 +1,58 @@
+-- The places that a test finds are below the end of the list.
+use Rattle.std.proofs.Common.{◌≡◌, ℕ, zero, suc, ◌+◌, ◌<◌, Bool, List, [], ◌∷◌, length, refl, ◌∙◌, sym, arith}
+use Rattle.std.specs.Prelude.{Option, None, Some, slice_get, IfSome}
+use Rattle.std.specs.List.{last_or}
+use Rattle.gd_prim.specs.declared.Primitive.{Primitive}
+use Rattle.gd_prim.specs.Live.{refers, places_where, successor}
+use Rattle.gd_postings.specs.Postings.{IsAbove}
+use Rattle.gd_store.proofs.Entered.{above_where}
+use Rattle.gd_store.proofs.Places.{first_within}
+
+-- one of a list is less than what is above the list
+get_less : (ids : List ℕ) (m k x : ℕ) → IsAbove ids m → slice_get ids k ≡ Some x → x < m
+get_less [] m k x above is = cc
+get_less (y ∷ ys) m zero x above is =
+    let same : y ≡ x = cc in
+    let less : y < m = above 0 (omega arith) in
+    omega (arith, less, same)
+get_less (y ∷ ys) m (suc k) x above is = get_less ys m k x (λ i there. above (suc i) (omega (arith, there))) is
+
+-- so is the last
+last_less : (o : Option ℕ) (ids : List ℕ) (m x : ℕ) → (o ≡ Some x → x < m) → IsAbove ids m → last_or o ids ≡ Some x → x < m
+last_less o [] m x first above is = first is
+last_less o (y ∷ ys) m x first above is = last_less (Some y) ys m x here (λ i there. above (suc i) (omega (arith, there))) is
+  where
+    here : Some y ≡ Some x → x < m
+    here found =
+        let same : y ≡ x = cc in
+        let less : y < m = above 0 (omega arith) in
+        omega (arith, less, same)
+
+no_first : (x m : ℕ) → None ≡ Some x → x < m
+no_first x m is = cc
+
+-- where there is one it is less
+if_some : (o : Option ℕ) (m : ℕ) → ((x : ℕ) → o ≡ Some x → x < m) → IfSome o (λ id. id < m)
+if_some None m all = tt
+if_some (Some x) m all = all x refl
+
+-- the k-th place that passes
+pub place_within : (t : Primitive → Bool) (prims : List Primitive) (k x : ℕ) → slice_get (places_where t prims) k ≡ Some x → x < length prims
+place_within t prims k x is = get_less (places_where t prims) (length prims) k x (above_where t prims (places_where t prims) (length prims) refl refl) is
+
+pub kth_within : (t : Primitive → Bool) (prims : List Primitive) (k : ℕ) (o : Option ℕ) → o ≡ slice_get (places_where t prims) k → IfSome o (λ id. id < length prims)
+kth_within t prims k o is = if_some o (length prims) (λ x some. place_within t prims k x (sym is ∙ some))
+
+-- the last
+pub last_within : (t : Primitive → Bool) (prims : List Primitive) (o : Option ℕ) → o ≡ last_or None (places_where t prims) → IfSome o (λ id. id < length prims)
+last_within t prims o is =
+    if_some o (length prims) (λ x some. last_less None (places_where t prims) (length prims) x (no_first x (length prims)) (above_where t prims (places_where t prims) (length prims) refl refl) (sym is ∙ some))
+
+-- the successor of a place
+pub successor_within : (prims : List Primitive) (place : ℕ) (o : Option ℕ) → o ≡ successor prims place → IfSome o (λ id. id < length prims)
+successor_within prims place o is = if_some o (length prims) less
+  where
+    less : (x : ℕ) → o ≡ Some x → x < length prims
+    less x some =
+        let within : x < 0 + length prims = first_within (λ p. refers p.previous place) 0 prims x (sym is ∙ some) in
+        omega (arith, within)
