@@ -11,10 +11,10 @@ def text(value):
     return b"\x01" + struct.pack(">H", len(data)) + data
 
 
-def primitive(left=None, right=None, typ=None, value=b"\x00"):
-    """A live primitive of its batch's moment, without scope, previous and name."""
+def primitive(left=None, right=None, typ=None, value=b"\x00", previous=None):
+    """A live primitive of its batch's moment, without scope and name."""
     flags, references = 64, b""
-    for flag, reference in ((1, left), (2, right), (4, typ)):
+    for flag, reference in ((1, left), (2, right), (4, typ), (16, previous)):
         if reference is not None:
             flags |= flag
             references += struct.pack(">I", reference)
@@ -49,6 +49,10 @@ class StoreFile:
     def named(self, name):
         """An object with a name."""
         return self.add([primitive(), primitive(left=self.place, typ=NAME, value=text(name))])
+
+    def renamed(self, named, name):
+        """Another name of the object at this place, in place of the one that it was made with."""
+        return self.add([primitive(left=named, typ=NAME, value=text(name), previous=named + 1)])
 
     def keyed(self, namespace, key, name):
         """An object with a key in a namespace and a name."""
