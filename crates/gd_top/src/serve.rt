@@ -34,7 +34,7 @@ fn serve<S: Source, K: Sink, F: Shelf, C: Clock>(
     ensures back { (path : List ℕ) → F.is_out shelf.new path ≡ false }
     ensures prints { let path = option_map (λ t. t.now) file.entry in
         Prints result (C.may clock.old) (BeginsWith (F.content shelf.old) path)
-        (EndsWith (F.content shelf.old) (F.images shelf.new) path)
+        (EndsWith (C.may clock.old) (F.content shelf.old) (F.images shelf.new) path)
         (RoseBy (F.faults shelf.old) (F.faults shelf.new)) (IsIdle source.old source.new sink.old sink.new)
         (S.left source.old) (S.left source.new) (K.held sink.old) (K.held sink.new) }
     ensures causes { let path = option_map (λ t. t.now) file.entry in
@@ -82,26 +82,26 @@ pub fn graphd<S: Source, K: Sink, F: Shelf, C: Clock + Drop>(
     // and the shelf counted at least as many faults as lines tell.
     ensures done { result ≡ Status.Done → IfSome (S.left source.old) (Serves (C.may clock)
         (BeginsWith (F.content shelf.old) (path_of words.now))
-        (EndsWith (F.content shelf.old) (F.images shelf.new) (path_of words.now))
+        (EndsWith (C.may clock) (F.content shelf.old) (F.images shelf.new) (path_of words.now))
         (RoseBy (F.faults shelf.old) (F.faults shelf.new)) (K.held sink.old) (K.held sink.new)) }
     ensures at_end { result ≡ Status.Done → IsAtEnd (S.left source.new) }
 
     // Where the input could not be read further, the lines of whole rounds were answered so, and no other.
     ensures rounds { (result ≡ Status.ReadFault) ⊎ (result ≡ Status.TooMuch) → IfSome (S.left source.old)
         (ServesRounds (C.may clock) (BeginsWith (F.content shelf.old) (path_of words.now))
-        (EndsWith (F.content shelf.old) (F.images shelf.new) (path_of words.now))
+        (EndsWith (C.may clock) (F.content shelf.old) (F.images shelf.new) (path_of words.now))
         (RoseBy (F.faults shelf.old) (F.faults shelf.new)) (K.held sink.old) (K.held sink.new)) }
 
     // At any stop what was printed is a front of an output that is explained so. Without memory the run may also not
     // have begun.
     ensures front { is_stopped result ≡ true → IfSome (S.left source.old)
         (ServesFront (C.may clock) (BeginsWith (F.content shelf.old) (path_of words.now))
-        (EndsWith (F.content shelf.old) (F.images shelf.new) (path_of words.now))
+        (EndsWith (C.may clock) (F.content shelf.old) (F.images shelf.new) (path_of words.now))
         (RoseBy (F.faults shelf.old) (F.faults shelf.new)) (K.held sink.old) (K.held sink.new)) }
     ensures memory { result ≡ Status.Memory → IsIdle source.old source.new sink.old sink.new
         ⊎ IfSome (S.left source.old)
         (ServesFront (C.may clock) (BeginsWith (F.content shelf.old) (path_of words.now))
-        (EndsWith (F.content shelf.old) (F.images shelf.new) (path_of words.now))
+        (EndsWith (C.may clock) (F.content shelf.old) (F.images shelf.new) (path_of words.now))
         (RoseBy (F.faults shelf.old) (F.faults shelf.new)) (K.held sink.old) (K.held sink.new)) }
 
     // Each fault has its cause.

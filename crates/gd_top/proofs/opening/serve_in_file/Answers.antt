@@ -11,9 +11,10 @@ returns-in-Ok-clause-prints g c =
     let left = g.F.Shelf.images c.put_back.new.self c.args.path.now in
     let old = g.F.Shelf.faults c.args.shelf.now in
     let new = g.F.Shelf.faults c.put_back.new.self in
-    prints_weaker (g.C.Clock.may c.args.clock.now) (Loads told) (Loads kept) (Leaves told (g.F.Device.Disk.images c.serve_over-status.result.1)) (Leaves kept left) (RoseBy before after) (RoseBy old new)
+    let may = g.C.Clock.may c.args.clock.now in
+    prints_weaker may (Loads told) (Loads kept) (Leaves may told (g.F.Device.Disk.images c.serve_over-status.result.1)) (Leaves may kept left) (RoseBy before after) (RoseBy old new)
     (loads_same kept told c.in-Ok.ensures.holds.content)
-    (leaves_same kept told (g.F.Device.Disk.images c.serve_over-status.result.1) left c.in-Ok.ensures.holds.content c.put_back.ensures.holds.fewer)
+    (leaves_same may kept told (g.F.Device.Disk.images c.serve_over-status.result.1) left c.in-Ok.ensures.holds.content c.put_back.ensures.holds.fewer)
     (λ n. rose_added old (g.F.Shelf.faults c.open_at.new.self) new before after n c.open_at.ensures.later c.in-Ok.ensures.count c.put_back.ensures.count)
     c.serve_over-status.result.0 _ _ _ _ _ _ (λ idle. idle) c.serve_over-status.ensures.prints
 

@@ -9,10 +9,11 @@ pub returns-in-Ok-clause-prints : goal.returns-in-Ok-clause-prints
 returns-in-Ok-clause-prints g c =
     let told = g.D.Disk.content c.args.disk in
     let last = c.serve_all-status.new.serving in
-    prints_weaker (g.C.Clock.may c.args.clock.now) (λ loaded. loaded ≡ c.new-serving.result.progress.batches) (Loads told) (HoldsAs last.progress) (Leaves told (g.D.Disk.images c.into_disk.result))
+    let may = g.C.Clock.may c.args.clock.now in
+    prints_weaker may (λ loaded. loaded ≡ c.new-serving.result.progress.batches) (Loads told) (HoldsAs may last.progress) (Leaves may told (g.D.Disk.images c.into_disk.result))
     (RoseBy (g.D.Disk.faults c.new-serving.result.log.disk) (g.D.Disk.faults last.log.disk)) (RoseBy (g.D.Disk.faults c.args.disk) (g.D.Disk.faults c.into_disk.result))
     (loads told c.in-Ok.store c.new-serving.result.progress c.new-serving.ensures.progress c.in-Ok.ensures.means)
-    (leaves g.D.Disk.content g.D.Disk.images told c.in-Ok.log c.in-Ok.store c.new-serving.result last c.into_disk.result c.new-serving.ensures.log c.new-serving.ensures.progress c.in-Ok.ensures.no_doubt c.in-Ok.ensures.held
+    (leaves may g.D.Disk.content g.D.Disk.images told c.in-Ok.log c.in-Ok.store c.new-serving.result last c.into_disk.result c.new-serving.ensures.log c.new-serving.ensures.progress c.in-Ok.ensures.no_doubt c.in-Ok.ensures.held
     c.serve_all-status.ensures.backed c.into_disk.ensures)
     (λ n. rose_within (g.D.Disk.faults c.new-serving.result.log.disk) (g.D.Disk.faults last.log.disk) (g.D.Disk.faults c.args.disk) (g.D.Disk.faults c.into_disk.result) n
     (subst (λ (log : Journaled _). g.D.Disk.faults c.args.disk ≤ g.D.Disk.faults log.disk) (sym c.new-serving.ensures.log) c.in-Ok.ensures.later) (omega (arith, ap g.D.Disk.faults c.into_disk.ensures)))
