@@ -1,5 +1,5 @@
 -- What is kept of a file.
-use Rattle.std.proofs.Common.{◌≡◌, ℕ, List, [], ◌∷◌, ◌++◌, Option, Some, None, refl, sym, subst, ap, ◌∙◌, inl, inr, ⊎_elim, append_assoc}
+use Rattle.std.proofs.Common.{◌≡◌, ℕ, List, [], ◌∷◌, ◌++◌, Option, Some, None, refl, sym, subst, ap, ◌∙◌, inl, inr, ⊎_elim, append-nil, append_assoc}
 use Rattle.std.specs.Prelude.{IsSome}
 use Rattle.std.specs.Option.{ForSome}
 use Rattle.gd_prim.specs.declared.Batch.{Batch}
@@ -10,6 +10,7 @@ use Rattle.gd_serving.specs.Served.{Progress, Doubt, Grows}
 use Rattle.gd_serving.specs.Running.{Running, StandsForRun, IsBacked}
 use Rattle.gd_journal.specs.State.{Journaled}
 use Rattle.gd_log.specs.State.{IsHeld}
+use Rattle.gd_log.specs.Opening.{IsReadSame, IsKept}
 use Rattle.gd_top.proofs.Settled.{backed, backed_first, told}
 use Rattle.gd_top.specs.Kept.{IsLeft, KeepsFile, Keeps}
 
@@ -69,6 +70,24 @@ keeps_run {D} content images reads first last log store old new log_is progress_
       subst (λ (d : D). IsSome (content d)) (sym same) (told content images new now),
       λ c left. backed content images new now c (subst (λ (d : D). images d c) same left),
     ))
+
+-- what reads the same is left
+left_of_same : (before after : List ℕ) → IsReadSame before after → IsLeft before after
+left_of_same before after (inl same) = inl same
+left_of_same before after (inr (bs, was, now)) = inr (bs, [], was, subst (StandsFor after) (sym (append-nil bs)) now)
+
+-- where it was not opened
+pub keeps_refused : {D : Type 0} (content : D → Option (List ℕ)) (moment : D → ℕ) (images : D → List ℕ → Type 0) (images_since : D → ℕ → List ℕ → Type 0) (old new : D)
+    → ForSome (content old) (λ file. IsKept content moment images images_since file old new) → Keeps (content old) (content new) (images old) (images new)
+keeps_refused content moment images images_since old new keeps file is =
+    let kept = keeps file is in
+    record {
+      told = kept.told;
+      read = λ later now. left_of_same file later (kept.read later now);
+      images = λ c now. let (d, was, same) = kept.stops c now in (d, was, left_of_same d c same);
+      not_store = λ means. (kept.left (λ bs stands. sound file bs not_store stands means no_store)).now;
+      damaged = λ at means. (kept.left (λ bs stands. sound file bs (damaged at) stands means (no_damage at))).now;
+    }
 
 -- a device that was taken from a shelf and put back
 pub keeps_shelved : (told now told_out now_out : Option (List ℕ)) (images_old images_new images_out images_back : List ℕ → Type 0) → HoldsSame told told_out images_old images_out → HoldsSame now_out now images_back images_new

@@ -427,6 +427,20 @@ held_on may p q texts old mid new a b answers kept = record {
   rose = answers.rose;
 }
 
+pub front_held : (may : ℕ → Bool) (p q : Progress) (texts : List (List ℕ)) (old mid new : Option (List ℕ)) (a b : ℕ) → AnswersFront may p q texts old mid a b → Keeps mid new → AnswersFront may p q texts old new a b
+front_held may p q texts old mid new a b front kept = record {
+  output = front.output;
+  rest = front.rest;
+  last = front.last;
+  replies = front.replies;
+  whole = front.whole;
+  many = front.many;
+  same = front.same;
+  goes = front.goes;
+  gained = Appends-kept old mid new front.output front.gained kept;
+  rose = front.rose;
+}
+
 -- the element that a loop is at
 pub item_is : (ls : List RoundLine) (i : ℕ) (l : RoundLine) → i < length ls → l ≡ get_or ls i l → slice_get ls i ≡ Some l
 item_is ls i l within is = slice_get-get_or ls i l within ∙ ap Some (sym is)

@@ -5,6 +5,7 @@ ghost use Rattle.gd_bytes.specs.Disk.{HoldsSame};
 ghost use Rattle.gd_top.specs.Ends.{IsIdle, Prints, Causes};
 ghost use Rattle.gd_serving.specs.Served.{Grows};
 ghost use Rattle.gd_serving.specs.Running.{IsBacked};
+ghost use Rattle.gd_top.specs.Kept.{Keeps};
 ghost use Rattle.gd_top.specs.Held.{Loads, Leaves, MayMean, DoesMean, RoseBy, HoldsAs, IsAtStart};
 
 use crate::rounds::serve_rounds;
@@ -62,6 +63,7 @@ fn serve_over<D: Disk, S: Source, K: Sink, C: Clock>(
         (Rose (K.faults sink.old) (K.faults sink.new)) (Rose (D.faults disk) (D.faults result.1))
         (IfSome (S.left source.old) (λ input. 2 ^ 40 ≤ length input)) (MayMean (D.content disk)) (DoesMean (D.content disk)) }
     ensures used { result.0 ≢ Status.Usage }
+    ensures kept { Keeps (D.content disk) (D.content result.1) (D.images disk) (D.images result.1) }
     ensures later { D.faults disk ≤ D.faults result.1 }
 {
     match open_log(alloc, disk) {
@@ -94,6 +96,8 @@ pub fn serve_in_file<S: Source, K: Sink, F: Shelf, C: Clock>(
         (IfSome (S.left source.old) (λ input. 2 ^ 40 ≤ length input))
         (MayMean (F.content shelf.old path.now)) (DoesMean (F.content shelf.old path.now)) }
     ensures used { result ≢ Status.Usage }
+    ensures kept { Keeps (F.content shelf.old path.now) (F.content shelf.new path.now)
+        (F.images shelf.old path.now) (F.images shelf.new path.now) }
     ensures others { (other : List ℕ) → other ≢ path.now → HoldsSame (F.content shelf.old other) (F.content shelf.new other)
         (F.images shelf.old other) (F.images shelf.new other) }
 {

@@ -60,7 +60,7 @@ fn answer_lines<D: Disk, K: Sink, C: Clock>(
     Ok(())
 }
 
-/// Answers the lines of a round, prints what they come to and flushes.
+/// Answers the lines of a round, prints what they come to and sends it on, also where a line was not answered in full.
 fn answer_round<D: Disk, K: Sink, C: Clock>(
     alloc: Global,
     serving: &mut Serving<D>,
@@ -73,8 +73,10 @@ fn answer_round<D: Disk, K: Sink, C: Clock>(
     ensures { AnswersLines D.content D.images D.faults lines.now serving.old serving.new (C.may clock.old) (C.may clock.new)
         (K.held sink.old) (K.held sink.new) (K.faults sink.old) (K.faults sink.new) result }
 {
-    answer_lines(alloc, serving, clock, lines, sink)?;
-    sink.flush()?;
+    let answered = answer_lines(alloc, serving, clock, lines, sink);
+    let sent = sink.flush();
+    answered?;
+    sent?;
     Ok(())
 }
 

@@ -7,6 +7,7 @@ ghost use Rattle.gd_bytes.specs.File.{not_store, damaged};
 ghost use Rattle.gd_words.specs.Words.{command_of};
 ghost use Rattle.gd_top.specs.Ends.{IsHindered, IsIdle, Prints, Causes, is_refused, is_stopped};
 ghost use Rattle.gd_top.specs.Held.{BeginsWith, EndsWith, MayMeanAt, DoesMean, IsSoundAt, RoseBy, told_at};
+ghost use Rattle.gd_top.specs.Kept.{Keeps};
 ghost use Rattle.gd_top.specs.Serves.{Serves, ServesFront, ServesRounds};
 ghost use Rattle.gd_top.specs.Words.{path_of};
 
@@ -43,6 +44,8 @@ fn serve<S: Source, K: Sink, F: Shelf, C: Clock>(
         (IfSome (S.left source.old) (λ input. 2 ^ 40 ≤ length input))
         (MayMeanAt (F.content shelf.old) path) (DoesMean (told_at (F.content shelf.old) path)) }
     ensures used { result ≢ Status.Usage }
+    ensures kept { (path : List ℕ) → option_map (λ t. t.now) file.entry ≡ Some path
+        → Keeps (F.content shelf.old path) (F.content shelf.new path) (F.images shelf.old path) (F.images shelf.new path) }
     ensures others { (other : List ℕ) → option_map (λ t. t.now) file.entry ≢ Some other
         → HoldsSame (F.content shelf.old other) (F.content shelf.new other)
         (F.images shelf.old other) (F.images shelf.new other) }
@@ -118,6 +121,10 @@ pub fn graphd<S: Source, K: Sink, F: Shelf, C: Clock + Drop>(
         → (result ≡ Status.NotStore) ⊎ IsHindered result }
     ensures damaged_found { (offset : ℕ) → DoesMean (told_at (F.content shelf.old) (path_of words.now)) (damaged offset)
         → (result ≡ Status.Damaged offset) ⊎ IsHindered result }
+
+    // Whatever the status, the file keeps what it stood for, and one that stands for no batches is left alone.
+    ensures kept { (path : List ℕ) → path_of words.now ≡ Some path
+        → Keeps (F.content shelf.old path) (F.content shelf.new path) (F.images shelf.old path) (F.images shelf.new path) }
 
     // The shelf keeps every other path.
     ensures others { (other : List ℕ) → path_of words.now ≢ Some other

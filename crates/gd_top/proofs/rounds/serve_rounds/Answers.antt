@@ -1,6 +1,5 @@
 use Rattle.std.proofs.Common.{◌^◌, ◌∙◌, refl, arith}
 use Rattle.std.specs.Io.KnownBytes.{prepend_known}
-use Rattle.gd_input.proofs.Gathering.{advances_on}
 use Rattle.gd_serving.proofs.Growing.{grows_none, grows_then}
 use Rattle.gd_top.proofs.Printed.{at_err}
 use Rattle.gd_top.proofs.Known.{more_known, done_known, part_known, rounds_known, front_known, taken_known, counted_on, input_too_much, begun}
@@ -42,7 +41,7 @@ returns-in_err-round-clause-front g c = at_err c.from_residual.result
 
 pub returns-in_err-round-clause-too_much : goal.returns-in_err-round-clause-too_much
 returns-in_err-round-clause-too_much g c is =
-    let advances = advances_on _ _ _ _ _ _ c.loop-round.invariant.advances c.read_round.ensures.advances in
+    let advances = c.read_round.ensures.since (g.S.Source.left c.args.source.now) 0 c.loop-round.invariant.advances in
     taken_known (g.S.Source.left c.args.source.now) (prepend_known c.read_round.new.self.bytes (g.S.Source.left c.read_round.new.source)) c.read_round.new.self.consumed (2 ^ 40) advances
     (c.in_err-round.ensures.too_much (input_too_much c.from_residual.result c.in_err-round.field-0.0 _ refl is c.from_residual.ensures.1))
 
@@ -75,7 +74,7 @@ loop-round-preserved g c = record {
       c.loop-round.serving.progress c.answer_round.new.serving.progress (g.S.Source.left c.args.source.now)
       (prepend_known c.loop-round.reader.bytes (g.S.Source.left c.loop-round.source)) (prepend_known c.read_round.new.self.bytes (g.S.Source.left c.read_round.new.source))
       c.in_ok-round.round c.deref.result.now c.deref.ensures.value c.loop-round.invariant.upto c.in_ok-round.ensures.round c.in_ok-answer_round.ensures.all;
-  advances = advances_on _ _ _ _ _ _ c.loop-round.invariant.advances c.read_round.ensures.advances;
+  advances = c.read_round.ensures.since (g.S.Source.left c.args.source.now) 0 c.loop-round.invariant.advances;
   counted = counted_on c.loop-round.serving.progress.lines _ _ c.loop-round.reader.consumed c.read_round.new.self.consumed c.loop-round.invariant.counted (omega (arith, c.deref.ensures.len, c.in_ok-round.ensures.few)) (c.in_ok-round.ensures.forward c.if-round.false) c.in_ok-answer_round.ensures.next;
   grows = grows_then c.args.serving.now.progress.batches c.loop-round.serving.progress.batches c.answer_round.new.serving.progress.batches c.loop-round.invariant.grows c.answer_round.ensures.grows;
   backed = λ held. c.answer_round.ensures.backed (c.loop-round.invariant.backed held);
