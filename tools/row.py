@@ -1,8 +1,9 @@
 #!/usr/bin/env python3
-"""Worked rows: texts of lines and replies, made into lemmas that the definitions compute.
+"""Worked rows: texts of lines and replies, made into lemmas that the definitions compute, and into cases that the
+program crates/gd_rows runs.
 
-    row.py [--check] [TEXT..]   writes the lemmas of each text; without TEXT those of every text in rows/.
-                                --check writes nothing, and fails where a file is not what its text gives
+    row.py [--check] [TEXT..]   writes the lemmas of each text, and the cases; without TEXT the lemmas of every text in
+                                rows/. --check writes nothing, and fails where a file is not what its text gives
     row.py --lines TEXT ROW     prints the lines of a row, as a program reads them
     row.py --replies TEXT ROW   prints its replies, as a program writes them
     row.py --why TEXT ROW       prints a proof file whose refusal shows what the definitions compute in place of
@@ -17,7 +18,9 @@ import sys
 
 TOP = os.path.dirname(os.path.dirname(os.path.abspath(__file__)))
 TEXTS = os.path.join(TOP, "rows")
+CASES = os.path.join(TEXTS, "cases")
 PROOFS = os.path.join(TOP, "crates", "gd_runs", "proofs")
+PROGRAM = os.path.join(TOP, "crates", "gd_rows")
 
 
 class BadText(Exception):
@@ -72,6 +75,9 @@ def rows_of(path):
                     refuse("a reply stands behind its line")
                 rows[-1].pairs.append((waiting, bytes_of(mark, rest)))
                 waiting = None
+            elif mark == "unbuilt":
+                if rows and rows[-1].pairs:
+                    refuse("`unbuilt` stands behind `row NAME`, or before the first row")
             else:
                 refuse("what begins with neither `#`, `row`, `>` nor `<`")
     if waiting is not None:
@@ -79,6 +85,95 @@ def rows_of(path):
     if not header or not rows or not all(row.pairs for row in rows):
         raise BadText("%s: there is no header comment, no row, or a row without lines" % path)
     return header, rows
+
+
+class Case:
+    """A run of the program, or one for each number of its line `each`: what it is given, and what it is to come to."""
+
+    GIVEN = ("words", "word", "clock", "gives", "takes", "last", "fails")
+
+    def __init__(self, name):
+        self.name = name
+        self.given = []
+        self.file = b""
+        self.each = None
+        self.status = "0"
+        self.faults = {}
+        self.output = []
+        self.left = None
+
+    def take(self, mark, rest):
+        """Takes a line of its text, and says whether it is of the form."""
+        if mark[0] == ">" or mark in self.GIVEN:
+            self.given.append("> " + rest if mark == ">" else (mark + " " + rest).rstrip(" "))
+        elif mark == "file":
+            self.file = bytes.fromhex(rest)
+        elif mark == "each":
+            self.each = rest.split()
+        elif mark in ("<", "<x"):
+            self.output.append(b"< " + bytes_of(mark, rest))
+        elif mark == "<cut":
+            self.output.append(b"<cut")
+        elif mark == "status":
+            self.status = rest
+        elif mark == "faults":
+            whose, count = rest.split()
+            self.faults[whose] = count
+        elif mark == "left":
+            self.left = bytes.fromhex(rest)
+        else:
+            return False
+        return True
+
+    def variants(self):
+        """The name of each run, its file, and the call that fails besides."""
+        if self.each is None:
+            return [(self.name, self.file, None)]
+        what, numbers, *digits = self.each
+        first, last = (int(number) for number in numbers.split("-"))
+        numbers = range(first, last + 1)
+        if what == "cut":
+            return [("%s/%d" % (self.name, n), self.file[:n], None) for n in numbers]
+        if what == "byte":
+            return [("%s/%d/%s" % (self.name, n, byte), self.file[:n] + bytes.fromhex(byte) + self.file[n + 1:], None)
+                    for n in numbers for byte in digits]
+        return [("%s/%d" % (self.name, n), self.file, "fails %s %d" % (what, n)) for n in numbers]
+
+    def runs(self):
+        """What the program reads, and what it is to print, for each run."""
+        named = any(line.startswith("word") for line in self.given)
+        for name, file, failing in self.variants():
+            lines = ["row " + name] + ([] if named else ["words serve"])
+            lines += (["file " + file.hex()] if file else []) + ([failing] if failing else []) + self.given
+            yield ("\n".join(lines) + "\n").encode(), self.wanted(name)
+
+    def wanted(self, name):
+        """What the program is to print of the run of this name."""
+        out = [b"row " + name.encode(), b"status " + self.status.encode()]
+        out += [("faults %s %s" % (who, self.faults[who])).encode() for who in ("source", "sink", "shelf") if who in self.faults]
+        out += self.output + ([] if self.left is None else [b"left " + self.left.hex().encode()])
+        return b"\n".join(out) + b"\n"
+
+
+def cases_of(path):
+    """The cases of a text, but for those with the line `unbuilt`, which before the first row speaks of all."""
+    cases, stem, unbuilt = [], os.path.splitext(os.path.basename(path))[0], set()
+    with open(path, encoding="utf-8", newline="\n") as text:
+        for number, line in enumerate(text, 1):
+            mark, _, rest = line.rstrip("\n").partition(" ")
+            if mark == "row":
+                cases.append(Case(stem + "/" + rest))
+            elif mark == "unbuilt":
+                unbuilt.add(cases[-1].name if cases else None)
+            elif mark not in ("", "#") and not (cases and cases[-1].take(mark, rest)):
+                raise BadText("%s:%d: a line is of no form" % (path, number))
+    return [case for case in cases if not unbuilt & {None, case.name}]
+
+
+def program_files():
+    """The input and the output of the program, as all texts give them."""
+    runs = [run for path in texts() + texts(CASES) for case in cases_of(path) for run in case.runs()]
+    return [(os.path.join(PROGRAM, name), b"".join(run[part] for run in runs)) for part, name in enumerate(("stdin", "stdout"))]
 
 
 def quoted(text):
@@ -146,9 +241,9 @@ def row_of(path, name):
     raise BadText("%s: there is no row %s" % (path, name))
 
 
-def texts():
-    """Every text of rows/."""
-    return sorted(os.path.join(TEXTS, name) for name in os.listdir(TEXTS) if name.endswith(".txt"))
+def texts(folder=TEXTS):
+    """Every text of a folder."""
+    return sorted(os.path.join(folder, name) for name in os.listdir(folder) if name.endswith(".txt"))
 
 
 def files(paths):
@@ -156,14 +251,14 @@ def files(paths):
     out = [file_of(path) for path in paths]
     mods = ["-- The worked rows of rows/, written by tools/row.py."] + ["mod " + module_of(path) for path in texts()]
     out.append((os.path.join(PROOFS, "rows.antt"), "\n".join(mods) + "\n"))
-    return out
+    return [(path, content.encode()) for path, content in out] + program_files()
 
 
 def content_of(path):
     """What stands in a file, nothing where there is none."""
     if not os.path.exists(path):
         return None
-    with open(path, encoding="utf-8") as file:
+    with open(path, "rb") as file:
         return file.read()
 
 
@@ -197,7 +292,7 @@ def main():
         print(("is not what its text gives: " if given.check else "wrote ") + os.path.relpath(path, TOP))
         if not given.check:
             os.makedirs(os.path.dirname(path), exist_ok=True)
-            with open(path, "w", encoding="utf-8") as file:
+            with open(path, "wb") as file:
                 file.write(content)
     return 1 if given.check and stale else 0
 

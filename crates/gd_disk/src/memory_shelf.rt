@@ -71,6 +71,13 @@ impl MemoryShelf {
             alloc,
         })
     }
+
+    /// How often the shelf failed, and the devices that were put back.
+    pub fn faults(&self) -> u64
+        ensures { result ≡ self.now.faults }
+    {
+        self.faults
+    }
 }
 
 /// The place of a path's slot.

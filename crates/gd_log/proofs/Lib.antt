@@ -2,3 +2,4 @@ pub mod Meaning
 pub mod Held
 pub mod Replays
 pub mod Opens
+pub mod Absorbs

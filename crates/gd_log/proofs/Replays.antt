@@ -24,11 +24,11 @@ use Rattle.gd_log.proofs.Meaning.{walk_stop, push}
 -- ---- batches one by one
 
 -- the item at a place, and what comes behind it
-next_item : {A : Type 0} (xs : List A) (i : ℕ) (x : A) → i < length xs → x ≡ get_or xs i x → drop i xs ≡ x ∷ drop (i + 1) xs
+pub next_item : {A : Type 0} (xs : List A) (i : ℕ) (x : A) → i < length xs → x ≡ get_or xs i x → drop i xs ≡ x ∷ drop (i + 1) xs
 next_item {A} xs i x lt is = drop-cons xs i x lt ∙ ap (λ (y : A). y ∷ drop (suc i) xs) (sym is) ∙ ap (λ (k : ℕ). x ∷ drop k xs) (sym (add-one i))
 
 -- behind a batch that may follow the others follow as if it were stored
-follow_more : (store : List Batch) (b : Batch) (rest : List Batch) → may_follow (prims_of store) (length store) b ≡ true → all_follow (prims_of store) (length store) (b ∷ rest) ≡ all_follow (prims_of (store ++ b ∷ [])) (length (store ++ b ∷ [])) rest
+pub follow_more : (store : List Batch) (b : Batch) (rest : List Batch) → may_follow (prims_of store) (length store) b ≡ true → all_follow (prims_of store) (length store) (b ∷ rest) ≡ all_follow (prims_of (store ++ b ∷ [])) (length (store ++ b ∷ [])) rest
 follow_more store b rest may =
     let behind : prims_of store ++ b.prims ≡ prims_of (store ++ b ∷ []) = sym (prims_of-append store (b ∷ []) ∙ ap (λ (l : List Primitive). prims_of store ++ l) (append-nil b.prims)) in
     let count : length store + 1 ≡ length (store ++ b ∷ []) = omega (arith, length-append store (b ∷ [])) in
@@ -81,7 +81,7 @@ bytes_push : (list : List Payload) (p : Payload) → bytes_of (list ++ p ∷ [])
 bytes_push [] p = refl
 bytes_push (q ∷ list) p = ap (λ (l : List (List ℕ)). q.bytes ∷ l) (bytes_push list p)
 
-take_item : {A : Type 0} (xs : List A) (i : ℕ) (x : A) → i < length xs → x ≡ get_or xs i x → take (i + 1) xs ≡ take i xs ++ x ∷ []
+pub take_item : {A : Type 0} (xs : List A) (i : ℕ) (x : A) → i < length xs → x ≡ get_or xs i x → take (i + 1) xs ≡ take i xs ++ x ∷ []
 take_item {A} xs i x lt is = ap (λ (k : ℕ). take k xs) (add-one i) ∙ take-suc xs i x lt ∙ ap (λ (y : A). take i xs ++ y ∷ []) (sym is)
 
 -- one record more was taken in

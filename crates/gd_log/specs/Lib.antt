@@ -1,3 +1,5 @@
 pub mod Groups
 pub mod State
 pub mod Opening
+pub mod Stored
+pub mod Writable

@@ -4,3 +4,4 @@
 pub mod log;
 pub mod opening;
 mod replay;
+pub mod stored;

@@ -10,7 +10,7 @@ use Rattle.gd_defs.specs.Asked.{Asked}
 use Rattle.gd_defs.specs.Rows.{Row, key_cmp, row_cmp, rows, row_of}
 use Rattle.gd_order_laws.specs.Window.{In, Apart, Rising}
 use Rattle.gd_order_laws.specs.Laws.{DataAreOrdered, KeysAreOrdered, RowsAreOrdered, IsRowOf, RowsStandOnce, OfferedInAnyOrder, WindowKeeps, MarksGiveRows, RowsFollowMarks, PagesJoin}
-use Rattle.gd_order_laws.proofs.Data.{datum_total, datum_eq_decides, same_datum, same_nat}
+use Rattle.gd_base.proofs.Order.{datum_total, datum_eq_decides, same_datum, same_nat}
 use Rattle.gd_order_laws.proofs.Keys.{key_total, keys_total, row_total, same_object}
 use Rattle.gd_order_laws.proofs.Pages.{after_row, pages_joined}
 use Rattle.gd_order_laws.proofs.Marks.{mark_again}

@@ -9,7 +9,7 @@ use Rattle.gd_prim.specs.Live.{objects}
 use Rattle.gd_defs.specs.Asked.{Asked}
 use Rattle.gd_defs.specs.Rows.{Row, row_of, keys_cmp, row_cmp, rows, meets}
 use Rattle.gd_order_laws.specs.Window.{In, Each, Apart, Rising}
-use Rattle.gd_order_laws.proofs.Data.{both_equal}
+use Rattle.gd_base.proofs.Order.{both_equal}
 use Rattle.gd_order_laws.proofs.Keys.{row_total}
 use Rattle.gd_order_laws.proofs.Places.{live_rise}
 use Rattle.gd_order_laws.proofs.Sorted.{Each-weaker, In-filter, In-filtered, In-sorted, In-sorted_from, Apart-filter, Rising-sorted, rest_behind}

@@ -1,7 +1,6 @@
 -- Batches that are refused: one primitive too many, and a reference to the primitive's own place.
-use Rattle.std.proofs.Common.{◌≡◌, refl, ℕ, [], ◌∷◌, ◌++◌, length, replicate, map, Some, None, pos, negsuc}
+use Rattle.std.proofs.Common.{◌≡◌, refl, [], ◌∷◌, replicate, Some, None, pos, negsuc}
 use Rattle.gd_base.specs.declared.datum.Datum.TheVariants as datum
-use Rattle.gd_prim.specs.declared.Primitive.{Primitive}
 use Rattle.gd_prim.specs.declared.What.TheVariants as what
 use Rattle.gd_prim.specs.Builtin.{builtin, object}
 use Rattle.gd_prim.specs.Limits.{limits, first_full}

@@ -14,3 +14,5 @@ mod read;
 mod reply;
 #[cfg(test)]
 mod resolve;
+#[cfg(test)]
+mod serving;

@@ -45,8 +45,8 @@ fn replies_to_a_read(rt: HostRuntime) {
     assert!(rt;
         replies(
             rt.alloc(),
-            "Type",
-            b"{\"code\":\"/api/status/ok\",\"dateline\":0,\"line\":7,\"result\":[{\"guid\":\"#00000000000000010000000000000005\",\"id\":\"/type/type\",\"name\":\"Type\"}]}"
+            "English",
+            b"{\"code\":\"/api/status/ok\",\"dateline\":0,\"line\":7,\"result\":[{\"guid\":\"#00000000000000010000000000000003\",\"id\":\"/lang/en\",\"name\":\"English\"}]}"
         )
     );
 }

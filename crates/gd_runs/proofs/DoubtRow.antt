@@ -5,7 +5,7 @@ use Rattle.gd_prim.specs.declared.Batch.{Batch}
 use Rattle.gd_tree.specs.Json.{Json, null}
 use Rattle.gd_defs.specs.Change as change
 use Rattle.gd_defs.specs.Write.{WriteRequest, ChangeFault}
-use Rattle.gd_runs.specs.Request.{Line, read, write, exec_after}
+use Rattle.gd_runs.specs.Request.{Line, write, exec_after}
 use Rattle.gd_runs.specs.Input.{Forms, line_from, InputFault}
 use Rattle.gd_runs.specs.Legal.{Entry, History, IsLegal}
 use Rattle.gd_runs.specs.Explained.{stored, in_doubt, Prints}

@@ -1,10 +1,10 @@
 -- Events that are refused: learning what is not shown, slicing and freezing what is not held, and a budget of 0.
-use Rattle.std.proofs.Common.{◌≡◌, refl, ℕ, List, [], ◌∷◌, ◌++◌, codes, true, inl, inr}
+use Rattle.std.proofs.Common.{refl, ℕ, List, [], codes, true, inl, inr}
 use Rattle.gd_runs.specs.Owed.{MembersOf}
 use Rattle.gd_runs.specs.Core.{learn, slice, freeze, State, opened, learnt}
 use Rattle.gd_runs.specs.Input.{no_line}
 use Rattle.gd_runs.specs.Request.{bad_line}
-use Rattle.gd_runs.specs.Replay.{LineStep, Replays}
+use Rattle.gd_runs.specs.Replay.{LineStep}
 use Rattle.gd_runs.proofs.Plain.{computing}
 
 -- each iterator has one member

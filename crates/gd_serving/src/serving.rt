@@ -530,6 +530,3 @@ impl<D: Disk> Serving<D> {
         }
     }
 }
-
-#[cfg(test)]
-mod tests;

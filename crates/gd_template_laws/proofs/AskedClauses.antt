@@ -12,7 +12,8 @@ use Rattle.gd_defs.specs.Asked.{by_guid, by_timestamp, by_property, SortKey, as_
 use Rattle.gd_defs.specs.Asked.Forms.{bare_asking, style_of, own_clause, counts, operand_form, clause_form, name_test, mode_of, asks_single}
 use Rattle.gd_defs.specs.Plan.{answers_of}
 use Rattle.gd_template_laws.specs.Fits.{FitsObject, FitsOne, IsEquals, ValueMembers, IsSortKey, AreSortKeys, IsAsked, AreAsked}
-use Rattle.gd_template_laws.proofs.Operands.{steps, ok_same, Fits}
+use Rattle.gd_grammar.proofs.Steps.{steps, ok_same}
+use Rattle.gd_template_laws.proofs.Operands.{Fits}
 use Rattle.gd_template_laws.proofs.AskedMembers.{HoldsObjectsBackwards}
 
 -- ---- sort keys

@@ -12,7 +12,8 @@ use Rattle.gd_defs.specs.Property.{Property, Expects, a_value, a_key, an_object_
 use Rattle.gd_defs.specs.Asked.{Own, its_link, its_value, its_namespace, Members, no_members, own, Clause, Unknown, bad, own_member, own_test, with_own, value_member, value_members, has_namespace, member_property}
 use Rattle.gd_defs.specs.Asked.Tests.{checked_test}
 use Rattle.gd_template_laws.specs.Fits.{IsAnything, FitsOne, ValueMembers}
-use Rattle.gd_template_laws.proofs.Operands.{steps, ok_same, Fits, checked-fits, own-fits}
+use Rattle.gd_grammar.proofs.Steps.{steps, ok_same}
+use Rattle.gd_template_laws.proofs.Operands.{Fits, checked-fits, own-fits}
 
 -- ---- computed members
 

@@ -18,7 +18,7 @@ use Rattle.gd_template_laws.specs.Fits.{ValueMembers}
 use Rattle.gd_defs.specs.Template.{depth, clauses_depth}
 use Rattle.gd_template_laws.specs.Depth.{forms_below, forms_in}
 use Rattle.gd_template_laws.proofs.Shapes.{far_clause, shaped, link_template-shaped}
-use Rattle.gd_template_laws.proofs.Operands.{steps, ok_same}
+use Rattle.gd_grammar.proofs.Steps.{steps, ok_same}
 use Rattle.gd_template_laws.proofs.AskedMembers.{computed, value_members-are}
 
 -- ---- clauses

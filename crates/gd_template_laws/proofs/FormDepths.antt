@@ -12,7 +12,8 @@ use Rattle.gd_defs.specs.Plan.{template_of}
 use Rattle.gd_defs.specs.Template.{depth}
 use Rattle.gd_tree.specs.Bounds.{json_depth, members_depth}
 use Rattle.gd_template_laws.specs.Depth.{forms_below, forms_in}
-use Rattle.gd_template_laws.proofs.Operands.{steps, ok_same, within-ok}
+use Rattle.gd_grammar.proofs.Steps.{steps, ok_same}
+use Rattle.gd_template_laws.proofs.Operands.{within-ok}
 use Rattle.gd_template_laws.proofs.Depths.{query-depth}
 
 behind-name : (n : Name) (j : Json) (r : Result Form Fault) (f : Form) (depth : ℕ) → (r ≡ Ok f → forms_in f ≤ depth) → form_or_operand n j r ≡ Ok f → forms_in f ≤ depth

@@ -1,7 +1,6 @@
 -- The tests that operands make fit what they stand on.
 use Rattle.std.proofs.Common.{◌≡◌, ℕ, List, [], ◌∷◌, Bool, true, false, Option, Some, None, Result, Ok, Err, refl, ap, sym, subst, ◌∙◌}
 use Rattle.std.specs.Prelude.{if◌then◌else◌, option_map, unwrap_or, nat_le, length}
-use Rattle.std.specs.Option.{ok_or}
 use Rattle.std.proofs.lemmas.Bool.{false≢true}
 use Rattle.gd_base.specs.declared.datum.Datum.{Datum}
 use Rattle.gd_base.specs.declared.datum.Datum.TheVariants as datum
@@ -19,32 +18,12 @@ use Rattle.gd_defs.specs.Query.{Fault, within, Operator, bad_value, bad_operator
 use Rattle.gd_defs.specs.Property.{Expects, a_value, a_key, an_object_of_system, a_plain_object}
 use Rattle.gd_defs.specs.Asked.{bad_query, bad, Own, its_id, its_guid, its_timestamp, its_link, its_value, its_namespace, own_test, own_expects, takes, place_named, operand_datum, test_of}
 use Rattle.gd_defs.specs.Asked.Tests.{allows, operand_data, pattern_test, tested_as, checked_test}
+use Rattle.gd_grammar.proofs.Steps.{steps, ok_same, some_given}
 use Rattle.gd_template_laws.specs.Fits.{AreOfKind, FitsKind, IsObjectDatum, AreObjects, FitsObject, FitsOne, FitsMoment, IsAnything, IsEquals}
-
--- ---- steps that give something
-
-pub record Step {A B E : Type 0} (r : Result A E) (f : A → Result B E) (y : B) : Type 0 where
-  pub value : A
-  pub gave : r ≡ Ok value
-  pub then_gave : f value ≡ Ok y
-
-pub steps : {A B E : Type 0} (r : Result A E) (f : A → Result B E) (y : B) → (r >>= f) ≡ Ok y → Step r f y
-steps (Ok x) f y is = record { value = x; gave = refl; then_gave = is }
-steps (Err e) f y is = absurd (cc)
-
-pub ok_same : {A E : Type 0} (x y : A) → ◌≡◌ {A = Result A E} (Ok x) (Ok y) → x ≡ y
-ok_same x y is = cc
 
 pub within-ok : {A : Type 0} (name : List ℕ) (r : Result A Fault) (x : A) → within name r ≡ Ok x → r ≡ Ok x
 within-ok name (Ok y) x is = is
 within-ok name (Err e) x is = absurd (cc)
-
-pub not_ok : {A E : Type 0} {P : Type 0} (e : E) (y : A) → ◌≡◌ {A = Result A E} (Err e) (Ok y) → P
-not_ok e y is = absurd (cc)
-
-some_given : {A E : Type 0} (o : Option A) (e : E) (x : A) → ok_or o e ≡ Ok x → o ≡ Some x
-some_given (Some y) e x is = ap Some (ok_same y x is)
-some_given None e x is = not_ok e x is
 
 -- ---- data
 

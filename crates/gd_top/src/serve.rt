@@ -147,8 +147,3 @@ pub fn graphd<S: Source, K: Sink, F: Shelf, C: Clock + Drop>(
         Err(_refused) => Status::Memory,
     }
 }
-
-#[cfg(test)]
-mod file_tests;
-#[cfg(test)]
-mod tests;

@@ -17,7 +17,7 @@ use Rattle.gd_defs.specs.Write.Parts.{to_object, Item, as_spelled, its_id, its_g
 use Rattle.gd_defs.specs.Write.Links.{Stamp, inserted, connected}
 use Rattle.gd_defs.specs.Write.Carried.{answered, Made, Subject, subject_of, created_text, carried, carried_item, carried_items}
 use Rattle.gd_tree.specs.Bounds.{json_depth, items_depth, members_depth}
-use Rattle.gd_write_laws.proofs.Steps.{steps, ok_same, not_ok, either}
+use Rattle.gd_grammar.proofs.Steps.{steps, ok_same, not_ok, either}
 use Rattle.gd_write_laws.proofs.Spelled.{within_ok, change_spelled}
 use Rattle.gd_write_laws.proofs.Follows.{mapped_ok, fitted}
 

@@ -13,7 +13,7 @@ use Rattle.gd_prim.specs.Limits.{max_prims, max_batch}
 use Rattle.gd_prim.specs.WellFormed.{max_moment, refers_below, refers_back, may_hold, is_well_placed, first_bad, bad_place, may_follow, all_follow, succeeds_current}
 use Rattle.gd_write_laws.specs.Sound.{Below, RefersBack, IsSound}
 use Rattle.gd_write_laws.specs.Values.{MayHold, IsTyped, is_typed}
-use Rattle.gd_write_laws.proofs.Steps.{not_some, either}
+use Rattle.gd_grammar.proofs.Steps.{not_some, either}
 use Rattle.gd_write_laws.proofs.Grows.{sound_push}
 
 -- ---- the tests by their rules

@@ -18,7 +18,7 @@ use Rattle.gd_defs.specs.Change as change
 use Rattle.gd_defs.specs.Write.Parts.{Target, to_object, to_key, Item, as_spelled, its_id, its_guid, fact, connect, nested, several, ManyItems, no_more, and_then, Members, no_members, member, created, datum_target, literal_target, new_target, target_of, has_fact, type_text, fact_item, identity_item, resolved, resolved_item, resolved_items}
 use Rattle.gd_write_laws.specs.Sound.{IsSound}
 use Rattle.gd_write_laws.specs.Fits.{Spells, TargetSpells, MembersSpell, ItemSpells, ItemsSpell, TargetFits, MembersFit, ItemFits, ItemsFit}
-use Rattle.gd_write_laws.proofs.Steps.{steps, ok_same, not_ok, some_given, some_same, not_some, mapped, either}
+use Rattle.gd_grammar.proofs.Steps.{steps, ok_same, not_ok, some_given, some_same, not_some, mapped, either}
 use Rattle.gd_write_laws.proofs.Named.{named-within, member_property-within}
 
 -- ---- targets

@@ -12,7 +12,7 @@ use Rattle.gd_defs.specs.Change.{CreateWord, ConnectWord, Setting, Change, blank
 use Rattle.gd_write_laws.specs.Fits.{Spells, TargetSpells, MembersSpell, ItemSpells, ItemsSpell}
 use Rattle.gd_tree.specs.Bounds.{IsPlain, ArePlain, MembersPlain}
 use Rattle.gd_write_laws.specs.Values.{MayHold, IsTyped}
-use Rattle.gd_write_laws.proofs.Steps.{steps, ok_same, not_ok, some_given, some_same, not_some, either}
+use Rattle.gd_grammar.proofs.Steps.{steps, ok_same, not_ok, some_given, some_same, not_some, either}
 use Rattle.gd_write_laws.proofs.Values.{Spells-held, Spells-typed}
 
 -- ---- each value

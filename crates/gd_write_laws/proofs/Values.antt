@@ -14,7 +14,7 @@ use Rattle.gd_defs.specs.Data.{Kind, of_text, of_int, of_boolean, of_datetime, d
 use Rattle.gd_write_laws.specs.Fits.{Spells}
 use Rattle.gd_tree.specs.Bounds.{IsPlain}
 use Rattle.gd_write_laws.specs.Values.{MayHold, IsTyped}
-use Rattle.gd_write_laws.proofs.Steps.{some_same, not_some, mapped, either}
+use Rattle.gd_grammar.proofs.Steps.{some_same, not_some, mapped, either}
 use Rattle.gd_write_laws.proofs.Moments.{moment_of-within}
 
 -- what a JSON value spells a primitive may hold
