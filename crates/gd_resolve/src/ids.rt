@@ -1,7 +1,8 @@
 //! The objects that ids name.
-ghost use Rattle.std.specs.Prelude.{◌≡◌, ◌+◌, ◌*◌, ◌≤◌, length, map, true, option_and_then, IfOk};
+ghost use Rattle.std.specs.Prelude.{◌≡◌, ◌≢◌, ◌+◌, ◌*◌, ◌≤◌, ◌<◌, length, map, true, option_and_then, IfOk, OnOk, IfSome, IsSome, Err};
 ghost use Rattle.std.specs.List.{list_all};
 ghost use Rattle.gd_base.specs.Answers.{Gives};
+ghost use Rattle.gd_base.specs.Counts.{Rose};
 ghost use Rattle.gd_prim.specs.Builtin.{root_place};
 ghost use Rattle.gd_prim.specs.History.{prims_of};
 ghost use Rattle.gd_prim.specs.Live as live;
@@ -28,6 +29,7 @@ fn object_at<L>(view: &View<'_>, place: Id, steps: &mut Steps<L>) -> Option<Id>
     ensures object { result ≡ defined.object_at (prims_of view.now) place }
     ensures work { steps.new ≤ steps.old + 3 }
     ensures later { steps.old ≤ steps.new }
+    ensures counted { place < length (prims_of view.now) → Rose steps.old steps.new }
 {
     if is_object(view, place, steps) {
         Some(place)
@@ -41,6 +43,7 @@ fn object_below<L>(view: &View<'_>, place: u64, steps: &mut Steps<L>) -> Option<
     ensures object { result ≡ defined.object_at (prims_of view.now) place }
     ensures work { steps.new ≤ steps.old + 3 }
     ensures later { steps.old ≤ steps.new }
+    ensures counted { place < length (prims_of view.now) → Rose steps.old steps.new }
 {
     if place < u64::from(view.end().place()) {
         object_at(view, Id(place as u32), steps)
@@ -54,6 +57,8 @@ fn guid_object<L>(view: &View<'_>, text: &str, steps: &mut Steps<L>) -> Option<I
     ensures object { result ≡ option_and_then (defined.object_at (prims_of view.now)) (defined.guid_place text.now) }
     ensures work { steps.new ≤ steps.old + 3 }
     ensures later { steps.old ≤ steps.new }
+    ensures counted { IfSome (defined.guid_place text.now) (λ place. place < length (prims_of view.now) → Rose steps.old steps.new) }
+    ensures found { IsSome result → Rose steps.old steps.new }
 {
     match guid_place(text.as_bytes()) {
         Some(place) => object_below(view, place, steps),
@@ -66,6 +71,7 @@ pub(crate) fn link_leads<L>(view: &View<'_>, link: Id, steps: &mut Steps<L>) -> 
     ensures leads { result ≡ asked.link_leads (prims_of view.now) link }
     ensures work { steps.new ≤ steps.old + 6 }
     ensures later { steps.old ≤ steps.new }
+    ensures counted { Rose steps.old steps.new }
 {
     if !view.is_live(link, steps) {
         return None;
@@ -84,6 +90,7 @@ pub(crate) fn key_leads<L>(
     ensures leads { result ≡ defined.key_leads (prims_of view.now) namespace key.now }
     ensures work { steps.new ≤ steps.old + 30 }
     ensures later { steps.old ≤ steps.new }
+    ensures counted { Rose steps.old steps.new }
 {
     let link = view.by_key(namespace, key, steps)?;
     link_leads(view, link, steps)
@@ -100,6 +107,7 @@ fn follow<L>(
     ensures object { IfOk result (λ object. object ≡ defined.follow (prims_of view.now) root_place (map (λ key. key.now) keys.now)) }
     ensures work { steps.new ≤ steps.old + 30 * length keys.now }
     ensures later { steps.old ≤ steps.new }
+    ensures counted { OnOk result (0 < length keys.now → Rose steps.old steps.new) }
 {
     let mut object = ROOT;
     for key in keys {
@@ -122,6 +130,8 @@ pub(crate) fn named_object<L>(
     ensures object { IfOk result (λ object. object ≡ defined.object_of (prims_of view.now) text.now) }
     ensures work { steps.new ≤ steps.old + 500 }
     ensures later { steps.old ≤ steps.new }
+    ensures guid_counted { IfSome (defined.guid_place text.now) (λ place. place < length (prims_of view.now) → Rose steps.old steps.new) }
+    ensures path_counted { OnOk result (IfSome (defined.id_keys text.now) (λ keys. 0 < length keys → Rose steps.old steps.new)) }
 {
     if let Some(object) = guid_object(view, text, steps) {
         return Ok(Some(object));
@@ -145,6 +155,10 @@ pub fn object_of<L>(
     ensures object { Gives (λ object. object) ResolveFault.Memory (id_asked (prims_of view.now) path.now) result }
     ensures work { steps.new ≤ steps.old + 500 }
     ensures later { steps.old ≤ steps.new }
+
+    // A guid of a place below the dateline and a path with a key are looked up.
+    ensures guid_counted { IfSome (defined.guid_place path.now) (λ place. place < length (prims_of view.now) → Rose steps.old steps.new) }
+    ensures path_counted { result ≢ Err ResolveFault.Memory → IfSome (defined.id_keys path.now) (λ keys. 0 < length keys → Rose steps.old steps.new) }
 {
     match named_object(alloc, view, path.as_str(), steps)? {
         Some(object) => Ok(object),

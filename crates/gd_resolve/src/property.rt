@@ -1,5 +1,6 @@
 //! What a property says of itself.
-ghost use Rattle.std.specs.Prelude.{◌≡◌, ◌≤◌, ◌↔◌, ◌&&◌, IsTrue};
+ghost use Rattle.std.specs.Prelude.{◌≡◌, ◌≤◌, ◌<◌, ◌↔◌, ◌&&◌, length, IsTrue};
+ghost use Rattle.gd_base.specs.Counts.{Rose};
 ghost use Rattle.gd_prim.specs.History.{prims_of};
 ghost use Rattle.gd_prim.specs.Live as live;
 ghost use Rattle.gd_prim.specs.Builtin.{property_place};
@@ -99,6 +100,7 @@ fn is_wanted(prim: &Primitive, wanted: &Wanted) -> bool
 fn is_found<L>(view: &View<'_>, wanted: &Wanted, place: Id, steps: &mut Steps<L>) -> bool
     ensures found { result ≡ found.is_found (found.is_wanted wanted.now) (prims_of view.now) place }
     ensures later { steps.old ≤ steps.new }
+    ensures counted { place < length (prims_of view.now) → Rose steps.old steps.new }
 {
     match prim_at(view, place, steps) {
         Some(prim) => is_wanted(prim, wanted) && view.is_live(place, steps),
@@ -110,6 +112,7 @@ fn is_found<L>(view: &View<'_>, wanted: &Wanted, place: Id, steps: &mut Steps<L>
 fn first_found<L>(view: &View<'_>, wanted: &Wanted, steps: &mut Steps<L>) -> Option<Id>
     ensures first { result ≡ found.first_found (found.is_wanted wanted.now) (prims_of view.now) }
     ensures later { steps.old ≤ steps.new }
+    ensures counted { 0 < length (prims_of view.now) → Rose steps.old steps.new }
 {
     for place in 0..view.end().place() {
         if is_found(view, wanted, Id(place), steps) {
@@ -123,6 +126,7 @@ fn first_found<L>(view: &View<'_>, wanted: &Wanted, steps: &mut Steps<L>) -> Opt
 fn first_right<L>(view: &View<'_>, typ: Id, object: Id, steps: &mut Steps<L>) -> Option<Id>
     ensures right { result ≡ defined.first_right (prims_of view.now) typ object }
     ensures later { steps.old ≤ steps.new }
+    ensures counted { 0 < length (prims_of view.now) → Rose steps.old steps.new }
 {
     match first_found(view, &Wanted::Link { typ, object }, steps) {
         Some(link) => right_at(view, link, steps),
@@ -134,6 +138,7 @@ fn first_right<L>(view: &View<'_>, typ: Id, object: Id, steps: &mut Steps<L>) ->
 fn has_type<L>(view: &View<'_>, object: Id, of: Id, steps: &mut Steps<L>) -> bool
     ensures has { result ≡ defined.has_type (prims_of view.now) object of }
     ensures later { steps.old ≤ steps.new }
+    ensures counted { 0 < length (prims_of view.now) → Rose steps.old steps.new }
 {
     first_found(view, &Wanted::TypeLink { object, of }, steps).is_some()
 }
@@ -149,6 +154,7 @@ fn truth_at<L>(view: &View<'_>, place: Id, steps: &mut Steps<L>) -> Option<bool>
 fn is_unique<L>(view: &View<'_>, property: Id, steps: &mut Steps<L>) -> bool
     ensures unique { result ≡ defined.is_unique (prims_of view.now) property }
     ensures later { steps.old ≤ steps.new }
+    ensures counted { 0 < length (prims_of view.now) → Rose steps.old steps.new }
 {
     match first_found(view, &Wanted::Mark { property }, steps) {
         Some(mark) => truth_at(view, mark, steps).unwrap_or(false),
@@ -163,6 +169,7 @@ fn is_unique<L>(view: &View<'_>, property: Id, steps: &mut Steps<L>) -> bool
 pub fn stated<L>(view: &View<'_>, place: Id, steps: &mut Steps<L>) -> Property
     ensures stated { result ≡ defined.stated (prims_of view.now) place }
     ensures later { steps.old ≤ steps.new }
+    ensures counted { 0 < length (prims_of view.now) → Rose steps.old steps.new }
 {
     let master = first_right(view, MASTER_PROPERTY, place, steps);
     Property {
@@ -177,6 +184,8 @@ pub fn stated<L>(view: &View<'_>, place: Id, steps: &mut Steps<L>) -> Property
 pub fn is_property<L>(view: &View<'_>, place: Id, steps: &mut Steps<L>) -> bool
     ensures property { result ≡ (live.is_object (prims_of view.now) place && defined.has_type (prims_of view.now) place property_place) }
     ensures later { steps.old ≤ steps.new }
+    ensures counted { place < length (prims_of view.now) → Rose steps.old steps.new }
+    ensures found { IsTrue result → Rose steps.old steps.new }
 {
     is_object(view, place, steps) && has_type(view, place, PROPERTY, steps)
 }
@@ -196,6 +205,7 @@ pub fn says_name<L>(view: &View<'_>, steps: &mut Steps<L>) -> bool
     ensures tested { result ≡ built.says_name (prims_of view.now) }
     ensures says { IsTrue result ↔ SaysName (prims_of view.now) }
     ensures later { steps.old ≤ steps.new }
+    ensures counted { 13 < length (prims_of view.now) → Rose steps.old steps.new }
 {
     is_property(view, NAME, steps) && is_name_property(&stated(view, NAME, steps))
 }

@@ -1,5 +1,6 @@
 //! The ids of objects.
-ghost use Rattle.std.specs.Prelude.{◌≡◌, ◌&&◌, ◌++◌, ◌+◌, ◌*◌, ◌≤◌, Some, None, if◌then◌else◌, option_map, is_some, string_bytes, IfOk};
+ghost use Rattle.std.specs.Prelude.{◌≡◌, ◌≢◌, ◌<◌, ◌&&◌, ◌++◌, ◌+◌, ◌*◌, ◌≤◌, Some, None, if◌then◌else◌, option_map, is_some, string_bytes, IfOk};
+ghost use Rattle.gd_base.specs.Counts.{Rose};
 ghost use Rattle.gd_prim.specs.History.{prims_of};
 ghost use Rattle.gd_prim.specs.Live as live;
 ghost use Rattle.gd_defs.specs.Ids as defined;
@@ -30,6 +31,7 @@ fn names<L>(view: &View<'_>, link: Id, steps: &mut Steps<L>) -> bool
     ensures names { result ≡ (live.is_live (prims_of view.now) link && is_some (live.end_at (λ p. p.right) (prims_of view.now) link)) }
     ensures work { steps.new ≤ steps.old + 3 }
     ensures later { steps.old ≤ steps.new }
+    ensures counted { Rose steps.old steps.new }
 {
     view.is_live(link, steps) && right_at(view, link, steps).is_some()
 }
@@ -39,6 +41,7 @@ fn naming_link<L>(view: &View<'_>, object: Id, steps: &mut Steps<L>) -> Option<I
     ensures link { result ≡ defined.naming_link (prims_of view.now) object }
     ensures work { steps.new ≤ steps.old + 48 }
     ensures later { steps.old ≤ steps.new }
+    ensures counted { Rose steps.old steps.new }
 {
     for k in 0..LINKS {
         let link = view.key_at(object, k, steps)?;
@@ -74,6 +77,7 @@ fn write_way<L>(
         ≡ (if found then Some (string_bytes text.new) else None)) }
     ensures work { steps.new ≤ steps.old + 49 * levels }
     ensures later { steps.old ≤ steps.new }
+    ensures counted { object ≢ 0 → 0 < levels → Rose steps.old steps.new }
 {
     if object == ROOT {
         return Ok(true);
@@ -108,6 +112,7 @@ pub fn id_of<L>(
     ensures id { IfOk result (λ text. text ≡ defined.id_text (prims_of view.now) object) }
     ensures work { steps.new ≤ steps.old + 1024 }
     ensures later { steps.old ≤ steps.new }
+    ensures counted { object ≢ 0 → Rose steps.old steps.new }
 {
     if object == ROOT {
         return JsonText::from_str(alloc, "/");

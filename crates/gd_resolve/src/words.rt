@@ -1,7 +1,8 @@
 //! The properties that words ask for.
-ghost use Rattle.std.specs.Prelude.{◌≡◌, ◌==◌, ◌≤◌, None, [], ◌∷◌, codes, if◌then◌else◌, IfOk};
+ghost use Rattle.std.specs.Prelude.{◌≡◌, ◌==◌, ◌≤◌, None, [], ◌∷◌, codes, if◌then◌else◌, IfOk, IsOk, IsSome};
 ghost use Rattle.std.specs.List.{last_or, starts_with};
 ghost use Rattle.gd_base.specs.Answers.{Gives};
+ghost use Rattle.gd_base.specs.Counts.{Rose};
 ghost use Rattle.gd_prim.specs.History.{prims_of};
 ghost use Rattle.gd_prim.specs.Live as live;
 ghost use Rattle.gd_defs.specs.Ids as ids;
@@ -149,6 +150,7 @@ fn property_object<L>(
 ) -> Result<Option<Id>, Memory>
     ensures object { IfOk result (λ object. object ≡ defined.property_object (prims_of view.now) context word.now) }
     ensures later { steps.old ≤ steps.new }
+    ensures counted { IfOk result (λ object. IsSome object → Rose steps.old steps.new) }
 {
     let Some(object) = word_object(alloc, view, context, word, steps)? else {
         return Ok(None);
@@ -196,6 +198,9 @@ pub fn property<L>(
 ) -> Result<Property, ResolveFault>
     ensures property { Gives (λ property. property) ResolveFault.Memory (property_asked (prims_of view.now) context word.now.reversed word.now.text) result }
     ensures later { steps.old ≤ steps.new }
+
+    // What a property stands at is looked at.
+    ensures counted { IsOk result → Rose steps.old steps.new }
 {
     match property_object(alloc, view, context, word.text.as_str(), steps)? {
         Some(object) => Ok(stated_in(view, object, word.reversed, steps)),

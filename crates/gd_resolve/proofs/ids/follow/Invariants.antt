@@ -1,5 +1,6 @@
-use Rattle.std.proofs.Common.{◌≡◌, ◌≤◌, ◌+◌, ◌*◌, drop, map, Bor, List, ℕ, true}
+use Rattle.std.proofs.Common.{◌≡◌, ◌≤◌, ◌<◌, ◌+◌, ◌*◌, drop, map, Bor, List, ℕ, true}
 use Rattle.std.specs.List.{list_all}
+use Rattle.gd_base.specs.Counts.{Rose}
 use Rattle.gd_prim.specs.Builtin.{root_place}
 use Rattle.gd_prim.specs.History.{prims_of}
 use Rattle.gd_defs.specs.Ids as defined
@@ -11,4 +12,5 @@ invariant-loop-key g l = record {
   keys : list_all (λ (k : Bor (List ℕ)). defined.is_key k.now) (drop l.key-index l.keys) ≡ true;
   work : l.steps ≤ l.initial.steps + 30 * l.key-index;
   later : l.initial.steps ≤ l.steps;
+  counted : 0 < l.key-index → Rose l.initial.steps l.steps;
 }

@@ -16,4 +16,5 @@ loop-place-preserved g c =
           ∙ ap (λ b. cond b (Some c.loop-place.place) (find test (range_with_len (c.loop-place.place + 1) (length prims - (c.loop-place.place + 1)))))
           (sym c.is_found.ensures.found ∙ c.if-is_found.false);
       later = omega arith;
+      counted = λ more. (let looked = c.is_found.ensures.counted below in omega arith);
     }

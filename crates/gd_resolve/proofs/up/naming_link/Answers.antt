@@ -15,4 +15,5 @@ loop-k-preserved g c =
           (sym c.in_ok-link.ensures.place) (sym c.names.ensures.names ∙ c.if-names.false);
       work = omega arith;
       later = omega arith;
+      counted = λ more. omega arith;
     }

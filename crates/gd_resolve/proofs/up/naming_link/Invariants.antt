@@ -1,5 +1,6 @@
-use Rattle.std.proofs.Common.{◌≡◌, ◌≤◌, ◌+◌, ◌*◌, ◌&&◌, is_some, drop, take}
+use Rattle.std.proofs.Common.{◌≡◌, ◌≤◌, ◌<◌, ◌+◌, ◌*◌, ◌&&◌, is_some, drop, take}
 use Rattle.std.specs.Prelude.{find}
+use Rattle.gd_base.specs.Counts.{Rose}
 use Rattle.gd_prim.specs.History.{prims_of}
 use Rattle.gd_prim.specs.Live as live
 use Rattle.gd_defs.specs.Ids as defined
@@ -12,4 +13,5 @@ invariant-loop-k g l = record {
       ≡ find (λ k. live.is_live (prims_of l.view) k && is_some (live.end_at (λ p. p.right) (prims_of l.view) k)) (drop l.k (take 8 (live.places_where (is_key_of l.object) (prims_of l.view))));
   work : l.steps ≤ l.initial.steps + 6 * l.k;
   later : l.initial.steps ≤ l.steps;
+  counted : 0 < l.k → Rose l.initial.steps l.steps;
 }
