@@ -1,5 +1,3 @@
-use Rattle.std.proofs.Common.{subst, List, ℕ}
-use Rattle.gd_journal.specs.declared.payloads.Payload.{Payload}
 use Rattle.gd_log.proofs.Replays.{first_damage, no_damage}
 use Rattle.gd_log.proofs.replay.replay.Goals as goal
 
