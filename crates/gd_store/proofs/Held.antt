@@ -1,6 +1,6 @@
 -- What the primitives of a history keep, and how many there are.
 use Rattle.std.proofs.Common.{◌≡◌, ℕ, ◌+◌, ◌<◌, ◌≤◌, List, [], ◌∷◌, ◌++◌, length, take, refl, sym, ap, ◌∙◌, append_assoc, subst, length-append, arith}
-use Rattle.std.specs.Prelude.{Bool, true, ◌&&◌, ◌==◌, flat_map, Some, None, nat_le, slice_get}
+use Rattle.std.specs.Prelude.{Bool, true, ◌&&◌, ◌==◌, flat_map, Some, None, nat_le, not, is_some, slice_get}
 use Rattle.std.specs.List.{AllPass, list_all}
 use Rattle.std.proofs.lemmas.Bool.{eqb-true, leb-true}
 use Rattle.std.proofs.lemmas.List.{append-nil}
@@ -12,7 +12,7 @@ use Rattle.gd_prim.specs.declared.Batch.{Batch}
 use Rattle.gd_prim.specs.Builtin.{builtin}
 use Rattle.gd_prim.specs.History.{prims_of, is_history, AreHeld, AreTimed}
 use Rattle.gd_prim.specs.Limits.{limits, first_full, max_prims, max_requests}
-use Rattle.gd_prim.specs.WellFormed.{may_hold, max_moment, is_well_placed, first_bad, all_follow}
+use Rattle.gd_prim.specs.WellFormed.{may_hold, max_moment, is_well_placed, first_bad, bad_place, may_follow, all_follow}
 use Rattle.gd_store.proofs.Follows.{first, second, both, nothing, not_bad, Room, room, follows_take}
 
 -- a primitive may hold its value, and is of a moment of a clock
@@ -50,12 +50,15 @@ followed prims count [] in_range few_prims few follow =
       few = omega (arith, few);
     }
 followed prims count (b ∷ bs) in_range few_prims few follow =
-    let good : first_bad prims b.moment 0 b.prims ≡ None = nothing _ (first _ _ (first _ _ follow)) in
-    let fits : first_full (limits prims count b.prims) ≡ None = nothing _ (second _ _ (first _ _ follow)) in
+    let may : may_follow prims count b ≡ true = first (may_follow prims count b) (all_follow (prims ++ b.prims) (count + 1) bs) follow in
+    let after : all_follow (prims ++ b.prims) (count + 1) bs ≡ true = second (may_follow prims count b) (all_follow (prims ++ b.prims) (count + 1) bs) follow in
+    let good : bad_place prims b ≡ None = nothing (bad_place prims b) (first (not (is_some (bad_place prims b))) (not (is_some (first_full (limits prims count b.prims)))) may) in
+    let fits : first_full (limits prims count b.prims) ≡ None =
+    nothing (first_full (limits prims count b.prims)) (second (not (is_some (bad_place prims b))) (not (is_some (first_full (limits prims count b.prims)))) may) in
     let space : Room prims count b.prims = room prims count b.prims fits in
     let rest : Followed (prims ++ b.prims) (count + 1) bs = followed (prims ++ b.prims) (count + 1) bs
     (All-append (λ p. is_in_range p ≡ true) prims b.prims in_range (AllPass-from_list_all is_in_range b.prims (good_in_range prims b.moment 0 b.prims good)))
-    (omega (arith, space.prims_fit, length-append prims b.prims)) space.requests (second _ _ follow) in
+    (omega (arith, space.prims_fit, length-append prims b.prims)) space.requests after in
     let same : (prims ++ b.prims) ++ flat_map (λ b. b.prims) bs ≡ prims ++ (b.prims ++ flat_map (λ b. b.prims) bs) = append_assoc prims b.prims (flat_map (λ b. b.prims) bs) in
     record {
       in_range = subst (AllPass is_in_range) same rest.in_range;
