@@ -8,7 +8,7 @@ mod indexes;
 #[cfg(test)]
 mod input;
 #[cfg(test)]
-mod json;
+mod json_values;
 #[cfg(test)]
 mod outside;
 #[cfg(test)]
