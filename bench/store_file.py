@@ -50,9 +50,10 @@ class StoreFile:
         """An object with a name."""
         return self.add([primitive(), primitive(left=self.place, typ=NAME, value=text(name))])
 
-    def renamed(self, named, name):
-        """Another name of the object at this place, in place of the one that it was made with."""
-        return self.add([primitive(left=named, typ=NAME, value=text(name), previous=named + 1)])
+    def renamed(self, named, name, succeeds=True):
+        """Another name of the object at this place, in place of the one that it was made with or beside it."""
+        previous = named + 1 if succeeds else None
+        return self.add([primitive(left=named, typ=NAME, value=text(name), previous=previous)])
 
     def keyed(self, namespace, key, name):
         """An object with a key in a namespace and a name."""

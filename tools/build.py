@@ -7,6 +7,7 @@ The crates below it are proved side by side, as far as their chain, the processo
 kept, so a run that was stopped goes on where it was.
 """
 import os
+import signal
 import subprocess
 import sys
 import threading
@@ -89,14 +90,17 @@ def run(words, progress=None):
     child = subprocess.Popen(words, cwd=os.path.join(TOP, "crates", PROGRAM), stdin=subprocess.DEVNULL,
                              stdout=subprocess.PIPE, stderr=subprocess.STDOUT, text=True, errors="replace")
     crate, said = "", {"": ""}
-    for line in child.stdout:
-        if line.startswith("== "):
-            crate = line.split()[1]
-            said[crate] = ""
-            if progress and crate in progress.sizes:
-                progress.add(crate)
-        said[crate] += line
-    return child.wait(), said
+    try:
+        for line in child.stdout:
+            if line.startswith("== "):
+                crate = line.split()[1]
+                said[crate] = ""
+                if progress and crate in progress.sizes:
+                    progress.add(crate)
+            said[crate] += line
+        return child.wait(), said
+    finally:
+        child.terminate()
 
 
 def main():
@@ -119,8 +123,12 @@ def main():
     return status
 
 
+def stopped(_number, _frame):
+    """Ends this run, and the command that it waits for."""
+    sys.exit("\ngraphd: stopped; what was proved is kept")
+
+
 if __name__ == "__main__":
-    try:
-        sys.exit(main())
-    except KeyboardInterrupt:
-        sys.exit("\ngraphd: stopped; what was proved is kept")
+    for number in (signal.SIGINT, signal.SIGTERM, signal.SIGHUP):
+        signal.signal(number, stopped)
+    sys.exit(main())

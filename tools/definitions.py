@@ -60,7 +60,7 @@ CRATES = [
     ("gd_log", "A log: payloads that are groups of batches, and what its disk holds.", ["Groups", "State"], False),
     ("gd_words", "The command line: which words give which command.", ["Options", "Words"], False),
     ("gd_serving", "One thread: what a line comes to over the store, and runs that are served line by line.", ["Step", "Served", "Running"], False),
-    ("gd_top", "The top call: which words it takes, what it finds in a file and leaves there, what it prints for its input, and how it ends.", ["Words", "Held", "Serves", "Ends"], False),
+    ("gd_top", "The top call: which words it takes, what it finds in a file and leaves there, what it prints for its input, and how it ends.", ["Words", "Held", "Kept", "Serves", "Ends"], False),
 ]
 
 # comments that lean on the definition above them, said in full

@@ -48,20 +48,19 @@ fn name(alloc: Global, present: bool, bytes: &[u8]) -> Result<(Option<Text>, &[u
     Ok((Some(text), rest))
 }
 
-/// Reads a primitive of this moment.
-#[tactic(auto, unfolding(crate::specs::Groups::primitive_at))]
-pub(crate) fn primitive(
+/// Reads what stands behind the first three references of a primitive of this moment and these flags.
+fn behind_typ(
     alloc: Global,
     moment: u64,
+    flags: u64,
+    left: Option<u32>,
+    right: Option<u32>,
+    typ: Option<u32>,
     bytes: &[u8],
 ) -> Result<(Primitive, &[u8]), Stop>
-    ensures { Finds (λ x. (x.0, x.1.now)) (defined.primitive_at moment bytes.now) result }
+    ensures { Finds (λ x. (x.0, x.1.now)) (defined.behind_typ_at moment flags left right typ bytes.now) result }
 {
-    let (flags, rest) = number(bytes, 1, &FLAGS)?;
-    let (left, rest) = reference(flag(flags, 0), rest)?;
-    let (right, rest) = reference(flag(flags, 1), rest)?;
-    let (typ, rest) = reference(flag(flags, 2), rest)?;
-    let (scope, rest) = reference(flag(flags, 3), rest)?;
+    let (scope, rest) = reference(flag(flags, 3), bytes)?;
     let (previous, rest) = reference(flag(flags, 4), rest)?;
     let (value, rest) = value(alloc, rest)?;
     let (name, rest) = name(alloc, flag(flags, 5), rest)?;
@@ -77,4 +76,20 @@ pub(crate) fn primitive(
         moment,
     };
     Ok((prim, rest))
+}
+
+/// Reads a primitive of this moment.
+#[tactic(auto, unfolding(crate::specs::Groups::primitive_at))]
+pub(crate) fn primitive(
+    alloc: Global,
+    moment: u64,
+    bytes: &[u8],
+) -> Result<(Primitive, &[u8]), Stop>
+    ensures { Finds (λ x. (x.0, x.1.now)) (defined.primitive_at moment bytes.now) result }
+{
+    let (flags, rest) = number(bytes, 1, &FLAGS)?;
+    let (left, rest) = reference(flag(flags, 0), rest)?;
+    let (right, rest) = reference(flag(flags, 1), rest)?;
+    let (typ, rest) = reference(flag(flags, 2), rest)?;
+    behind_typ(alloc, moment, flags, left, right, typ, rest)
 }

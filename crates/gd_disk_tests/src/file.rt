@@ -55,6 +55,14 @@ fn writes(alloc: Global, files: &HostRuntime) -> bool {
     }
 }
 
+/// Whether the file is not opened a second time while it is open.
+fn is_locked(alloc: Global, files: &HostRuntime) -> bool {
+    match opened(alloc, files) {
+        Ok(_first) => opened(alloc, files).is_err(),
+        Err(_) => false,
+    }
+}
+
 /// Whether the last three bytes are read, and no more.
 fn reads_the_end(disk: &mut FileDisk) -> bool {
     let mut buf = [7; 5];
@@ -94,6 +102,7 @@ fn a_file_holds_what_is_written(rt: HostRuntime) {
     let done = begins(&rt)
         && writes(rt.alloc(), &rt)
         && holds_wanted(&rt)
+        && is_locked(rt.alloc(), &rt)
         && reads(rt.alloc(), &rt)
         && again(&rt).is_ok()
         && holds_wanted(&rt)

@@ -1,10 +1,9 @@
 -- Where the records of a file end that was looked at.
-use Rattle.std.proofs.Common.{◌≡◌, ℕ, ◌<◌, ◌≤◌, List, [], length, Some, None, true, false, inl, inr, refl, sym, ◌∙◌, ap, arith}
+use Rattle.std.proofs.Common.{◌≡◌, ℕ, ◌<◌, List, [], length, Some, None, true, false, inl, inr, sym, ◌∙◌, ap, arith}
 use Rattle.std.proofs.lemmas.Bool.{cases_lt}
 use Rattle.std.specs.Prelude.{Option, MatchOption}
 use Rattle.std.specs.List.{AllByRecursion}
 use Rattle.std.specs.Option.{is_some}
-use Rattle.gd_bytes.specs.Disk.{Only, Stays}
 use Rattle.gd_bytes.specs.File.{Payloads}
 use Rattle.gd_journal.specs.Meaning.{held_by, located, IsDamagedAt}
 use Rattle.gd_journal.specs.Shape.{front, IsPayload, IsClosed}

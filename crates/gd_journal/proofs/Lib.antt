@@ -8,3 +8,4 @@ mod Found
 mod Rows
 mod Settles
 mod Ends
+mod Windows

@@ -5,3 +5,4 @@ pub mod Causes
 pub mod Heads
 pub mod Found
 pub mod Laws
+pub mod Windows

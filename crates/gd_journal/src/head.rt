@@ -1,12 +1,15 @@
 //! What stands at a gate.
-ghost use Rattle.std.specs.Prelude.{◌≡◌, ◌+◌, ◌-◌, ◌<◌, ◌≤◌, List, ℕ, length, take, drop, IfOk};
+ghost use Rattle.std.specs.Prelude.{◌≡◌, ◌+◌, ◌-◌, ◌<◌, ◌≤◌, List, ℕ, length, take, drop, IfOk, IfErr};
 ghost use Rattle.std.specs.Option.{ForSome};
-ghost use Rattle.gd_base.specs.Counts.{HasCause};
-ghost use Rattle.gd_bytes.specs.Disk.{Stays, Elapses};
+ghost use Rattle.gd_bytes.specs.Disk.{IsUntouched};
+ghost use Rattle.gd_journal.specs.Causes.{HasReason};
 ghost use Rattle.gd_journal.specs.Heads.{HeadIs, Fits};
+ghost use Rattle.gd_journal.specs.Windows.{Shows};
 
-use gd_disk::Failed;
+use crate::fault::JournalFault;
+use crate::window::{Window, part_at, reach};
 use gd_disk::disk::Disk;
+use std::alloc::Global;
 
 /// The greatest number of bytes of a payload. The least is 1.
 pub const PAYLOAD_LIMIT: usize = 268_435_456;
@@ -48,22 +51,27 @@ fn head_of(bytes: &[u8], room: u64) -> Head
 }
 
 /// What stands at a gate of a file that has so many bytes.
-pub(crate) fn head_at<D: Disk>(disk: &mut D, at: u64, len: u64) -> Result<Head, Failed>
+pub(crate) fn head_at<D: Disk>(
+    alloc: Global,
+    disk: &mut D,
+    window: &mut Window,
+    at: u64,
+    len: u64,
+) -> Result<Head, JournalFault>
     requires at { at < len }
     requires len { ForSome (D.content disk.old) (λ file. len ≡ length file) }
+    requires shows { Shows (D.content disk.old) window.old.at window.old.bytes }
+    ensures shows { Shows (D.content disk.new) window.new.at window.new.bytes }
     ensures head { IfOk result (λ head. ForSome (D.content disk.old) (λ file. HeadIs (drop at file) head)) }
     ensures fits { IfOk result (λ head. Fits (len - at) head) }
-    ensures stays { Stays (D.content disk.old) (D.content disk.new) (D.images disk.old) (D.images disk.new) }
-    ensures time { Elapses (D.moment disk.old) (D.moment disk.new)
-        (D.images_since disk.old) (D.images_since disk.new) (D.images disk.new) }
-    ensures calls { D.calls_left disk.old ≤ D.calls_left disk.new }
-    ensures room { D.bytes_left disk.old ≤ D.bytes_left disk.new }
-    ensures cause { HasCause (D.faults disk.old) (D.faults disk.new) result }
+    ensures untouched { IsUntouched D.content D.moment D.images D.images_since disk.old disk.new }
+    ensures later { D.faults disk.old ≤ D.faults disk.new }
+    ensures cause { IfErr result (HasReason (D.faults disk.old) (D.faults disk.new)) }
 {
-    let mut bytes = [0; 5];
-    let count = disk.read_at(at, &mut bytes)?;
-    if count == 0 {
+    reach(alloc, disk, window, at, HEAD as u32)?;
+    let bytes = part_at(window, at, HEAD as u32);
+    if bytes.is_empty() {
         return Ok(Head::End);
     }
-    Ok(head_of(&bytes[..count], len - at))
+    Ok(head_of(bytes, len - at))
 }

@@ -8,3 +8,4 @@ pub mod opening;
 pub mod payloads;
 pub mod reading;
 pub mod record;
+mod window;

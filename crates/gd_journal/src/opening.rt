@@ -16,6 +16,7 @@ use crate::journal::Journal;
 use crate::payloads::Payloads;
 use crate::reading::read_payloads;
 use crate::record::clear;
+use crate::window::Window;
 use gd_disk::Failed;
 use gd_disk::disk::Disk;
 use std::alloc::Global;
@@ -67,7 +68,7 @@ fn has_header<D: Disk>(disk: &mut D) -> Result<bool, Failed>
 }
 
 /// Goes from gate to gate, up to the one that ends the records.
-fn scan<D: Disk>(disk: &mut D, len: u64) -> Result<Ending, Failed>
+fn scan<D: Disk>(alloc: Global, disk: &mut D, len: u64) -> Result<Ending, JournalFault>
     requires long { 9 < len }
     requires len { ForSome (D.content disk.old) (λ file. len ≡ length file) }
     requires header { ForSome (D.content disk.old) (λ file. take 8 file ≡ header) }
@@ -75,12 +76,13 @@ fn scan<D: Disk>(disk: &mut D, len: u64) -> Result<Ending, Failed>
         × IsWalked ps end.gate file × EndsAt end.gate file end.damaged)) }
     ensures within { IfOk result (λ end. end.gate < len) }
     ensures untouched { IsUntouched D.content D.moment D.images D.images_since disk.old disk.new }
-    ensures calls { D.calls_left disk.old ≤ D.calls_left disk.new }
-    ensures cause { HasCause (D.faults disk.old) (D.faults disk.new) result }
+    ensures later { D.faults disk.old ≤ D.faults disk.new }
+    ensures cause { IfErr result (HasReason (D.faults disk.old) (D.faults disk.new)) }
 {
+    let mut window = Window::none(alloc);
     let mut at = 8;
     loop {
-        match head_at(disk, at, len)? {
+        match head_at(alloc, disk, &mut window, at, len)? {
             Head::End => {
                 return Ok(Ending {
                     gate: at,
@@ -113,7 +115,7 @@ fn begin<D: Disk>(disk: &mut D) -> Result<u64, JournalFault>
 }
 
 /// Finds where the records of a file of so many bytes end.
-fn find_end<D: Disk>(disk: &mut D, len: u64) -> Result<Ending, JournalFault>
+fn find_end<D: Disk>(alloc: Global, disk: &mut D, len: u64) -> Result<Ending, JournalFault>
     requires len { ForSome (D.content disk.old) (λ file. len ≡ length file) }
     ensures ends { IfOk result (λ end. ForSome (D.content disk.old) (λ file. HasEnd file len end.gate end.damaged)) }
     ensures not_store { IsErrOf result JournalFault.NotStore → ForSome (D.content disk.old) (λ file. held_by file ≡ None) }
@@ -130,7 +132,7 @@ fn find_end<D: Disk>(disk: &mut D, len: u64) -> Result<Ending, JournalFault>
     if !has_header(disk)? {
         return Err(JournalFault::NotStore);
     }
-    let end = scan(disk, len)?;
+    let end = scan(alloc, disk, len)?;
     Ok(end)
 }
 
@@ -180,7 +182,7 @@ impl<D: Disk> Model for Opening<D> {
 }
 
 /// Makes certain what the file holds, and finds where its records end.
-fn see<D: Disk>(disk: &mut D) -> Result<(u64, Ending), JournalFault>
+fn see<D: Disk>(alloc: Global, disk: &mut D) -> Result<(u64, Ending), JournalFault>
     ensures seen { IfOk result (λ found. Sees (D.content disk.new) (D.images disk.new) found.0 found.1.gate found.1.damaged) }
     ensures not_store { IsErrOf result JournalFault.NotStore → ForSome (D.content disk.old) (λ file. held_by file ≡ None) }
     ensures untouched { IsUntouched D.content D.moment D.images D.images_since disk.old disk.new }
@@ -188,7 +190,7 @@ fn see<D: Disk>(disk: &mut D) -> Result<(u64, Ending), JournalFault>
     ensures cause { IfErr result (MayRefuse (D.faults disk.old) (D.faults disk.new)) }
 {
     let len = begin(disk)?;
-    let end = find_end(disk, len)?;
+    let end = find_end(alloc, disk, len)?;
     Ok((len, end))
 }
 
@@ -208,7 +210,7 @@ pub fn look<D: Disk>(alloc: Global, disk: D) -> Result<Opening<D>, (JournalFault
     ensures cause { IfErr result (λ refused. MayRefuse (D.faults disk) (D.faults refused.1) refused.0) }
 {
     let mut disk = disk;
-    match see(&mut disk) {
+    match see(alloc, &mut disk) {
         Ok((len, end)) => Ok(Opening {
             disk,
             len,

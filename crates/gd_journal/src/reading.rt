@@ -1,7 +1,7 @@
 //! Reading the payloads of a file.
 ghost use Rattle.std.specs.Prelude.{◌≡◌, ◌+◌, ◌<◌, ◌≤◌, Some, None, length, take, IfOk, IfErr};
 ghost use Rattle.std.specs.Option.{ForSome};
-ghost use Rattle.gd_bytes.specs.Disk.{part, IsUntouched};
+ghost use Rattle.gd_bytes.specs.Disk.{IsUntouched};
 ghost use Rattle.gd_bytes.specs.File.{header};
 ghost use Rattle.gd_journal.specs.Causes.{HasReason};
 ghost use Rattle.gd_journal.specs.Found.{found_in};
@@ -10,27 +10,10 @@ ghost use Rattle.gd_journal.specs.Meaning.{held_by};
 use crate::fault::JournalFault;
 use crate::head::{HEAD, Head, head_at};
 use crate::opening::UNFINISHED;
-use crate::payloads::{Payload, PayloadBytes, PayloadList, Payloads};
+use crate::payloads::{Payload, PayloadList, Payloads};
+use crate::window::{Window, read_part};
 use gd_disk::disk::Disk;
 use std::alloc::Global;
-
-/// Reads so many bytes from an offset on, or as many as there are.
-fn read_payload<D: Disk>(
-    alloc: Global,
-    disk: &mut D,
-    at: u64,
-    size: u32,
-) -> Result<PayloadBytes, JournalFault>
-    ensures bytes { IfOk result (λ p. ForSome (D.content disk.old) (λ file. p ≡ part at size file)) }
-    ensures untouched { IsUntouched D.content D.moment D.images D.images_since disk.old disk.new }
-    ensures later { D.faults disk.old ≤ D.faults disk.new }
-    ensures cause { IfErr result (HasReason (D.faults disk.old) (D.faults disk.new)) }
-{
-    let mut bytes = vec![in alloc; 0; size as usize]?;
-    let count = disk.read_at(at, bytes.as_mut_slice())?;
-    bytes.truncate(count);
-    Ok(PayloadBytes::from(bytes))
-}
 
 /// Reads the payloads of a file of so many bytes, which has the header, up to the gate that ends its records.
 fn read_records<D: Disk>(alloc: Global, disk: &mut D, len: u64) -> Result<Payloads, JournalFault>
@@ -43,13 +26,14 @@ fn read_records<D: Disk>(alloc: Global, disk: &mut D, len: u64) -> Result<Payloa
     ensures cause { IfErr result (HasReason (D.faults disk.old) (D.faults disk.new)) }
 {
     let mut list = Vec::new(alloc);
+    let mut window = Window::none(alloc);
     let mut at = 8;
     loop {
-        match head_at(disk, at, len)? {
+        match head_at(alloc, disk, &mut window, at, len)? {
             Head::End => return Ok(found(list, None)),
             Head::Torn => return Ok(found(list, Some(at))),
             Head::Record(size) => {
-                let bytes = read_payload(alloc, disk, at + HEAD, size)?;
+                let bytes = read_part(alloc, disk, &mut window, at + HEAD, size)?;
                 list.push(Payload { offset: at, bytes })?;
                 at += u64::from(size) + HEAD;
             }

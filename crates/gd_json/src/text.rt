@@ -1,8 +1,8 @@
 //! From a value to its compact text.
 ghost use Rattle.std.specs.Prelude.{◌≡◌, ◌++◌, IfOk, OnOk};
-ghost use Rattle.gd_tree.specs.Json.{compact};
+ghost use Rattle.gd_tree.specs.Json.{compact, list, object};
 ghost use Rattle.gd_json.specs.View.{view, items_view, members_view};
-ghost use Rattle.gd_json.specs.Tokens.{tokens_of, items_tokens, members_tokens};
+ghost use Rattle.gd_json.specs.Tokens.{tokens_of};
 
 use crate::value::{Json, JsonText};
 use gd_base::memory::Memory;
@@ -29,25 +29,20 @@ fn write(out: &mut Writer, value: &Json) -> Result<(), Memory>
         Json::Bool(b) => out.boolean(*b)?,
         Json::Int(n) => out.i64(*n)?,
         Json::Text(text) => out.string(text.as_str())?,
-        Json::List(items) => {
-            out.begin_array()?;
-            write_items(out, items)?;
-        }
-        Json::Object(members) => {
-            out.begin_object()?;
-            write_members(out, members)?;
-        }
+        Json::List(items) => write_items(out, items)?,
+        Json::Object(members) => write_members(out, members)?,
     }
     Ok(())
 }
 
-// The items and the closing bracket.
+// The items within their brackets.
 #[cycle(write)]
 fn write_items(out: &mut Writer, items: &Vec<Json>) -> Result<(), Memory>
     ensures ok { OnOk result (out.new.tokens
-        ≡ out.old.tokens ++ items_tokens (items_view items.now.items)) }
+        ≡ out.old.tokens ++ tokens_of (list (items_view items.now.items))) }
     ensures before { out.new.before ≡ out.old.before }
 {
+    out.begin_array()?;
     for item in items {
         write(out, item)?;
     }
@@ -55,13 +50,14 @@ fn write_items(out: &mut Writer, items: &Vec<Json>) -> Result<(), Memory>
     Ok(())
 }
 
-// The members and the closing bracket.
+// The members within their brackets.
 #[cycle(write)]
 fn write_members(out: &mut Writer, members: &Vec<(JsonText, Json)>) -> Result<(), Memory>
     ensures ok { OnOk result (out.new.tokens
-        ≡ out.old.tokens ++ members_tokens (members_view members.now.items)) }
+        ≡ out.old.tokens ++ tokens_of (object (members_view members.now.items))) }
     ensures before { out.new.before ≡ out.old.before }
 {
+    out.begin_object()?;
     for member in members {
         out.key(member.0.as_str())?;
         write(out, &member.1)?;

@@ -13,14 +13,14 @@ use Rattle.gd_runs.specs.Input.{no_json, no_line, max_line, value_line, as_line}
 use Rattle.gd_tree.specs.Bounds.{json_depth, members_depth, IsPlain, MembersPlain}
 use Rattle.gd_grammar.proofs.Steps.{steps, ok_same, not_ok, some_same, not_some, either}
 use Rattle.gd_json.proofs.Levels.{json_is_bounded}
-use Rattle.gd_line_laws.specs.Laws.{LinesHaveQueries}
+use Rattle.gd_line_laws.specs.Laws.{WritesHaveQueries}
 
 -- a value in a member of an object
 pub record IsIn (T : List ℕ → Bool) (ms : Members) (j : Json) : Type 0 where
   pub depth : json_depth j ≤ members_depth ms
   pub plain : MembersPlain T ms → IsPlain T j
 
-member-in : (T : List ℕ → Bool) (k : List ℕ) (ms : Members) (j : Json) → get k ms ≡ Some j → IsIn T ms j
+pub member-in : (T : List ℕ → Bool) (k : List ℕ) (ms : Members) (j : Json) → get k ms ≡ Some j → IsIn T ms j
 member-in T k no_members j is = not_some j is
 member-in T k (member l x ms) j is = either (bytes_eq k l) (Some x) (get k ms) (Some j)
     (λ b same. subst (IsIn T (member l x ms)) (some_same x j same) (record { depth = omega arith; plain = λ are. are.0 }))
@@ -33,7 +33,7 @@ pub record IsBelow (T : List ℕ → Bool) (more : ℕ) (j : Json) (c : Change) 
   pub depth : more + json_depth query ≤ json_depth j
   pub plain : IsPlain T j → IsPlain T query
 
-mapped_ok : {A E F : Type 0} (f : E → F) (r : Result A E) (x : A) → map_err f r ≡ Ok x → r ≡ Ok x
+pub mapped_ok : {A E F : Type 0} (f : E → F) (r : Result A E) (x : A) → map_err f r ≡ Ok x → r ≡ Ok x
 mapped_ok f (Ok y) x is = ap Ok (ok_same y x is)
 mapped_ok f (Err e) x is = not_ok _ x is
 
@@ -87,8 +87,8 @@ line-query T (object ms) session w is = by (session_of (get (codes "sid") ms)) (
     by None r x s_is r_is x_is = let given = rw s_is at is in either fine _ _ (Ok (write session w)) (λ b err. not_ok _ (write session w) err) (λ b err. not_ok _ (write session w) err) given
 line-query T _ session w is = not_ok _ (write session w) is
 
-pub lines_have_queries : LinesHaveQueries
-lines_have_queries bytes session w is =
+pub writes_have_queries : WritesHaveQueries
+writes_have_queries bytes session w is =
     either (nat_lt max_line (length bytes)) _ (value_line (λ j. as_line (line_of j)) (json_from bytes)) (Ok (write session w)) (λ b err. not_ok _ (write session w) err)
     (λ b rest. let j = steps (map_err no_json (json_from bytes)) (λ j. as_line (line_of j)) (write session w) rest in
     let bounds = json_is_bounded bytes j.value (mapped_ok no_json (json_from bytes) j.value j.gave) in

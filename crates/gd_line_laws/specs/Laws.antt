@@ -8,7 +8,8 @@ use Rattle.gd_prim.specs.WellFormed.{max_moment}
 use Rattle.gd_tree.specs.Json.{Json}
 use Rattle.gd_defs.specs.Change.{change_of}
 use Rattle.gd_defs.specs.Write.{WriteRequest, exec}
-use Rattle.gd_runs.specs.Request.{write}
+use Rattle.gd_defs.specs.Query.{query_of}
+use Rattle.gd_runs.specs.Request.{ReadRequest, read, write}
 use Rattle.gd_runs.specs.Input.{line_from}
 use Rattle.gd_runs.specs.Legal.{Entry, History, batches, IsLegal}
 use Rattle.gd_write_laws.specs.Sound.{IsSound}
@@ -25,15 +26,26 @@ abbrev pub LegalBatchesFollow : Type 0
 LegalBatchesFollow = (h : History) → IsLegal h → AreInTime h.entries → IsTrue (is_history (batches h))
 
 -- the query of a write: a value of at most 14 levels spells it, with whole numbers of 64 bits and texts of UTF-8
-pub record HasQuery (w : WriteRequest) : Type 0 where
+pub record HasWriteQuery (w : WriteRequest) : Type 0 where
   pub query : Json
   pub spells : change_of query ≡ Ok w.change
   pub depth : json_depth query ≤ 14
   pub plain : IsPlain is_utf8 query
 
+-- the query of a read: a value of at most 14 levels spells it, with whole numbers of 64 bits and texts of UTF-8
+pub record HasReadQuery (r : ReadRequest) : Type 0 where
+  pub query : Json
+  pub spells : query_of query ≡ Ok r.query
+  pub depth : json_depth query ≤ 14
+  pub plain : IsPlain is_utf8 query
+
+-- A line with a read has its query.
+abbrev pub ReadsHaveQueries : Type 0
+ReadsHaveQueries = (bytes : List ℕ) (session : ℕ) (r : ReadRequest) → line_from bytes ≡ Ok (read session r) → HasReadQuery r
+
 -- A line with a write has its query.
-abbrev pub LinesHaveQueries : Type 0
-LinesHaveQueries = (bytes : List ℕ) (session : ℕ) (w : WriteRequest) → line_from bytes ≡ Ok (write session w) → HasQuery w
+abbrev pub WritesHaveQueries : Type 0
+WritesHaveQueries = (bytes : List ℕ) (session : ℕ) (w : WriteRequest) → line_from bytes ≡ Ok (write session w) → HasWriteQuery w
 
 -- The result of a write that a line spells is at most 14 deep.
 abbrev pub LineResultsAreFlat : Type 0

@@ -2,11 +2,16 @@
 //! it may use the law, and code above cites its statement from `specs/Laws.antt`.
 #![tactic(auto)]
 
-ghost use Rattle.gd_line_laws.specs.Laws.{FreshListsAreTyped, LegalBatchesFollow, LegalListsAreTyped, LineResultsAreFlat, LinesHaveQueries, LinesKeepTyped};
+ghost use Rattle.gd_line_laws.specs.Laws.{FreshListsAreTyped, LegalBatchesFollow, LegalListsAreTyped, LineResultsAreFlat, LinesKeepTyped, ReadsHaveQueries, WritesHaveQueries};
+
+/// The query of a read in a line is at most 14 deep, with whole numbers of 64 bits and texts of UTF-8.
+pub fn reads_have_queries()
+    ensures { ReadsHaveQueries }
+{}
 
 /// The query of a write in a line is at most 14 deep, with whole numbers of 64 bits and texts of UTF-8.
-pub fn lines_have_queries()
-    ensures { LinesHaveQueries }
+pub fn writes_have_queries()
+    ensures { WritesHaveQueries }
 {}
 
 /// The result of a write that a line spells is at most 14 deep.

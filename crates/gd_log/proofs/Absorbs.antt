@@ -1,6 +1,6 @@
 -- Batches that are absorbed one by one, and withdrawn again.
 use Rattle.std.proofs.Common.{◌≡◌, ◌⊎◌, inl, inr, ⊎_elim, Option, Some, None, Err, ℕ, ◌+◌, ◌-◌, ◌<◌, ◌≤◌, List, [], ◌∷◌, ◌++◌, length, take, drop, get_or, true, refl, sym, ◌∙◌, ap, subst, arith, length-append, length-take, append_assoc}
-use Rattle.std.proofs.lemmas.List.{append-nil, take-take, take_all}
+use Rattle.std.proofs.lemmas.List.{take-take, take_all}
 use Rattle.std.proofs.Math.Seq.{take-append_seam}
 use Rattle.gd_prim.specs.declared.Batch.{Batch}
 use Rattle.gd_prim.specs.History.{prims_of}

@@ -1,6 +1,7 @@
 -- What is taken in when payloads are read.
 use Rattle.std.proofs.Common.{◌≡◌, ℕ, suc, ◌+◌, ◌<◌, ◌≤◌, List, [], ◌∷◌, ◌++◌, length, take, drop, get_or, Bool, true, false, Some, None, refl, sym, ◌∙◌, ap, subst, arith, append_assoc, length-append, add-one, drop-cons}
-use Rattle.std.specs.Prelude.{Option, ◌≢◌, ◌&&◌, if◌then◌else◌, MatchBool}
+use Rattle.std.specs.Prelude.{Option, ◌≢◌, ◌&&◌, if◌then◌else◌, MatchBool, MatchOption}
+use Rattle.std.specs.Option.{option_or}
 use Rattle.std.specs.Bool.{OnTrue}
 use Rattle.std.proofs.lemmas.List.{append-nil, take-append-drop, take_all}
 use Rattle.std.proofs.Math.Seq.{take-suc}
@@ -19,7 +20,7 @@ use Rattle.gd_journal.specs.Found.{seen}
 use Rattle.gd_log.specs.Groups.{AreGroups}
 use Rattle.gd_log.specs.Opening.{IsTaken, bytes_of}
 use Rattle.gd_codec.proofs.Meaning.{spelled_meant}
-use Rattle.gd_log.proofs.Meaning.{walk_stop, push}
+use Rattle.gd_log.proofs.Meaning.{walk_stop, walk_torn, push}
 
 -- ---- batches one by one
 
@@ -100,3 +101,19 @@ record_stops list torn i p store lt is are none =
 -- all records were taken in
 pub records_done : (list : List Payload) (i : ℕ) (store : List Batch) → length list ≤ i → AreGroups [] (bytes_of (take i list)) store → AreGroups [] (bytes_of list) store
 records_done list i store all are = subst (λ (l : List Payload). AreGroups [] (bytes_of l) store) (take_all i list all) are
+
+-- the first damage: a payload that is not taken in, or a record behind them that is not there in full
+pub first_damage : (list : List Payload) (bad torn first : Option ℕ) (store : List Batch) (offset : ℕ) → MatchOption bad (AreGroups [] (bytes_of list) store) (λ at. (t : Option ℕ) → groups_of [] (seen list) t ≡ damaged at) → first ≡ option_or bad torn → first ≡ Some offset
+    → groups_of [] (seen list) torn ≡ damaged offset
+first_damage list None torn first store offset are is some =
+    let there : torn ≡ Some offset = sym is ∙ some in
+    ap (λ (o : Option ℕ). groups_of [] (seen list) o) there ∙ walk_torn (seen list) offset store are
+first_damage list (Some at) torn first store offset stops is some =
+    let same : at ≡ offset = cc in
+    stops torn ∙ ap damaged same
+
+-- none
+pub no_damage : (list : List Payload) (bad torn first : Option ℕ) (store : List Batch) → MatchOption bad (AreGroups [] (bytes_of list) store) (λ at. (t : Option ℕ) → groups_of [] (seen list) t ≡ damaged at) → first ≡ option_or bad torn → first ≡ None
+    → (torn ≡ None) × AreGroups [] (bytes_of list) store
+no_damage list None torn first store are is none = (sym is ∙ none, are)
+no_damage list (Some at) torn first store stops is none = cc

@@ -1,6 +1,6 @@
 -- Laws of batches that may follow one another: as a group they may be written, and have few bytes.
 use Rattle.std.proofs.Common.{◌≡◌, ◌≤◌, ℕ, ◌+◌, ◌*◌, List, [], ◌∷◌, ◌++◌, length, Bool, true, false, if◌then◌else◌, Option, Some, None, refl, arith, nat_lt, length-append}
-use Rattle.std.specs.Prelude.{flat_map, sum_by, nat_eq, not, ◌&&◌}
+use Rattle.std.specs.Prelude.{flat_map, sum_by, nat_eq, not}
 use Rattle.std.specs.Option.{is_some}
 use Rattle.std.specs.List.{AllByRecursion}
 use Rattle.std.specs.Int.{to_be_bytes, w16, w64}
@@ -12,7 +12,7 @@ use Rattle.gd_base.specs.declared.datum.Datum.TheVariants as datum
 use Rattle.gd_prim.specs.declared.Primitive.{Primitive}
 use Rattle.gd_prim.specs.declared.Batch.{Batch}
 use Rattle.gd_prim.specs.History.{prims_of}
-use Rattle.gd_prim.specs.WellFormed.{max_moment, is_well_placed, first_bad, bad_place, may_follow, all_follow}
+use Rattle.gd_prim.specs.WellFormed.{is_well_placed, first_bad, bad_place, may_follow, all_follow}
 use Rattle.gd_prim.specs.Limits.{limits, first_full, text_bytes}
 use Rattle.gd_bytes.specs.Group.{spelling, batch_bytes, primitive_bytes, reference_bytes, value_bytes, name_bytes}
 use Rattle.gd_codec.specs.Writable.{PrimitiveMay, BatchMay, MayWrite}

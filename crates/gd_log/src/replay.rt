@@ -1,16 +1,17 @@
 //! The store for which payloads stand.
-ghost use Rattle.std.specs.Prelude.{◌≡◌, ◌++◌, ◌∷◌, [], None, length, IfOk, MatchBool, MatchResult};
+ghost use Rattle.std.specs.Prelude.{◌≡◌, ◌++◌, ◌∷◌, [], ℕ, Option, None, length, IfOk, MatchBool, MatchOption, MatchResult};
 ghost use Rattle.std.specs.Bool.{OnTrue};
 ghost use Rattle.gd_prim.specs.History.{prims_of};
 ghost use Rattle.gd_prim.specs.WellFormed as defined;
-ghost use Rattle.gd_bytes.specs.File.{record_batches, groups_of};
+ghost use Rattle.gd_bytes.specs.File.{damaged, record_batches, groups_of};
 ghost use Rattle.gd_journal.specs.Found.{seen};
-ghost use Rattle.gd_log.specs.Opening.{Stops, IsTaken, AreAll};
+ghost use Rattle.gd_log.specs.Groups.{AreGroups};
+ghost use Rattle.gd_log.specs.Opening.{Stops, IsTaken, AreAll, bytes_of};
 
 use gd_base::memory::Memory;
 use gd_codec::{CodecFault, decode_group};
 use gd_journal::fault::JournalFault;
-use gd_journal::payloads::Payloads;
+use gd_journal::payloads::{Payload, Payloads};
 use gd_prim::Batch;
 use gd_store::store::Store;
 use std::alloc::Global;
@@ -64,6 +65,21 @@ fn absorb_record(alloc: Global, store: &mut Store, bytes: &[u8]) -> Result<bool,
     }
 }
 
+/// Stores the batches of payloads one by one, and gives the offset of the first that is no group, or a batch of which may
+/// not follow.
+fn absorb_records(alloc: Global, store: &mut Store, list: &[Payload]) -> Result<Option<u64>, Memory>
+    requires { store.old ≡ [] }
+    ensures { IfOk result (λ bad. MatchOption bad (AreGroups [] (bytes_of list.now) store.new)
+        (λ offset. (torn : Option ℕ) → groups_of [] (seen list.now) torn ≡ damaged offset)) }
+{
+    for payload in list {
+        if !absorb_record(alloc, store, payload.bytes.as_slice())? {
+            return Ok(Some(payload.offset));
+        }
+    }
+    Ok(None)
+}
+
 /// The store that stands for the batches of these payloads. `Damaged`: a payload is no group, or a batch of it may not
 /// follow those before it, or a record behind the payloads is not there in full; the gate's offset of the first such
 /// record is told. `Memory`: an allocation was refused.
@@ -72,15 +88,8 @@ pub(crate) fn replay(alloc: Global, payloads: &Payloads) -> Result<Store, Journa
         (λ fault. Stops fault (groups_of [] (seen payloads.now.list) payloads.now.damaged)) }
 {
     let mut store = Store::new(alloc)?;
-    let list = payloads.list.as_slice();
-    for payload in list {
-        if !absorb_record(alloc, &mut store, payload.bytes.as_slice())? {
-            return Err(JournalFault::Damaged {
-                offset: payload.offset,
-            });
-        }
-    }
-    match payloads.damaged {
+    let bad = absorb_records(alloc, &mut store, payloads.list.as_slice())?;
+    match bad.or(payloads.damaged) {
         Some(offset) => Err(JournalFault::Damaged { offset }),
         None => Ok(store),
     }

@@ -60,11 +60,11 @@ doubt_reply = codes "{\"code\":\"/api/status/error\",\"error\":\"DiskFault\",\"i
 
 pub told_with : Prints all_built with_it 0 first_bytes in_doubt doubt_reply
 unfolding computing
-told_with = ((0, request_of (line_from first_bytes), refl), refl)
+told_with = ((0, 0, request_of (line_from first_bytes), record { loaded = omega arith; size = omega arith }, refl), refl)
 
 pub told_without : Prints all_built without_it 0 first_bytes in_doubt doubt_reply
 unfolding computing
-told_without = ((0, request_of (line_from first_bytes), refl), refl)
+told_without = ((0, 0, request_of (line_from first_bytes), record { loaded = omega arith; size = omega arith }, refl), refl)
 
 -- the second write is stored behind it, as object 72 at dateline 2
 pub stored_behind : Prints all_built with_it 1 second_bytes (stored 1)

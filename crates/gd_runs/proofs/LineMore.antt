@@ -12,7 +12,7 @@ use Rattle.gd_defs.specs.Write.{WriteRequest, ChangeFault}
 use Rattle.gd_runs.specs.Request.{Line, LineFault, bad_line, bad_form, line_of, read, write, ReadRequest, reply_of, change_refusal}
 use Rattle.gd_runs.specs.Input.{Forms, InputFault, line_too_long, max_line, value_line, bytes_line, as_line, as_built, line_from, line_at, input_fault_line}
 use Rattle.gd_runs.specs.Legal.{Entry, History, size, batches, with_entries, upto, take_below, exec_line, AreEntriesAfter}
-use Rattle.gd_runs.specs.Explained.{entry_at, Numbered, Run, Outcome, no_request, no_memory, stored, refused, answered, Prints, HasNumber, TakesIn, MayBe, DoesLine, MayBeEntry, memory_line, IsExplainedBy, IsRoundAfter}
+use Rattle.gd_runs.specs.Explained.{entry_at, Numbered, Run, Outcome, no_request, no_memory, stored, refused, answered, IsWithin, Prints, HasNumber, TakesIn, MayBe, DoesLine, MayBeEntry, memory_line, IsExplainedBy, IsRoundAfter}
 use Rattle.gd_runs.proofs.Rounds.{some_same, no_some, entry_new, prints_kept, line_at_kept, told_within, stored_told, get_cases, size_more, one_round_more}
 
 -- no line is of a later round than this
@@ -110,11 +110,15 @@ module _ (forms : Forms) (loaded : List Batch) (may : ℕ → Bool) (given : Lis
 
   -- ---- what a line comes to
 
+  -- over the whole history
+  pub whole : IsWithin h (size h)
+  whole = record { loaded = omega arith; size = omega arith }
+
   -- refused by its form
   pub fault_more : (f : InputFault) → line_at forms (prims_at (batches h) (size h)) l.bytes ≡ Err f
       → IsExplainedBy forms loaded may (given ++ l ∷ []) (output ++ (input_fault_line (length runs) f ++ 10 ∷ [])) (with_entries h []) (runs ++ run_of l no_request (input_fault_line (length runs) f) ∷ [])
   fault_more f is = line_more no_request (input_fault_line (length runs) f) [] tt
-      (prints_kept forms h [] (length runs) l.bytes no_request (input_fault_line (length runs) f) (size h, f, omega arith, is, refl))
+      (prints_kept forms h [] (length runs) l.bytes no_request (input_fault_line (length runs) f) (size h, f, whole, is, refl))
       (λ i e there. no_some there) (λ n has. absurd has)
 
   -- without memory
@@ -136,7 +140,7 @@ module _ (forms : Forms) (loaded : List Batch) (may : ℕ → Bool) (given : Lis
       (runs ++ run_of l (refused (size h)) (err_line (size h) (length runs) (change_refusal f)) ∷ [])
   refused_more s w moment f is does = line_more (refused (size h)) (err_line (size h) (length runs) (change_refusal f)) [] tt
       (prints_kept forms h [] (length runs) l.bytes (refused (size h)) (err_line (size h) (length runs) (change_refusal f))
-      (s, w, moment, f, is, omega arith, omega arith, ap (λ (g : History). exec_line g w moment (length l.bytes)) (upto_all h) ∙ does, refl))
+      (s, w, moment, f, is, whole, ap (λ (g : History). exec_line g w moment (length l.bytes)) (upto_all h) ∙ does, refl))
       (λ i e there. no_some there) (λ n has. has)
 
   -- the entry of a write

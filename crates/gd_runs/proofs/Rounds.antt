@@ -18,7 +18,7 @@ use Rattle.gd_runs.specs.Request.{Line, read, write, ReadRequest, CursorAsk, no_
 use Rattle.gd_runs.specs.Input.{Forms, InputFault, line_from, line_at}
 use Rattle.gd_runs.specs.Owed.{MembersOf}
 use Rattle.gd_runs.specs.Legal.{Entry, History, size, batches, with_entry, with_entries, upto, take_below, exec_line, AreEntriesAfter}
-use Rattle.gd_runs.specs.Explained.{Numbered, Run, Outcome, no_request, no_memory, stored, refused, late, in_doubt, not_tried, answered, entry_at, IsOfLine, Prints, HasNumber, MayBeEntry, IsOfRun, SameSession, TakesIn, IsBounded, MayBe, stored_dateline, told_dateline, cursor_dateline, ask_dateline, line_dateline, is_upto, stands_upto, without_return, pieces, IsExplainedBy, IsOldDoubt, IsRoundAfter}
+use Rattle.gd_runs.specs.Explained.{Numbered, Run, Outcome, no_request, no_memory, stored, refused, late, in_doubt, not_tried, answered, entry_at, IsOfLine, IsWithin, IsWrite, Prints, HasNumber, MayBeEntry, IsOfRun, SameSession, TakesIn, IsBounded, MayBe, stored_dateline, told_dateline, cursor_dateline, ask_dateline, line_dateline, is_upto, stands_upto, without_return, pieces, IsExplainedBy, IsOldDoubt, IsRoundAfter}
 use Rattle.gd_runs.specs.Core.{State}
 use Rattle.gd_runs.specs.Replay.{LineStep, Replies}
 
@@ -172,20 +172,31 @@ pub line_at_kept : (forms : Forms) (h : History) (new : List Entry) (n : ℕ) (b
     → line_at forms (prims_at (batches h) n) bytes ≡ l → line_at forms (prims_at (batches (with_entries h new)) n) bytes ≡ l
 line_at_kept forms h new n bytes l within is = ap (λ (prims : List Primitive). line_at forms prims bytes) (prims_same h new n within) ∙ is
 
+within_kept : (h : History) (new : List Entry) (n : ℕ) → IsWithin h n → IsWithin (with_entries h new) n
+within_kept h new n within = let longer = size_more h new in record { loaded = within.loaded; size = omega (arith, within.size, longer) }
+
+pub write_kept : (forms : Forms) (h : History) (new : List Entry) (bytes : List ℕ) → IsWrite forms h bytes → IsWrite forms (with_entries h new) bytes
+write_kept forms h new bytes (n, s, w, within, asked) = (n, s, w, within_kept h new n within, line_at_kept forms h new n bytes (Ok (write s w)) within.size asked)
+
 pub prints_kept : (forms : Forms) (h : History) (new : List Entry) (k : ℕ) (bytes : List ℕ) (o : Outcome) (reply : List ℕ) → Prints forms h k bytes o reply → Prints forms (with_entries h new) k bytes o reply
-prints_kept forms h new k bytes no_request reply (n, f, most, line, is) =
-    let longer = size_more h new in
-    (n, f, omega (arith, most, longer), line_at_kept forms h new n bytes (Err f) most line, is)
+prints_kept forms h new k bytes no_request reply (n, f, within, line, is) = (n, f, within_kept h new n within, line_at_kept forms h new n bytes (Err f) within.size line, is)
 prints_kept forms h new k bytes no_memory reply p = p
 prints_kept forms h new k bytes (stored e) reply (x, s, line, asked, is) =
     let below = entry_below h e x line.0 in
     (x, s, of_line_kept h new k e x line, line_at_kept forms h new e bytes (Ok (write s x.request)) (omega (arith, below)) asked, is)
 prints_kept forms h new k bytes (late e) reply (x, line, is) = (x, of_line_kept h new k e x line, is)
-prints_kept forms h new k bytes in_doubt reply p = p
-prints_kept forms h new k bytes not_tried reply p = p
-prints_kept forms h new k bytes (refused n) reply (s, w, moment, f, asked, least, most, does, is) =
-    let longer = size_more h new in
-    (s, w, moment, f, line_at_kept forms h new n bytes (Ok (write s w)) most asked, least, omega (arith, most, longer), ap (λ (g : History). exec_line g w moment (length bytes)) (upto_kept h new n most) ∙ does, is)
+prints_kept forms h new k bytes in_doubt reply (writes, is) = (write_kept forms h new bytes writes, is)
+prints_kept forms h new k bytes not_tried reply (writes, is) = (write_kept forms h new bytes writes, is)
+prints_kept forms h new k bytes (refused n) reply (s, w, moment, f, asked, within, does, is) = (
+  s,
+  w,
+  moment,
+  f,
+  line_at_kept forms h new n bytes (Ok (write s w)) within.size asked,
+  within_kept h new n within,
+  ap (λ (g : History). exec_line g w moment (length bytes)) (upto_kept h new n within.size) ∙ does,
+  is,
+)
 prints_kept forms h new k bytes (answered m) reply (s, r, asked, most, is) =
     let longer = size_more h new in
     (s, r, line_at_kept forms h new m bytes (Ok (read s r)) most asked, omega (arith, most, longer), is ∙ sym (reply_kept h new m k r most))

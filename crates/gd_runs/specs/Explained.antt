@@ -4,10 +4,10 @@ pub mod Outcomes
 pub mod Runs
 pub mod Rounds
 pub use Rattle.gd_runs.specs.Explained.Lines.{Numbered, without_return, pieces, max_round, numbered, lines_of}
-pub use Rattle.gd_runs.specs.Explained.Outcomes.{Outcome, no_request, no_memory, stored, refused, late, in_doubt, not_tried, answered, memory_line, late_line, disk_line, entry_at, IsOfLine, IsAskedAt, Prints, HasNumber, MayBeEntry, DoesLine, session_of, cursor_dateline, ask_dateline, line_dateline, printed_dateline, stored_dateline, told_dateline}
+pub use Rattle.gd_runs.specs.Explained.Outcomes.{Outcome, no_request, no_memory, stored, refused, late, in_doubt, not_tried, answered, memory_line, late_line, disk_line, entry_at, IsOfLine, IsAskedAt, IsWithin, IsWrite, Prints, HasNumber, MayBeEntry, DoesLine, session_of, cursor_dateline, ask_dateline, line_dateline, printed_dateline, stored_dateline, told_dateline}
 pub use Rattle.gd_runs.specs.Explained.Runs.{Run, SameSession, is_upto, stands_upto, TakesIn, IsBounded, MayBe, IsOfRun}
 pub use Rattle.gd_runs.specs.Explained.Rounds.{IsOfRound, IsOldDoubt, IsRoundAfter}
-use Rattle.std.specs.Prelude.{◌||◌, bytes_eq, ◌≡◌, ℕ, ◌+◌, ◌<◌, ◌⊎◌, List, [], ◌∷◌, ◌++◌, map, filter, flat_map, Bool, nat_lt, Some, slice_get, if◌then◌else◌, codes}
+use Rattle.std.specs.Prelude.{◌||◌, bytes_eq, ◌≡◌, ℕ, ◌+◌, ◌<◌, ◌⊎◌, List, [], ◌∷◌, ◌++◌, map, filter, flat_map, Bool, nat_lt, Option, None, Some, slice_get, if◌then◌else◌, codes}
 use Rattle.gd_prim.specs.declared.Batch.{Batch}
 use Rattle.gd_bytes.specs.File.{StandsFor}
 use Rattle.gd_runs.specs.Input.{Forms}
@@ -44,11 +44,28 @@ lines_within rounds input = filter (λ l. nat_lt l.round rounds) (lines_of input
 abbrev pub ExplainsRounds : ℕ → Forms → List Batch → (ℕ → Bool) → List ℕ → List ℕ → History → Type 0
 ExplainsRounds rounds forms loaded may input output h = (runs : List Run) × IsExplainedBy forms loaded may (lines_within rounds input) output h runs
 
--- the bytes of a file stand for a history, or for it with the entry of one line that is in doubt
-abbrev pub Holds : History → List Run → List ℕ → Type 0
-Holds h runs file = StandsFor file (batches h)
-    ⊎ ((entry : Entry) × (r : Run) × IsLegal (with_entry h entry) × (slice_get runs entry.line ≡ Some r) × DoesLine r.line.bytes entry × (r.outcome ≡ in_doubt)
-    × StandsFor file (batches (with_entry h entry)))
+-- The write of one line that was left in doubt: the history may have it as its next entry, at a moment that the clock may give.
+pub record IsLeftInDoubt (may : ℕ → Bool) (h : History) (runs : List Run) (entry : Entry) : Type 0 where
+  pub run : Run
+  pub doubt : IsOldDoubt h runs entry run
+  pub legal : IsLegal (with_entry h entry)
+  pub moment : MayBe may entry.moment
+
+-- no write was left in doubt, or this one
+abbrev pub MayBeLeft : (ℕ → Bool) → History → List Run → Option Entry → Type 0
+MayBeLeft may h runs None = Unit {0}
+MayBeLeft may h runs (Some entry) = IsLeftInDoubt may h runs entry
+
+-- the bytes of a file stand for a history, or for it with the one entry that is in doubt
+abbrev pub StandsWith : History → Option Entry → List ℕ → Type 0
+StandsWith h None file = StandsFor file (batches h)
+StandsWith h (Some entry) file = StandsFor file (batches h) ⊎ StandsFor file (batches (with_entry h entry))
+
+-- At most one write was left in doubt, and all these files stand for the history, with or without it.
+pub record Holds (may : ℕ → Bool) (h : History) (runs : List Run) (files : List ℕ → Type 0) : Type 0 where
+  pub left : Option Entry
+  pub may_be : MayBeLeft may h runs left
+  pub each : (file : List ℕ) → files file → StandsWith h left file
 
 -- the reply to line k tells a failure of the disk
 abbrev pub tells_fault : ℕ → List ℕ → Bool

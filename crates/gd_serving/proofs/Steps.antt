@@ -12,12 +12,11 @@ use Rattle.gd_defs.specs.Write.{WriteRequest, ChangeFault, full, exec}
 use Rattle.gd_runs.specs.Request.{Line, read, write, ReadRequest, reply_of, change_refusal}
 use Rattle.gd_runs.specs.Input.{InputFault, line_at, input_fault_line}
 use Rattle.gd_runs.specs.Legal.{Entry, History, size, batches, with_entries, history_bytes, kept_bytes, max_history, exec_line}
-use Rattle.gd_runs.specs.Explained.{Numbered, Run, MayBe, IsExplainedBy, IsOldDoubt, IsRoundAfter, HasNumber, entry_at, memory_line, disk_line}
-use Rattle.gd_runs.specs.Explained.Outcomes.{IsWrite}
+use Rattle.gd_runs.specs.Explained.{Numbered, Run, MayBe, IsExplainedBy, IsOldDoubt, IsRoundAfter, IsWrite, HasNumber, entry_at, memory_line, disk_line}
 use Rattle.gd_runs.specs.Explained as outcome
 use Rattle.gd_runs.specs.Built.{is_built}
-use Rattle.gd_runs.proofs.Rounds.{no_some, some_same, get_left, get_right, get_within, length_batches, one_round_more}
-use Rattle.gd_runs.proofs.LineMore.{UptoRound, line_more, line_from-at, fault_more, memory_more, read_more, refused_more, stored_more, entry_of, run_of}
+use Rattle.gd_runs.proofs.Rounds.{no_some, some_same, get_left, get_right, get_within, length_batches, write_kept, one_round_more}
+use Rattle.gd_runs.proofs.LineMore.{UptoRound, line_more, line_from-at, fault_more, memory_more, read_more, refused_more, stored_more, whole, entry_of, run_of}
 use Rattle.gd_serving.specs.Served.{Doubt, Progress, IsDoubtOf, IsDoubted, IsServed, AreUpto}
 use Rattle.gd_serving.specs.Step.{ComesTo, faulty, answered, refused, too_long, stored, in_doubt, not_tried, without_memory, Settles, no_doubt, counts, counts_not}
 
@@ -164,10 +163,13 @@ module _ (loaded : List Batch) (may : ℕ → Bool) (given : List Numbered) (out
       let within = get_within runs x.line of.0 of.1 in
       absurd (omega (arith, within, line))
 
-  not_tried_at : (d : Option Doubt) → IsDoubted may h runs d → IsWrite l.bytes
+  writes_here : (s : ℕ) (w : WriteRequest) → line_at is_built (prims_at (batches h) (length (batches h))) l.bytes ≡ Ok (write s w) → IsWrite is_built (with_entries h []) l.bytes
+  writes_here s w is = write_kept is_built h [] l.bytes (size h, s, w, whole is_built loaded may given output h runs ex l here, line_here (Ok (write s w)) is)
+
+  not_tried_at : (d : Option Doubt) → IsDoubted may h runs d → (s : ℕ) (w : WriteRequest) → line_at is_built (prims_at (batches h) (length (batches h))) l.bytes ≡ Ok (write s w)
       → IsServed loaded may (given ++ l ∷ []) (output ++ (disk_line (length given) (codes "no") ++ 10 ∷ [])) (record { batches = batches h; lines = length given + 1; kept = history_bytes h; doubt = d })
-  not_tried_at d doubted writes = quiet (λ k. disk_line k (codes "no")) (run_of l outcome.not_tried (disk_line (length runs) (codes "no"))) d (doubt_kept _ d doubted)
-      (line_more is_built loaded may given output h runs ex l here outcome.not_tried (disk_line (length runs) (codes "no")) [] tt (writes, refl) (λ i e there. no_some there) (λ n has. absurd has))
+  not_tried_at d doubted s w is = quiet (λ k. disk_line k (codes "no")) (run_of l outcome.not_tried (disk_line (length runs) (codes "no"))) d (doubt_kept _ d doubted)
+      (line_more is_built loaded may given output h runs ex l here outcome.not_tried (disk_line (length runs) (codes "no")) [] tt (writes_here s w is, refl) (λ i e there. no_some there) (λ n has. absurd has))
 
   doubtful_at : (s : ℕ) (w : WriteRequest) (moment : ℕ) (done : Batch × Json) → line_at is_built (prims_at (batches h) (length (batches h))) l.bytes ≡ Ok (write s w)
       → exec (prims_at (batches h) (length (batches h))) (length (batches h)) w moment ≡ Ok done
@@ -175,13 +177,12 @@ module _ (loaded : List Batch) (may : ℕ → Bool) (given : List Numbered) (out
       → IsServed loaded may (given ++ l ∷ []) (output ++ (disk_line (length given) (codes "maybe") ++ 10 ∷ []))
       (record { batches = batches h; lines = length given + 1; kept = history_bytes h; doubt = Some (record { batch = done.0; kept = kept_bytes (length l.bytes) done.1 }) })
   doubtful_at s w moment done is does within may_be =
-      let asked : IsWrite l.bytes = (s, w, line_from-at is_built (prims_at (batches h) (size h)) l.bytes (write s w) (line_here (Ok (write s w)) is)) in
       let e : Entry = entry_of is_built loaded may given output h runs ex l here w moment done in
       let r : Run = run_of l outcome.in_doubt (disk_line (length runs) (codes "maybe")) in
       let place : length runs + 0 ≡ length runs = omega arith in
       let old : IsOldDoubt h (runs ++ r ∷ []) e r = record {
         there = subst (λ (k : ℕ). slice_get (runs ++ r ∷ []) k ≡ Some r) place (get_right runs (r ∷ []) 0 r refl);
-        does = (s, asked.2, refl);
+        does = (s, line_from-at is_built (prims_at (batches h) (size h)) l.bytes (write s w) (line_here (Ok (write s w)) is), refl);
         doubt = refl;
         last = λ n x q at there.
             let before = old_line r n x q at there in
@@ -191,7 +192,7 @@ module _ (loaded : List Batch) (may : ℕ → Bool) (given : List Numbered) (out
       } in
       quiet (λ k. disk_line k (codes "maybe")) r (Some (record { batch = done.0; kept = kept_bytes (length l.bytes) done.1 }))
       (record { entry = e; run = r; old = old; after = exec_line_ok w moment (length l.bytes) done (exec_here w moment (Ok done) does) within; moment = may_be; batch = refl; kept = refl })
-      (line_more is_built loaded may given output h runs ex l here outcome.in_doubt (disk_line (length runs) (codes "maybe")) [] tt (asked, refl) (λ i x there. no_some there) not_of_line)
+      (line_more is_built loaded may given output h runs ex l here outcome.in_doubt (disk_line (length runs) (codes "maybe")) [] tt (writes_here s w is, refl) (λ i x there. no_some there) not_of_line)
 
   -- ---- the end of a doubt
 
@@ -258,8 +259,10 @@ module _ (loaded : List Batch) (may : ℕ → Bool) (given : List Numbered) (out
         (read_at loaded may given output s.history s.runs s.explained l upto p.doubt s.doubted sid r)
 
     -- a write that was not tried
-    pub not_tried_served : (p : Progress) → IsServed loaded may given output p → IsWrite l.bytes → Served (disk_line p.lines (codes "no")) p.batches p.lines p.kept p.doubt
-    not_tried_served p s writes = moved (λ bs k kept. Served (disk_line k (codes "no")) bs k kept p.doubt) p s (not_tried_at loaded may given output s.history s.runs s.explained l upto p.doubt s.doubted writes)
+    pub not_tried_served : (p : Progress) (sid : ℕ) (w : WriteRequest) → IsServed loaded may given output p → line_at is_built (prims_at p.batches (length p.batches)) l.bytes ≡ Ok (write sid w)
+        → Served (disk_line p.lines (codes "no")) p.batches p.lines p.kept p.doubt
+    not_tried_served p sid w s = moved (λ bs k kept. line_at is_built (prims_at bs (length bs)) l.bytes ≡ Ok (write sid w) → Served (disk_line k (codes "no")) bs k kept p.doubt) p s
+        (not_tried_at loaded may given output s.history s.runs s.explained l upto p.doubt s.doubted sid w)
 
     -- a write that is refused by what it asks
     pub refused_served : (p : Progress) (sid : ℕ) (w : WriteRequest) (moment : ℕ) (f : ChangeFault) → IsServed loaded may given output p → line_at is_built (prims_at p.batches (length p.batches)) l.bytes ≡ Ok (write sid w)
@@ -330,7 +333,7 @@ comes_served loaded may given output p q l reply s upto (stored m sid w moment d
     rw (prints, leaves) (stored_served loaded may given output l upto m sid w moment done (settle_served loaded may given output l upto p m s settled) is does within may_be)
 comes_served loaded may given output p q l reply s upto (in_doubt m sid w moment done settled is does within may_be prints leaves) =
     rw (prints, leaves) (doubtful_served loaded may given output l upto m sid w moment done (settle_served loaded may given output l upto p m s settled) is does within may_be)
-comes_served loaded may given output p q l reply s upto (not_tried writes prints leaves) = rw (prints, leaves) (not_tried_served loaded may given output l upto p s writes)
+comes_served loaded may given output p q l reply s upto (not_tried sid w is prints leaves) = rw (prints, leaves) (not_tried_served loaded may given output l upto p sid w s is)
 comes_served loaded may given output p q l reply s upto (without_memory m (inl same) prints leaves) = rw (prints, leaves, same) (memory_served loaded may given output l upto p s)
 comes_served loaded may given output p q l reply s upto (without_memory m (inr settled) prints leaves) =
     let lines = settles_lines p m settled in rw (prints, leaves, sym lines) (memory_served loaded may given output l upto m (settle_served loaded may given output l upto p m s settled))

@@ -87,8 +87,7 @@ pub not_tried_comes : {V E : Type 0} (bytes_of : V → List ℕ) (may : ℕ → 
     → IfOk r (λ reply. bytes_of reply ≡ disk_line q.lines (codes "no")) → IfOk r (λ reply. ComesTo may p line (bytes_of reply) q)
 not_tried_comes bytes_of may p q line sid w (Err e) asks says same prints = tt
 not_tried_comes bytes_of may p q line sid w (Ok reply) asks says same prints =
-    not_tried (sid, w, line_from-at is_built (prims_at p.batches (length p.batches)) line (write sid w) (asked_now p line sid w asks says))
-    (prints ∙ ap (λ (x : Progress). disk_line x.lines (codes "no")) same) same
+    not_tried sid w (asked_now p line sid w asks says) (prints ∙ ap (λ (x : Progress). disk_line x.lines (codes "no")) same) same
 
 -- what stays as a doubt ended stays so
 pub may_settle : (p m q : Progress) → Settles p m → q ≡ m → MaySettle p q

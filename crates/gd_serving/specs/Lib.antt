@@ -3,3 +3,4 @@ pub mod Step
 pub mod Running
 pub mod Ready
 pub mod Kept
+pub mod Replies

@@ -51,3 +51,7 @@ AreUpto given round = (k : ℕ) (l : Numbered) → slice_get given k ≡ Some l 
 abbrev pub GoesOn : (ℕ → Bool) → Progress → Progress → List (List ℕ) → List ℕ → Type 0
 GoesOn may p q lines output = (loaded : List Batch) (given : List Numbered) (before : List ℕ) (round : ℕ) → IsServed loaded may given before p → AreUpto given round
     → IsServed loaded may (given ++ in_round round lines) (before ++ output) q
+
+-- the batches of a run stay, and further ones may have come behind them
+abbrev pub Grows : List Batch → List Batch → Type 0
+Grows old new = (more : List Batch) × (new ≡ old ++ more)

@@ -11,7 +11,6 @@ use Rattle.gd_runs.specs.Request.{Line, read, write, ReadRequest, reply_of, chan
 use Rattle.gd_runs.specs.Input.{InputFault, line_at, input_fault_line}
 use Rattle.gd_runs.specs.Legal.{kept_bytes, max_history}
 use Rattle.gd_runs.specs.Explained.{MayBe, disk_line, memory_line}
-use Rattle.gd_runs.specs.Explained.Outcomes.{IsWrite}
 use Rattle.gd_runs.specs.Built.{is_built, says_name}
 use Rattle.gd_serving.specs.Served.{Progress, Doubt}
 
@@ -64,7 +63,7 @@ pub data ComesTo (may : ℕ → Bool) (p : Progress) (bytes : List ℕ) (reply :
   in_doubt : (m : Progress) (s : ℕ) (w : WriteRequest) (moment : ℕ) (done : Batch × Json) → Settles p m → line_now m bytes ≡ Ok (write s w) → exec_now m w moment ≡ Ok done → nat_lt max_history (kept_with m bytes done.1) ≡ false
       → MayBe may moment → reply ≡ disk_line m.lines (codes "maybe") → q ≡ doubtful m done.0 (kept_bytes (length bytes) done.1) → ComesTo may p bytes reply q
   -- it is a write that was not tried, since the disk failed while an earlier doubt was to be ended
-  not_tried : IsWrite bytes → reply ≡ disk_line p.lines (codes "no") → q ≡ p → ComesTo may p bytes reply q
+  not_tried : (s : ℕ) (w : WriteRequest) → line_now p bytes ≡ Ok (write s w) → reply ≡ disk_line p.lines (codes "no") → q ≡ p → ComesTo may p bytes reply q
   -- there was no memory for it; an earlier doubt may have ended
   without_memory : (m : Progress) → (m ≡ p) ⊎ Settles p m → reply ≡ memory_line p.lines → q ≡ m → ComesTo may p bytes reply q
 
@@ -75,3 +74,7 @@ MaySettle p q = (q ≡ p) ⊎ Settles p q
 -- over each list that says of the property `name` what the built-in list says, the bytes ask for this write
 abbrev pub AsksWrite : List ℕ → ℕ → WriteRequest → Type 0
 AsksWrite bytes session w = (prims : List Primitive) → says_name prims ≡ true → line_at is_built prims bytes ≡ Ok (write session w)
+
+-- the bytes, so many, ask for this write in some session
+abbrev pub AsksIn : ℕ → WriteRequest → List ℕ → Type 0
+AsksIn count w bytes = (session : ℕ) × (length bytes ≡ count) × AsksWrite bytes session w

@@ -1,5 +1,5 @@
 //! A run that is served line by line over the log of a disk.
-ghost use Rattle.std.specs.Prelude.{IsTrue, ◌≡◌, ◌≢◌, ◌≤◌, ◌<◌, ◌+◌, ◌++◌, ◌∷◌, ◌^◌, ℕ, Bool, List, true, false, length, Ok, Err, None, Some, IsErr, IfOk, IfErr, IfSome, OnOk, OnErr, if◌then◌else◌, []};
+ghost use Rattle.std.specs.Prelude.{IsTrue, ◌≡◌, ◌≢◌, ◌≤◌, ◌<◌, ◌+◌, ◌++◌, ◌∷◌, ◌^◌, ℕ, Bool, List, true, false, length, Ok, Err, None, Some, IsErr, IfOk, IfErr, IfSome, OnOk, OnErr, if◌then◌else◌, codes, []};
 ghost use Rattle.gd_base.specs.Counts.{Rose};
 ghost use Rattle.gd_prim.specs.declared.Primitive.{Primitive};
 ghost use Rattle.gd_prim.specs.declared.What.TheVariants as what;
@@ -18,13 +18,14 @@ ghost use Rattle.gd_runs.specs.Built.{is_built, line_asked, says_name as says_na
 ghost use Rattle.gd_mql.specs.Line.{ask_view, GivesLine, fault_view, line_view};
 ghost use Rattle.gd_change.specs.Fault.{GivesChange, fault_of, IsSmall};
 ghost use Rattle.gd_input.specs.Line.{IsKept, IsShort};
-ghost use Rattle.gd_serving.specs.Served.{Progress, GoesOn, IsServed};
-ghost use Rattle.gd_serving.specs.Step.{ComesTo, Settles, MaySettle, AsksWrite, exec_now, line_now};
+ghost use Rattle.gd_serving.specs.Served.{Progress, GoesOn, Grows, IsServed};
+ghost use Rattle.gd_serving.specs.Step.{Settles, MaySettle, AsksIn, exec_now, line_now};
 ghost use Rattle.gd_serving.specs.Running.{IsBacked, StandsForEither};
 ghost use Rattle.gd_serving.specs.Ready.{MayAbsorb};
 ghost use Rattle.gd_serving.specs.Kept.{Backs, appended};
+ghost use Rattle.gd_serving.specs.Replies.{Replies};
 
-use crate::fault_line::disk_line;
+use crate::fault_line::{maybe_stored, not_stored};
 use crate::held;
 use gd_base::memory::Memory;
 use gd_base::steps::Steps;
@@ -188,6 +189,7 @@ impl<D: Disk> Serving<D> {
         ensures served { (bytes : List ℕ) → IsKept 262_144 line.now bytes
             → IfOk result (λ reply. GoesOn (C.may clock.old) self.old.progress self.new.progress (bytes ∷ []) (reply.items ++ 10 ∷ [])) }
         ensures next { OnOk result (self.new.progress.lines ≡ self.old.progress.lines + 1) }
+        ensures grows { Grows self.old.progress.batches self.new.progress.batches }
         ensures err { OnErr result (self.new ≡ self.old) }
 
         // What the disk holds stays what the run has; a stop during the call leaves what it had before or has after it,
@@ -242,14 +244,9 @@ impl<D: Disk> Serving<D> {
     ) -> Result<Vec<u8>, Memory>
         requires lines { self.old.progress.lines < 2 ^ 63 }
         requires short { IsShort line.now }
-        ensures comes { (bytes : List ℕ) → IsKept 262_144 line.now bytes
-            → IfOk result (λ reply. ComesTo (C.may clock.old) self.old.progress bytes reply.items self.new.progress) }
-        ensures err { OnErr result (MaySettle self.old.progress self.new.progress) }
-        ensures line { self.new.progress.lines ≡ self.old.progress.lines }
-        ensures backs { Backs D.content D.moment D.images D.images_since D.faults self.old self.new }
-        ensures fault { IfOk result (λ reply. tells_fault self.old.progress.lines reply.items ≡ true
-            → Rose (D.faults self.old.log.disk) (D.faults self.new.log.disk)) }
-        ensures same { C.may clock.new ≡ C.may clock.old }
+        ensures { Replies D.content D.moment D.images D.images_since D.faults (IsKept 262_144 line.now)
+            self.old.progress self.old self.new (C.may clock.old) (C.may clock.new)
+            (MaySettle self.old.progress self.new.progress) result }
     {
         let bytes = match line {
             RoundLine::TooLong => return self.too_long_reply(alloc),
@@ -376,19 +373,14 @@ impl<D: Disk> Serving<D> {
         requires lines { self.old.progress.lines < 2 ^ 63 }
         requires says { says_name_of (prims_of self.old.progress.batches) ≡ true }
         requires bytes { bytes ≤ 262_144 }
-        ensures comes { (line : List ℕ) (session : ℕ) → length line ≡ bytes
-            → AsksWrite line session (create_request request.now.asks_guid request.now.name)
-            → IfOk result (λ reply. ComesTo (C.may clock.old) self.old.progress line reply.items self.new.progress) }
-        ensures err { OnErr result (MaySettle self.old.progress self.new.progress) }
-        ensures line { self.new.progress.lines ≡ self.old.progress.lines }
-        ensures backs { Backs D.content D.moment D.images D.images_since D.faults self.old self.new }
-        ensures fault { IfOk result (λ reply. tells_fault self.old.progress.lines reply.items ≡ true
-            → Rose (D.faults self.old.log.disk) (D.faults self.new.log.disk)) }
-        ensures same { C.may clock.new ≡ C.may clock.old }
+        ensures { Replies D.content D.moment D.images D.images_since D.faults
+            (AsksIn bytes (create_request request.now.asks_guid request.now.name))
+            self.old.progress self.old self.new (C.may clock.old) (C.may clock.new)
+            (MaySettle self.old.progress self.new.progress) result }
     {
         match self.end_doubt() {
             Ok(()) => self.change(alloc, clock, request, bytes),
-            Err(JournalFault::DiskFault) => self.disk_reply(alloc, "no"),
+            Err(JournalFault::DiskFault) => self.untried_reply(alloc),
             Err(_) => Err(Memory),
         }
     }
@@ -424,16 +416,11 @@ impl<D: Disk> Serving<D> {
         requires no_doubt { self.old.progress.doubt ≡ None }
         requires says { says_name_of (prims_of self.old.progress.batches) ≡ true }
         requires bytes { bytes ≤ 262_144 }
-        ensures comes { (before : Progress) (line : List ℕ) (session : ℕ) → Settles before self.old.progress
-            → length line ≡ bytes
-            → AsksWrite line session (create_request request.now.asks_guid request.now.name)
-            → IfOk result (λ reply. ComesTo (C.may clock.old) before line reply.items self.new.progress) }
-        ensures err { OnErr result (self.new.progress ≡ self.old.progress) }
-        ensures line { self.new.progress.lines ≡ self.old.progress.lines }
-        ensures backs { Backs D.content D.moment D.images D.images_since D.faults self.old self.new }
-        ensures fault { IfOk result (λ reply. tells_fault self.old.progress.lines reply.items ≡ true
-            → Rose (D.faults self.old.log.disk) (D.faults self.new.log.disk)) }
-        ensures same { C.may clock.new ≡ C.may clock.old }
+        ensures { (before : Progress) → Settles before self.old.progress
+            → Replies D.content D.moment D.images D.images_since D.faults
+            (AsksIn bytes (create_request request.now.asks_guid request.now.name))
+            before self.old self.new (C.may clock.old) (C.may clock.new)
+            (self.new.progress ≡ self.old.progress) result }
     {
         let moment = moment(clock);
         let (batch, answer) = match self.evaluate(alloc, request, moment) {
@@ -448,7 +435,7 @@ impl<D: Disk> Serving<D> {
 
         // After the append no memory may be wanting.
         let stored = self.stored_reply(alloc, answer)?;
-        let in_doubt = self.disk_reply(alloc, "maybe")?;
+        let in_doubt = self.maybe_reply(alloc)?;
         match self.append(alloc, Pending { batch, kept }) {
             Ok(()) => Ok(stored),
             Err(JournalFault::DiskFault) => Ok(in_doubt),
@@ -494,12 +481,18 @@ impl<D: Disk> Serving<D> {
         ok_line(alloc, self.store.requests() + 1, self.lines, answer)
     }
 
-    /// The reply to a write at which the disk failed, with a word that says whether it is stored.
-    fn disk_reply(&self, alloc: Global, stored: &str) -> Result<Vec<u8>, Memory>
-        requires { self.now.progress.lines < 2 ^ 63 }
-        ensures { IfOk result (λ reply. reply.items ≡ disk_line_of self.now.progress.lines stored.now) }
+    /// The reply to a write at which the disk failed, and which may be stored.
+    fn maybe_reply(&self, alloc: Global) -> Result<Vec<u8>, Memory>
+        ensures { IfOk result (λ reply. reply.items ≡ disk_line_of self.now.progress.lines (codes "maybe")) }
     {
-        disk_line(alloc, self.lines, stored)
+        maybe_stored(alloc, self.lines)
+    }
+
+    /// The reply to a write that is not tried, since the disk failed before.
+    fn untried_reply(&self, alloc: Global) -> Result<Vec<u8>, Memory>
+        ensures { IfOk result (λ reply. reply.items ≡ disk_line_of self.now.progress.lines (codes "no")) }
+    {
+        not_stored(alloc, self.lines)
     }
 
     /// Stores a write. `DiskFault`: the disk failed, and the write is in doubt. Any other error: nothing was stored.

@@ -33,7 +33,7 @@ module _ (loaded : List Batch) (may now : ℕ → Bool) (same : now ≡ may) (ol
 
   -- the last one
   pub done_known : (x y z : Option (List ℕ)) (taken : Round) (lines : List RoundLine) → lines ≡ taken.lines.items → Known x y (ServedUpto loaded may old mid a b p) → Known y z (TakesRound taken)
-      → ((texts : List (List ℕ)) → AreKept lines texts → Answers now p q texts mid new b c) → taken.ended ≡ true → IfSome x (Serves may (λ l. l ≡ loaded) (HoldsAs q) (RoseBy a c) old new)
+      → ((texts : List (List ℕ)) → AreKept lines texts → Answers now p q texts mid new b c) → taken.ended ≡ true → IfSome x (Serves may (λ l. l ≡ loaded) (HoldsAs may q) (RoseBy a c) old new)
   done_known None y z taken lines is upto takes answers ended = tt
   done_known (Some x) None z taken lines is upto takes answers ended = absurd upto
   done_known (Some x) (Some y) None taken lines is upto takes answers ended = absurd takes
@@ -42,7 +42,7 @@ module _ (loaded : List Batch) (may now : ℕ → Bool) (same : now ≡ may) (ol
 
   -- a part of one
   pub part_known : (x y z : Option (List ℕ)) (taken : Round) (lines : List RoundLine) → lines ≡ taken.lines.items → Known x y (ServedUpto loaded may old mid a b p) → Known y z (TakesRound taken)
-      → ((texts : List (List ℕ)) → AreKept lines texts → AnswersFront now p q texts mid new b c) → IfSome x (ServesFront may (λ l. l ≡ loaded) (HoldsAs q) (RoseBy a c) old new)
+      → ((texts : List (List ℕ)) → AreKept lines texts → AnswersFront now p q texts mid new b c) → IfSome x (ServesFront may (λ l. l ≡ loaded) (HoldsAs may q) (RoseBy a c) old new)
   part_known None y z taken lines is upto takes fronts = tt
   part_known (Some x) None z taken lines is upto takes fronts = absurd upto
   part_known (Some x) (Some y) None taken lines is upto takes fronts = absurd takes
@@ -51,12 +51,12 @@ module _ (loaded : List Batch) (may now : ℕ → Bool) (same : now ≡ may) (ol
 
 module _ (loaded : List Batch) (may : ℕ → Bool) (old new : Option (List ℕ)) (a b : ℕ) (p : Progress) where
   -- whole rounds
-  pub rounds_known : (x y : Option (List ℕ)) → Known x y (ServedUpto loaded may old new a b p) → IfSome x (ServesRounds may (λ l. l ≡ loaded) (HoldsAs p) (RoseBy a b) old new)
+  pub rounds_known : (x y : Option (List ℕ)) → Known x y (ServedUpto loaded may old new a b p) → IfSome x (ServesRounds may (λ l. l ≡ loaded) (HoldsAs may p) (RoseBy a b) old new)
   rounds_known None y upto = tt
   rounds_known (Some x) None upto = absurd upto
   rounds_known (Some x) (Some y) upto = served_rounds loaded may old new a b p x y upto
 
-  pub front_known : (x y : Option (List ℕ)) → Known x y (ServedUpto loaded may old new a b p) → IfSome x (ServesFront may (λ l. l ≡ loaded) (HoldsAs p) (RoseBy a b) old new)
+  pub front_known : (x y : Option (List ℕ)) → Known x y (ServedUpto loaded may old new a b p) → IfSome x (ServesFront may (λ l. l ≡ loaded) (HoldsAs may p) (RoseBy a b) old new)
   front_known None y upto = tt
   front_known (Some x) None upto = absurd upto
   front_known (Some x) (Some y) upto = front_of_rounds loaded may old new a b p x y upto

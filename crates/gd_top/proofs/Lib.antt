@@ -1,6 +1,7 @@
 pub mod Printed
 pub mod Counted
 pub mod Settled
+pub mod Kept
 pub mod Served
 pub mod Known
 pub mod Weaker

@@ -182,7 +182,7 @@ pub plain_reply : (forms : Forms) (h : History) (k : ℕ) (bytes : List ℕ) (o 
 plain_reply forms h k bytes no_request line (n, f, most, at, is) = subst Plain (sym is) (plain_fault k f)
 plain_reply forms h k bytes no_memory line is = subst Plain (sym is) (plain_refusal k (refusal (codes "Memory") []))
 plain_reply forms h k bytes (stored e) line (x, s, of, asked, is) = subst Plain (sym is) (plain_ok (e + 1) k x.result)
-plain_reply forms h k bytes (refused n) line (s, w, moment, f, asked, least, most, does, is) = subst Plain (sym is) (plain_err n k (change_refusal f))
+plain_reply forms h k bytes (refused n) line (s, w, moment, f, asked, within, does, is) = subst Plain (sym is) (plain_err n k (change_refusal f))
 plain_reply forms h k bytes (late e) line (x, of, is) = subst Plain (sym is) (plain_refusal k (refusal (codes "MemoryLate") ((codes "entry", count_json e) ∷ [])))
 plain_reply forms h k bytes in_doubt line (writes, is) = subst Plain (sym is) (plain_refusal k (refusal (codes "DiskFault") ((codes "stored", text (codes "maybe")) ∷ [])))
 plain_reply forms h k bytes not_tried line (writes, is) = subst Plain (sym is) (plain_refusal k (refusal (codes "DiskFault") ((codes "stored", text (codes "no")) ∷ [])))

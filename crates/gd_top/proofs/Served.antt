@@ -44,6 +44,12 @@ at (k ∷ ls) (t ∷ ts) (suc i) l (here, later) is =
     let there = at ls ts i l later is in
     record { text = there.text; kept = there.kept; upto = ap (λ (xs : List (List ℕ)). t ∷ xs) there.upto; parts = ap (λ (xs : List (List ℕ)). t ∷ xs) there.parts }
 
+-- what holds of the text of one line holds of the texts of that line alone
+pub one_kept : (l : RoundLine) (P : List (List ℕ) → Type 0) → ((bytes : List ℕ) → IsKept 262_144 l bytes → P (bytes ∷ [])) → (texts : List (List ℕ)) → AreKept (l ∷ []) texts → P texts
+one_kept l P each [] kept = absurd kept
+one_kept l P each (t ∷ []) (here, later) = each t here
+one_kept l P each (t ∷ u ∷ us) (here, later) = absurd later
+
 -- ---- the lines of a round, one after another
 
 plus_one : (i : ℕ) → i + 1 ≡ suc i
@@ -253,20 +259,20 @@ served_more loaded may old mid new a b c p q input left after taken upto takes a
 
 -- an output that a run is served with is accounted for
 accounts : (loaded : List Batch) (may : ℕ → Bool) (a b : ℕ) (p q : Progress) (given lines : List Numbered) (output : List ℕ) (replies : List (List ℕ)) → IsServed loaded may given output q → SameStore p q → lines ≡ given
-    → output ≡ printed replies → q.lines ≡ length replies → RoseBy a b (fault_count 0 replies) → Accounts may (λ l. l ≡ loaded) (HoldsAs p) (RoseBy a b) lines output
+    → output ≡ printed replies → q.lines ≡ length replies → RoseBy a b (fault_count 0 replies) → Accounts may (λ l. l ≡ loaded) (HoldsAs may p) (RoseBy a b) lines output
 accounts loaded may a b p q given lines output replies served same is prints many rose = record {
   loaded = loaded;
   history = served.history;
   runs = served.runs;
   begun = refl;
   explained = subst (λ (ls : List Numbered). IsExplainedBy is_built loaded may ls output served.history served.runs) (sym is) served.explained;
-  left = holds_same p q served.history served.runs same (holds_as loaded may given output q served);
+  left = holds_same may p q served.history served.runs same (holds_as loaded may given output q served);
   counted = subst (RoseBy a b) (sym (told_is loaded may given output served.history served.runs replies served.explained prints (served.numbered ∙ many))) rose;
 }
 
 -- at the end of the input
 pub served_all : (loaded : List Batch) (may : ℕ → Bool) (old new : Option (List ℕ)) (a b : ℕ) (p : Progress) (input left : List ℕ) → ServedUpto loaded may old new a b p input left → left ≡ []
-    → Serves may (λ l. l ≡ loaded) (HoldsAs p) (RoseBy a b) old new input
+    → Serves may (λ l. l ≡ loaded) (HoldsAs may p) (RoseBy a b) old new input
 served_all loaded may old new a b p input left upto end =
     let lines : lines_of input ≡ upto.given = upto.lines ∙ (ap (λ (bytes : List ℕ). upto.given ++ numbered upto.round 0 (pieces [] bytes)) end ∙ append-nil upto.given) in
     record {
@@ -296,7 +302,7 @@ kept_none ((c ∷ cs) ∷ ps) rounds round k late = rw (not_within round rounds 
 
 -- the rounds that were answered
 pub served_rounds : (loaded : List Batch) (may : ℕ → Bool) (old new : Option (List ℕ)) (a b : ℕ) (p : Progress) (input left : List ℕ) → ServedUpto loaded may old new a b p input left
-    → ServesRounds may (λ l. l ≡ loaded) (HoldsAs p) (RoseBy a b) old new input
+    → ServesRounds may (λ l. l ≡ loaded) (HoldsAs may p) (RoseBy a b) old new input
 served_rounds loaded may old new a b p input left upto =
     let lines : lines_within upto.round input ≡ upto.given =
     ap (filter (λ (l : Numbered). nat_lt l.round upto.round)) upto.lines
@@ -367,7 +373,7 @@ unanswered ((c ∷ cs) ∷ ps) loaded may given output p round k served upto =
 -- a run that is served up to here, with a front of what was due for it
 front_at : (loaded : List Batch) (may : ℕ → Bool) (old new : Option (List ℕ)) (a b : ℕ) (input left : List ℕ) (given : List Numbered) (round : ℕ) (output rest : List ℕ) (replies : List (List ℕ)) (p q : Progress)
     → lines_of input ≡ given ++ numbered round 0 (pieces [] left) → AreUpto given round → IsServed loaded may given (output ++ rest) q → SameStore p q → output ++ rest ≡ printed replies → q.lines ≡ length replies
-    → RoseBy a b (fault_count 0 replies) → Appends old new output → ServesFront may (λ l. l ≡ loaded) (HoldsAs p) (RoseBy a b) old new input
+    → RoseBy a b (fault_count 0 replies) → Appends old new output → ServesFront may (λ l. l ≡ loaded) (HoldsAs may p) (RoseBy a b) old new input
 front_at loaded may old new a b input left given round output rest replies p q lines upto served same prints many rose gained =
     let u = unanswered (pieces [] left) loaded may given (output ++ rest) q round 0 served upto in
     let due = rest ++ printed u.replies in
@@ -386,7 +392,7 @@ front_at loaded may old new a b input left given round output rest replies p q l
 
 -- whole rounds and nothing of the next one
 pub front_of_rounds : (loaded : List Batch) (may : ℕ → Bool) (old new : Option (List ℕ)) (a b : ℕ) (p : Progress) (input left : List ℕ) → ServedUpto loaded may old new a b p input left
-    → ServesFront may (λ l. l ≡ loaded) (HoldsAs p) (RoseBy a b) old new input
+    → ServesFront may (λ l. l ≡ loaded) (HoldsAs may p) (RoseBy a b) old new input
 front_of_rounds loaded may old new a b p input left upto =
     let all = append-nil (printed upto.replies) in
     front_at loaded may old new a b input left upto.given upto.round (printed upto.replies) [] upto.replies p p upto.lines (upto_of upto.given upto.round upto.earlier)
@@ -394,7 +400,7 @@ front_of_rounds loaded may old new a b p input left upto =
 
 -- whole rounds and a part of the next one
 pub front_in_round : (loaded : List Batch) (may : ℕ → Bool) (old mid new : Option (List ℕ)) (a b c : ℕ) (p q : Progress) (input left after : List ℕ) (taken : Round) → ServedUpto loaded may old mid a b p input left → TakesRound taken left after
-    → ((texts : List (List ℕ)) → AreKept taken.lines.items texts → AnswersFront may p q texts mid new b c) → ServesFront may (λ l. l ≡ loaded) (HoldsAs q) (RoseBy a c) old new input
+    → ((texts : List (List ℕ)) → AreKept taken.lines.items texts → AnswersFront may p q texts mid new b c) → ServesFront may (λ l. l ≡ loaded) (HoldsAs may q) (RoseBy a c) old new input
 front_in_round loaded may old mid new a b c p q input left after taken upto takes fronts =
     let here = fronts takes.lines takes.kept in
     let upto_here = upto_of upto.given upto.round upto.earlier in
@@ -419,6 +425,20 @@ held_on may p q texts old mid new a b answers kept = record {
   goes = answers.goes;
   gained = Appends-kept old mid new (printed answers.replies) answers.gained kept;
   rose = answers.rose;
+}
+
+pub front_held : (may : ℕ → Bool) (p q : Progress) (texts : List (List ℕ)) (old mid new : Option (List ℕ)) (a b : ℕ) → AnswersFront may p q texts old mid a b → Keeps mid new → AnswersFront may p q texts old new a b
+front_held may p q texts old mid new a b front kept = record {
+  output = front.output;
+  rest = front.rest;
+  last = front.last;
+  replies = front.replies;
+  whole = front.whole;
+  many = front.many;
+  same = front.same;
+  goes = front.goes;
+  gained = Appends-kept old mid new front.output front.gained kept;
+  rose = front.rose;
 }
 
 -- the element that a loop is at

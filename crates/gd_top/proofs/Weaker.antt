@@ -8,6 +8,7 @@ use Rattle.gd_top.specs.declared.status.Status.{Status}
 use Rattle.gd_top.specs.Held.{RoseBy, Loads, Leaves, MayMean, DoesMean}
 use Rattle.gd_top.specs.Serves.{Accounts, Serves, ServesFront, ServesRounds}
 use Rattle.gd_top.specs.Ends.{Prints, Causes}
+use Rattle.gd_top.proofs.Settled.{holds_fewer}
 
 -- ---- what was printed
 
@@ -51,8 +52,8 @@ module _ (may : ℕ → Bool) (begins begins' : List Batch → Type 0) (leaves l
 pub loads_same : (kept told : Option (List ℕ)) → told ≡ kept → (loaded : List Batch) → Loads told loaded → Loads kept loaded
 loads_same kept told same loaded loads = subst (λ (t : Option (List ℕ)). Loads t loaded) same loads
 
-pub leaves_same : (kept told : Option (List ℕ)) (a b : List ℕ → Type 0) → told ≡ kept → ((c : List ℕ) → b c → a c) → (h : History) (runs : List Run) → Leaves told a h runs → Leaves kept b h runs
-leaves_same kept told a b same fewer h runs leaves = subst (λ (t : Option (List ℕ)). Leaves t b h runs) same (λ some file is. leaves some file (fewer file is))
+pub leaves_same : (may : ℕ → Bool) (kept told : Option (List ℕ)) (a b : List ℕ → Type 0) → told ≡ kept → ((c : List ℕ) → b c → a c) → (h : History) (runs : List Run) → Leaves may told a h runs → Leaves may kept b h runs
+leaves_same may kept told a b same fewer h runs leaves = subst (λ (t : Option (List ℕ)). Leaves may t b h runs) same (λ some. holds_fewer may h runs a b fewer (leaves some))
 
 pub causes_same : (s : Status) (read sink disk disk' long : Type 0) (kept told : Option (List ℕ)) → told ≡ kept → (disk → disk') → Causes s read sink disk long (MayMean told) (DoesMean told) → Causes s read sink disk' long (MayMean kept) (DoesMean kept)
 causes_same s read sink disk disk' long kept told same failed c = subst (λ (t : Option (List ℕ)). Causes s read sink disk' long (MayMean t) (DoesMean t)) same (record {

@@ -14,9 +14,9 @@ use Rattle.gd_serving.specs.Running.{StandsForRun}
 abbrev pub Loads : Option (List ℕ) → List Batch → Type 0
 Loads told loaded = ForSome told (λ file. StandsFor file loaded)
 
--- where the content was told, all that a stop leaves stands for the history, or for it with the write that is in doubt
-abbrev pub Leaves : Option (List ℕ) → (List ℕ → Type 0) → History → List Run → Type 0
-Leaves told images h runs = IsSome told → (file : List ℕ) → images file → Holds h runs file
+-- where the content was told, all that a stop leaves stands for the history, with or without the one write that is in doubt
+abbrev pub Leaves : (ℕ → Bool) → Option (List ℕ) → (List ℕ → Type 0) → History → List Run → Type 0
+Leaves may told images h runs = IsSome told → Holds may h runs images
 
 -- where the content is told, it means this
 abbrev pub MayMean : Option (List ℕ) → Meaning → Type 0
@@ -38,9 +38,9 @@ BeginsWith content None loaded = loaded ≡ []
 BeginsWith content (Some path) loaded = Loads (content path) loaded
 
 -- what the shelf holds at the path after a run with this history
-abbrev pub EndsWith : (List ℕ → Option (List ℕ)) → (List ℕ → List ℕ → Type 0) → Option (List ℕ) → History → List Run → Type 0
-EndsWith content images None h runs = Unit {0}
-EndsWith content images (Some path) h runs = Leaves (content path) (images path) h runs
+abbrev pub EndsWith : (ℕ → Bool) → (List ℕ → Option (List ℕ)) → (List ℕ → List ℕ → Type 0) → Option (List ℕ) → History → List Run → Type 0
+EndsWith may content images None h runs = Unit {0}
+EndsWith may content images (Some path) h runs = Leaves may (content path) (images path) h runs
 
 -- there is a file, and where it is told it means this
 abbrev pub MayMeanAt : (List ℕ → Option (List ℕ)) → Option (List ℕ) → Meaning → Type 0
@@ -58,9 +58,9 @@ IsSoundAt content (Some path) = IsSomeAnd (content path) (λ file. (bs : List Ba
 abbrev pub RoseBy : ℕ → ℕ → ℕ → Type 0
 RoseBy before after n = min (before + n) (2 ^ 64 - 1) ≤ after
 
--- what stands for the progress of a run stands for this history, or for it with the write that is in doubt
-abbrev pub HoldsAs : Progress → History → List Run → Type 0
-HoldsAs p h runs = (file : List ℕ) → StandsForRun p file → Holds h runs file
+-- what stands for the progress of a run stands for this history, with or without the one write that is in doubt
+abbrev pub HoldsAs : (ℕ → Bool) → Progress → History → List Run → Type 0
+HoldsAs may p h runs = Holds may h runs (StandsForRun p)
 
 -- two progresses have the same batches, and the same write in doubt
 pub record SameStore (p q : Progress) : Type 0 where

@@ -3,7 +3,9 @@ ghost use Rattle.std.specs.Prelude.{◌≡◌, ◌≢◌, ◌≤◌, ◌^◌, �
 ghost use Rattle.gd_base.specs.Counts.{Rose};
 ghost use Rattle.gd_bytes.specs.Disk.{HoldsSame};
 ghost use Rattle.gd_top.specs.Ends.{IsIdle, Prints, Causes};
+ghost use Rattle.gd_serving.specs.Served.{Grows};
 ghost use Rattle.gd_serving.specs.Running.{IsBacked};
+ghost use Rattle.gd_top.specs.Kept.{Keeps};
 ghost use Rattle.gd_top.specs.Held.{Loads, Leaves, MayMean, DoesMean, RoseBy, HoldsAs, IsAtStart};
 
 use crate::rounds::serve_rounds;
@@ -29,12 +31,13 @@ fn serve_all<D: Disk, S: Source, K: Sink, C: Clock>(
 ) -> Status
     requires { IsAtStart serving.old.progress }
     ensures prints { Prints result (C.may clock.old) (λ loaded. loaded ≡ serving.old.progress.batches)
-        (HoldsAs serving.new.progress) (RoseBy (D.faults serving.old.log.disk) (D.faults serving.new.log.disk)) ⊥
+        (HoldsAs (C.may clock.old) serving.new.progress) (RoseBy (D.faults serving.old.log.disk) (D.faults serving.new.log.disk)) ⊥
         (S.left source.old) (S.left source.new) (K.held sink.old) (K.held sink.new) }
     ensures causes { Causes result (Rose (S.faults source.old) (S.faults source.new))
         (Rose (K.faults sink.old) (K.faults sink.new)) ⊥
         (IfSome (S.left source.old) (λ input. 2 ^ 40 ≤ length input)) (λ _. ⊥) (λ _. ⊥) }
     ensures used { result ≢ Status.Usage }
+    ensures grows { Grows serving.old.progress.batches serving.new.progress.batches }
     ensures backed { IsBacked D.content D.images serving.old → IsBacked D.content D.images serving.new }
     ensures later { D.faults serving.old.log.disk ≤ D.faults serving.new.log.disk }
 {
@@ -53,13 +56,14 @@ fn serve_over<D: Disk, S: Source, K: Sink, C: Clock>(
     sink: &mut K,
     clock: &mut C,
 ) -> (Status, D)
-    ensures prints { Prints result.0 (C.may clock.old) (Loads (D.content disk)) (Leaves (D.content disk) (D.images result.1))
+    ensures prints { Prints result.0 (C.may clock.old) (Loads (D.content disk)) (Leaves (C.may clock.old) (D.content disk) (D.images result.1))
         (RoseBy (D.faults disk) (D.faults result.1)) (IsIdle source.old source.new sink.old sink.new)
         (S.left source.old) (S.left source.new) (K.held sink.old) (K.held sink.new) }
     ensures causes { Causes result.0 (Rose (S.faults source.old) (S.faults source.new))
         (Rose (K.faults sink.old) (K.faults sink.new)) (Rose (D.faults disk) (D.faults result.1))
         (IfSome (S.left source.old) (λ input. 2 ^ 40 ≤ length input)) (MayMean (D.content disk)) (DoesMean (D.content disk)) }
     ensures used { result.0 ≢ Status.Usage }
+    ensures kept { Keeps (D.content disk) (D.content result.1) (D.images disk) (D.images result.1) }
     ensures later { D.faults disk ≤ D.faults result.1 }
 {
     match open_log(alloc, disk) {
@@ -84,7 +88,7 @@ pub fn serve_in_file<S: Source, K: Sink, F: Shelf, C: Clock>(
     requires { (other : List ℕ) → F.is_out shelf.old other ≡ false }
     ensures back { (other : List ℕ) → F.is_out shelf.new other ≡ false }
     ensures prints { Prints result (C.may clock.old) (Loads (F.content shelf.old path.now))
-        (Leaves (F.content shelf.old path.now) (F.images shelf.new path.now))
+        (Leaves (C.may clock.old) (F.content shelf.old path.now) (F.images shelf.new path.now))
         (RoseBy (F.faults shelf.old) (F.faults shelf.new)) (IsIdle source.old source.new sink.old sink.new)
         (S.left source.old) (S.left source.new) (K.held sink.old) (K.held sink.new) }
     ensures causes { Causes result (Rose (S.faults source.old) (S.faults source.new))
@@ -92,6 +96,8 @@ pub fn serve_in_file<S: Source, K: Sink, F: Shelf, C: Clock>(
         (IfSome (S.left source.old) (λ input. 2 ^ 40 ≤ length input))
         (MayMean (F.content shelf.old path.now)) (DoesMean (F.content shelf.old path.now)) }
     ensures used { result ≢ Status.Usage }
+    ensures kept { Keeps (F.content shelf.old path.now) (F.content shelf.new path.now)
+        (F.images shelf.old path.now) (F.images shelf.new path.now) }
     ensures others { (other : List ℕ) → other ≢ path.now → HoldsSame (F.content shelf.old other) (F.content shelf.new other)
         (F.images shelf.old other) (F.images shelf.new other) }
 {

@@ -3,11 +3,12 @@ ghost use Rattle.std.specs.Prelude.{◌≡◌, ◌≤◌, ◌<◌, ◌+◌, ◌^
 ghost use Rattle.std.specs.List.{All};
 ghost use Rattle.std.specs.Io.KnownBytes.{IsAtEnd};
 ghost use Rattle.gd_base.specs.Counts.{Rose};
-ghost use Rattle.gd_input.specs.Line.{IsKept, IsShort};
-ghost use Rattle.gd_input.specs.Rounds.{AreKept};
+ghost use Rattle.gd_input.specs.Line.{IsShort};
+ghost use Rattle.gd_serving.specs.Served.{Grows};
 ghost use Rattle.gd_serving.specs.Running.{IsBacked};
 ghost use Rattle.gd_top.specs.Held.{HoldsAs, IsAtStart, RoseBy};
-ghost use Rattle.gd_top.specs.Serves.{Answers, AnswersFront, Serves, ServesFront, ServesRounds};
+ghost use Rattle.gd_top.specs.Lines.{AnswersLines};
+ghost use Rattle.gd_top.specs.Serves.{Serves, ServesFront, ServesRounds};
 
 use crate::printing::print_line;
 use crate::stop::Stop;
@@ -31,20 +32,8 @@ fn answer_line<D: Disk, K: Sink, C: Clock>(
 ) -> Result<(), Stop>
     requires lines { serving.old.progress.lines < 2 ^ 63 }
     requires short { IsShort line.now }
-    ensures all { (bytes : List ℕ) → IsKept 262_144 line.now bytes → OnOk result
-        (Answers (C.may clock.old) serving.old.progress serving.new.progress (bytes ∷ []) (K.held sink.old) (K.held sink.new)
-        (D.faults serving.old.log.disk) (D.faults serving.new.log.disk)) }
-    ensures front { (bytes : List ℕ) → IsKept 262_144 line.now bytes → OnErr result
-        (AnswersFront (C.may clock.old) serving.old.progress serving.new.progress (bytes ∷ []) (K.held sink.old) (K.held sink.new)
-        (D.faults serving.old.log.disk) (D.faults serving.new.log.disk)) }
-    ensures next { OnOk result (serving.new.progress.lines ≡ serving.old.progress.lines + 1) }
-    ensures backed { IsBacked D.content D.images serving.old → IsBacked D.content D.images serving.new }
-    ensures clock { C.may clock.new ≡ C.may clock.old }
-    ensures read_fault { result ≡ Err Stop.ReadFault → ⊥ }
-    ensures too_much { result ≡ Err Stop.TooMuch → ⊥ }
-    ensures sink_fault { result ≡ Err Stop.SinkFault → Rose (K.faults sink.old) (K.faults sink.new) }
-    ensures later { K.faults sink.old ≤ K.faults sink.new }
-    ensures disk_later { D.faults serving.old.log.disk ≤ D.faults serving.new.log.disk }
+    ensures { AnswersLines D.content D.images D.faults (line.now ∷ []) serving.old serving.new (C.may clock.old) (C.may clock.new)
+        (K.held sink.old) (K.held sink.new) (K.faults sink.old) (K.faults sink.new) result }
 {
     let reply = serving.answer(alloc, clock, line)?;
     print_line(sink, &reply)?;
@@ -62,20 +51,8 @@ fn answer_lines<D: Disk, K: Sink, C: Clock>(
 ) -> Result<(), Stop>
     requires lines { serving.old.progress.lines + length lines.now < 2 ^ 63 }
     requires short { All IsShort lines.now }
-    ensures all { (texts : List (List ℕ)) → AreKept lines.now texts → OnOk result
-        (Answers (C.may clock.old) serving.old.progress serving.new.progress texts (K.held sink.old) (K.held sink.new)
-        (D.faults serving.old.log.disk) (D.faults serving.new.log.disk)) }
-    ensures front { (texts : List (List ℕ)) → AreKept lines.now texts → OnErr result
-        (AnswersFront (C.may clock.old) serving.old.progress serving.new.progress texts (K.held sink.old) (K.held sink.new)
-        (D.faults serving.old.log.disk) (D.faults serving.new.log.disk)) }
-    ensures next { OnOk result (serving.new.progress.lines ≡ serving.old.progress.lines + length lines.now) }
-    ensures backed { IsBacked D.content D.images serving.old → IsBacked D.content D.images serving.new }
-    ensures clock { C.may clock.new ≡ C.may clock.old }
-    ensures read_fault { result ≡ Err Stop.ReadFault → ⊥ }
-    ensures too_much { result ≡ Err Stop.TooMuch → ⊥ }
-    ensures sink_fault { result ≡ Err Stop.SinkFault → Rose (K.faults sink.old) (K.faults sink.new) }
-    ensures later { K.faults sink.old ≤ K.faults sink.new }
-    ensures disk_later { D.faults serving.old.log.disk ≤ D.faults serving.new.log.disk }
+    ensures { AnswersLines D.content D.images D.faults lines.now serving.old serving.new (C.may clock.old) (C.may clock.new)
+        (K.held sink.old) (K.held sink.new) (K.faults sink.old) (K.faults sink.new) result }
 {
     for line in lines {
         answer_line(alloc, serving, clock, line, sink)?;
@@ -83,7 +60,7 @@ fn answer_lines<D: Disk, K: Sink, C: Clock>(
     Ok(())
 }
 
-/// Answers the lines of a round, prints what they come to and flushes.
+/// Answers the lines of a round, prints what they come to and sends it on, also where a line was not answered in full.
 fn answer_round<D: Disk, K: Sink, C: Clock>(
     alloc: Global,
     serving: &mut Serving<D>,
@@ -93,23 +70,13 @@ fn answer_round<D: Disk, K: Sink, C: Clock>(
 ) -> Result<(), Stop>
     requires lines { serving.old.progress.lines + length lines.now < 2 ^ 63 }
     requires short { All IsShort lines.now }
-    ensures all { (texts : List (List ℕ)) → AreKept lines.now texts → OnOk result
-        (Answers (C.may clock.old) serving.old.progress serving.new.progress texts (K.held sink.old) (K.held sink.new)
-        (D.faults serving.old.log.disk) (D.faults serving.new.log.disk)) }
-    ensures front { (texts : List (List ℕ)) → AreKept lines.now texts → OnErr result
-        (AnswersFront (C.may clock.old) serving.old.progress serving.new.progress texts (K.held sink.old) (K.held sink.new)
-        (D.faults serving.old.log.disk) (D.faults serving.new.log.disk)) }
-    ensures next { OnOk result (serving.new.progress.lines ≡ serving.old.progress.lines + length lines.now) }
-    ensures backed { IsBacked D.content D.images serving.old → IsBacked D.content D.images serving.new }
-    ensures clock { C.may clock.new ≡ C.may clock.old }
-    ensures read_fault { result ≡ Err Stop.ReadFault → ⊥ }
-    ensures too_much { result ≡ Err Stop.TooMuch → ⊥ }
-    ensures sink_fault { result ≡ Err Stop.SinkFault → Rose (K.faults sink.old) (K.faults sink.new) }
-    ensures later { K.faults sink.old ≤ K.faults sink.new }
-    ensures disk_later { D.faults serving.old.log.disk ≤ D.faults serving.new.log.disk }
+    ensures { AnswersLines D.content D.images D.faults lines.now serving.old serving.new (C.may clock.old) (C.may clock.new)
+        (K.held sink.old) (K.held sink.new) (K.faults sink.old) (K.faults sink.new) result }
 {
-    answer_lines(alloc, serving, clock, lines, sink)?;
-    sink.flush()?;
+    let answered = answer_lines(alloc, serving, clock, lines, sink);
+    let sent = sink.flush();
+    answered?;
+    sent?;
     Ok(())
 }
 
@@ -125,18 +92,19 @@ pub fn serve_rounds<D: Disk, S: Source, K: Sink, C: Clock>(
 ) -> Result<(), Stop>
     requires { IsAtStart serving.old.progress }
     ensures done { OnOk result (IfSome (S.left source.old) (Serves (C.may clock.old)
-        (λ loaded. loaded ≡ serving.old.progress.batches) (HoldsAs serving.new.progress)
+        (λ loaded. loaded ≡ serving.old.progress.batches) (HoldsAs (C.may clock.old) serving.new.progress)
         (RoseBy (D.faults serving.old.log.disk) (D.faults serving.new.log.disk)) (K.held sink.old) (K.held sink.new))) }
     ensures at_end { OnOk result (IsAtEnd (S.left source.new)) }
     ensures rounds { result ≡ Err Stop.ReadFault → IfSome (S.left source.old) (ServesRounds (C.may clock.old)
-        (λ loaded. loaded ≡ serving.old.progress.batches) (HoldsAs serving.new.progress)
+        (λ loaded. loaded ≡ serving.old.progress.batches) (HoldsAs (C.may clock.old) serving.new.progress)
         (RoseBy (D.faults serving.old.log.disk) (D.faults serving.new.log.disk)) (K.held sink.old) (K.held sink.new)) }
     ensures rounds_taken { result ≡ Err Stop.TooMuch → IfSome (S.left source.old) (ServesRounds (C.may clock.old)
-        (λ loaded. loaded ≡ serving.old.progress.batches) (HoldsAs serving.new.progress)
+        (λ loaded. loaded ≡ serving.old.progress.batches) (HoldsAs (C.may clock.old) serving.new.progress)
         (RoseBy (D.faults serving.old.log.disk) (D.faults serving.new.log.disk)) (K.held sink.old) (K.held sink.new)) }
     ensures front { OnErr result (IfSome (S.left source.old) (ServesFront (C.may clock.old)
-        (λ loaded. loaded ≡ serving.old.progress.batches) (HoldsAs serving.new.progress)
+        (λ loaded. loaded ≡ serving.old.progress.batches) (HoldsAs (C.may clock.old) serving.new.progress)
         (RoseBy (D.faults serving.old.log.disk) (D.faults serving.new.log.disk)) (K.held sink.old) (K.held sink.new))) }
+    ensures grows { Grows serving.old.progress.batches serving.new.progress.batches }
     ensures backed { IsBacked D.content D.images serving.old → IsBacked D.content D.images serving.new }
     ensures read_fault { result ≡ Err Stop.ReadFault → Rose (S.faults source.old) (S.faults source.new) }
     ensures sink_fault { result ≡ Err Stop.SinkFault → Rose (K.faults sink.old) (K.faults sink.new) }

@@ -7,6 +7,7 @@ ghost use Rattle.gd_bytes.specs.File.{not_store, damaged};
 ghost use Rattle.gd_words.specs.Words.{command_of};
 ghost use Rattle.gd_top.specs.Ends.{IsHindered, IsIdle, Prints, Causes, is_refused, is_stopped};
 ghost use Rattle.gd_top.specs.Held.{BeginsWith, EndsWith, MayMeanAt, DoesMean, IsSoundAt, RoseBy, told_at};
+ghost use Rattle.gd_top.specs.Kept.{Keeps};
 ghost use Rattle.gd_top.specs.Serves.{Serves, ServesFront, ServesRounds};
 ghost use Rattle.gd_top.specs.Words.{path_of};
 
@@ -34,7 +35,7 @@ fn serve<S: Source, K: Sink, F: Shelf, C: Clock>(
     ensures back { (path : List ℕ) → F.is_out shelf.new path ≡ false }
     ensures prints { let path = option_map (λ t. t.now) file.entry in
         Prints result (C.may clock.old) (BeginsWith (F.content shelf.old) path)
-        (EndsWith (F.content shelf.old) (F.images shelf.new) path)
+        (EndsWith (C.may clock.old) (F.content shelf.old) (F.images shelf.new) path)
         (RoseBy (F.faults shelf.old) (F.faults shelf.new)) (IsIdle source.old source.new sink.old sink.new)
         (S.left source.old) (S.left source.new) (K.held sink.old) (K.held sink.new) }
     ensures causes { let path = option_map (λ t. t.now) file.entry in
@@ -43,6 +44,8 @@ fn serve<S: Source, K: Sink, F: Shelf, C: Clock>(
         (IfSome (S.left source.old) (λ input. 2 ^ 40 ≤ length input))
         (MayMeanAt (F.content shelf.old) path) (DoesMean (told_at (F.content shelf.old) path)) }
     ensures used { result ≢ Status.Usage }
+    ensures kept { (path : List ℕ) → option_map (λ t. t.now) file.entry ≡ Some path
+        → Keeps (F.content shelf.old path) (F.content shelf.new path) (F.images shelf.old path) (F.images shelf.new path) }
     ensures others { (other : List ℕ) → option_map (λ t. t.now) file.entry ≢ Some other
         → HoldsSame (F.content shelf.old other) (F.content shelf.new other)
         (F.images shelf.old other) (F.images shelf.new other) }
@@ -82,26 +85,26 @@ pub fn graphd<S: Source, K: Sink, F: Shelf, C: Clock + Drop>(
     // and the shelf counted at least as many faults as lines tell.
     ensures done { result ≡ Status.Done → IfSome (S.left source.old) (Serves (C.may clock)
         (BeginsWith (F.content shelf.old) (path_of words.now))
-        (EndsWith (F.content shelf.old) (F.images shelf.new) (path_of words.now))
+        (EndsWith (C.may clock) (F.content shelf.old) (F.images shelf.new) (path_of words.now))
         (RoseBy (F.faults shelf.old) (F.faults shelf.new)) (K.held sink.old) (K.held sink.new)) }
     ensures at_end { result ≡ Status.Done → IsAtEnd (S.left source.new) }
 
     // Where the input could not be read further, the lines of whole rounds were answered so, and no other.
     ensures rounds { (result ≡ Status.ReadFault) ⊎ (result ≡ Status.TooMuch) → IfSome (S.left source.old)
         (ServesRounds (C.may clock) (BeginsWith (F.content shelf.old) (path_of words.now))
-        (EndsWith (F.content shelf.old) (F.images shelf.new) (path_of words.now))
+        (EndsWith (C.may clock) (F.content shelf.old) (F.images shelf.new) (path_of words.now))
         (RoseBy (F.faults shelf.old) (F.faults shelf.new)) (K.held sink.old) (K.held sink.new)) }
 
     // At any stop what was printed is a front of an output that is explained so. Without memory the run may also not
     // have begun.
     ensures front { is_stopped result ≡ true → IfSome (S.left source.old)
         (ServesFront (C.may clock) (BeginsWith (F.content shelf.old) (path_of words.now))
-        (EndsWith (F.content shelf.old) (F.images shelf.new) (path_of words.now))
+        (EndsWith (C.may clock) (F.content shelf.old) (F.images shelf.new) (path_of words.now))
         (RoseBy (F.faults shelf.old) (F.faults shelf.new)) (K.held sink.old) (K.held sink.new)) }
     ensures memory { result ≡ Status.Memory → IsIdle source.old source.new sink.old sink.new
         ⊎ IfSome (S.left source.old)
         (ServesFront (C.may clock) (BeginsWith (F.content shelf.old) (path_of words.now))
-        (EndsWith (F.content shelf.old) (F.images shelf.new) (path_of words.now))
+        (EndsWith (C.may clock) (F.content shelf.old) (F.images shelf.new) (path_of words.now))
         (RoseBy (F.faults shelf.old) (F.faults shelf.new)) (K.held sink.old) (K.held sink.new)) }
 
     // Each fault has its cause.
@@ -118,6 +121,10 @@ pub fn graphd<S: Source, K: Sink, F: Shelf, C: Clock + Drop>(
         → (result ≡ Status.NotStore) ⊎ IsHindered result }
     ensures damaged_found { (offset : ℕ) → DoesMean (told_at (F.content shelf.old) (path_of words.now)) (damaged offset)
         → (result ≡ Status.Damaged offset) ⊎ IsHindered result }
+
+    // Whatever the status, the file keeps what it stood for, and one that stands for no batches is left alone.
+    ensures kept { (path : List ℕ) → path_of words.now ≡ Some path
+        → Keeps (F.content shelf.old path) (F.content shelf.new path) (F.images shelf.old path) (F.images shelf.new path) }
 
     // The shelf keeps every other path.
     ensures others { (other : List ℕ) → path_of words.now ≢ Some other

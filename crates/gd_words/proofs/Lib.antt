@@ -4,3 +4,4 @@ pub mod Short
 pub mod Spelled
 pub mod Steps
 pub mod Walks
+mod WordRows

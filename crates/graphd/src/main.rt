@@ -11,10 +11,14 @@ use gd_top::status::Status;
 use gd_words::help::help_text;
 use std::alloc::Global;
 use std::fs::File;
+use std::io::BufWriter;
 use std::process::ExitCode;
 use std::rt::{Env, Files};
 use std::time::Clock;
 use std::{env, io};
+
+/// How many bytes of replies are gathered, up to the end of their round, before they are written.
+const OUTPUT_ROOM: usize = 65_536;
 
 const VERSION: &str = "graphd 0.1.0\n";
 
@@ -58,13 +62,16 @@ fn say(rt: &impl Print, text: &str) -> Status {
     }
 }
 
-/// Serves standard input over the files of the system.
+/// Serves standard input over the files of the system. The replies of a round are written together.
 fn serve(
     rt: &(impl Input + Print + Clock + Files<File = File> + AllocGlobal),
     words: &[Text],
 ) -> Status {
+    let Ok(writer) = BufWriter::with_capacity(rt.alloc(), OUTPUT_ROOM, io::writer(rt)) else {
+        return Status::Memory;
+    };
     let mut source = StdSource::new(rt.reader());
-    let mut sink = StdSink::new(io::writer(rt));
+    let mut sink = StdSink::new(writer);
     let mut shelf = FileShelf::new(rt.alloc(), rt);
     graphd(
         rt.alloc(),

@@ -1,7 +1,6 @@
 use Rattle.std.proofs.Common.{◌≢◌, take, refl, ◌∙◌, arith}
 use Rattle.gd_bytes.specs.File.{header}
 use Rattle.gd_journal.proofs.Heads.{no_header}
-use Rattle.gd_disk.specs.Runs.{untouched_none, untouched_then}
 use Rattle.gd_journal.proofs.opening.find_end.Goals as goal
 
 pub returns-then-len-le-UNFINISHED-clause-ends : goal.returns-then-len-le-UNFINISHED-clause-ends

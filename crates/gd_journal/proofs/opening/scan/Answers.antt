@@ -1,32 +1,32 @@
 use Rattle.std.proofs.Common.{◌-◌, [], ◌∷◌, ◌++◌, drop, sym, ◌∙◌, subst, arith}
-use Rattle.gd_disk.specs.Runs.{untouched_none, untouched_call, untouched_then}
+use Rattle.gd_disk.specs.Runs.{untouched_none, untouched_then}
 use Rattle.gd_journal.specs.Heads.{HeadIs, Fits}
 use Rattle.gd_journal.proofs.Heads.{walked_none, walked_more}
 use Rattle.gd_journal.proofs.opening.scan.Goals as goal
 
-pub loop-size-init : goal.loop-size-init
-loop-size-init g c = record {
+pub loop-window-init : goal.loop-window-init
+loop-window-init g c = record {
   within = omega arith;
   walked = λ f is. ([], walked_none f (c.requires.header f is));
+  shows = c.none-window.ensures (g.D.Disk.content c.args.disk.now);
   untouched = untouched_none g.D.Disk.content g.D.Disk.moment g.D.Disk.images g.D.Disk.images_since c.args.disk.now;
-  calls = omega arith;
   faults = omega arith;
 }
 
-pub loop-size-preserved : goal.loop-size-preserved
-loop-size-preserved g c =
+pub loop-window-preserved : goal.loop-window-preserved
+loop-window-preserved g c =
     let d = g.D.Disk in
-    let i = c.loop-size.invariant in
+    let i = c.loop-window.invariant in
     let e = c.in_ok-head_at.ensures in
-    let fits = subst (Fits (c.args.len - c.loop-size.at)) c.in-Record.is e.fits in
+    let fits = subst (Fits (c.args.len - c.loop-window.at)) c.in-Record.is e.fits in
     record {
       within = omega (arith, fits.0, c.from.ensures, i.within);
       walked = λ f is.
           let told = i.untouched.same ∙ is in
           let w = i.walked f is in
-          let there = subst (HeadIs (drop c.loop-size.at f)) c.in-Record.is (e.head f told) in
-          (w.0 ++ there.0 ∷ [], walked_more w.0 c.loop-size.at c.from.result f there.0 w.1 (there.1 ∙ sym c.from.ensures) there.2);
-      untouched = untouched_then d.content d.moment d.images d.images_since c.args.disk.now c.loop-size.disk c.head_at.new.disk i.untouched (untouched_call d.content d.moment d.images d.images_since c.loop-size.disk c.head_at.new.disk (g.met.D.Disk.counts_now c.loop-size.disk) c.head_at.ensures.stays c.head_at.ensures.time);
-      calls = omega (arith, c.head_at.ensures.calls);
-      faults = omega (arith, c.head_at.ensures.cause.later);
+          let there = subst (HeadIs (drop c.loop-window.at f)) c.in-Record.is (e.head f told) in
+          (w.0 ++ there.0 ∷ [], walked_more w.0 c.loop-window.at c.from.result f there.0 w.1 (there.1 ∙ sym c.from.ensures) there.2);
+      shows = c.head_at.ensures.shows;
+      untouched = untouched_then d.content d.moment d.images d.images_since c.args.disk.now c.loop-window.disk c.head_at.new.disk i.untouched c.head_at.ensures.untouched;
+      faults = omega (arith, c.head_at.ensures.later);
     }

@@ -1,16 +1,17 @@
 use Rattle.std.proofs.Common.{◌≡◌, ◌-◌, ◌<◌, ◌≤◌, List, ℕ, Some}
 use Rattle.gd_bytes.specs.Disk.{IsUntouched}
 use Rattle.gd_journal.specs.Shape.{IsWalked}
+use Rattle.gd_journal.specs.Windows.{Shows}
 use Rattle.gd_journal.proofs.opening.scan.Given as goal
 
-abbrev pub invariant-loop-size : goal.invariant-loop-size
-invariant-loop-size g l = record {
+abbrev pub invariant-loop-window : goal.invariant-loop-window
+invariant-loop-window g l = record {
   within : l.at < l.len;
   walked : (file : List ℕ) → g.D.Disk.content l.fn.disk ≡ Some file → (ps : List (List ℕ)) × IsWalked ps l.at file;
+  shows : Shows (g.D.Disk.content l.disk) l.window.at l.window.bytes;
   untouched : IsUntouched g.D.Disk.content g.D.Disk.moment g.D.Disk.images g.D.Disk.images_since l.fn.disk l.disk;
-  calls : g.D.Disk.calls_left l.fn.disk ≤ g.D.Disk.calls_left l.disk;
   faults : g.D.Disk.faults l.fn.disk ≤ g.D.Disk.faults l.disk;
 }
 
-abbrev pub decreases-loop-size : goal.decreases-loop-size
-decreases-loop-size g l = l.len - l.at
+abbrev pub decreases-loop-window : goal.decreases-loop-window
+decreases-loop-window g l = l.len - l.at

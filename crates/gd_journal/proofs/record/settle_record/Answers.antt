@@ -1,4 +1,4 @@
-use Rattle.std.proofs.Common.{◌≡◌, get_or, sym, ◌∙◌, ap}
+use Rattle.std.proofs.Common.{◌≡◌, get_or, ◌∙◌, ap}
 use Rattle.gd_journal.proofs.Told.{content_of, gate_open}
 use Rattle.gd_journal.proofs.Gates.{counts_if}
 use Rattle.gd_journal.proofs.Settles.{shut_there, shut_leaves}

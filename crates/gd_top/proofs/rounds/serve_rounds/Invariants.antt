@@ -2,6 +2,7 @@ use Rattle.std.proofs.Common.{◌≡◌, ◌≤◌, ◌+◌, ◌-◌, ◌*◌, �
 use Rattle.std.specs.Io.KnownBytes.{prepend_known}
 use Rattle.gd_input.specs.Held.{IsBounded}
 use Rattle.gd_input.specs.Pieces.{Known, Advances}
+use Rattle.gd_serving.specs.Served.{Grows}
 use Rattle.gd_serving.specs.Running.{IsBacked}
 use Rattle.gd_top.specs.Serves.{ServedUpto}
 use Rattle.gd_top.proofs.rounds.serve_rounds.Given as goal
@@ -12,6 +13,7 @@ invariant-loop-round g l = record {
       (g.D.Disk.faults l.fn.serving.log.disk) (g.D.Disk.faults l.serving.log.disk) l.serving.progress);
   advances : Advances (g.S.Source.left l.fn.source) (prepend_known l.reader.bytes (g.S.Source.left l.source)) 0 l.reader.consumed;
   counted : l.serving.progress.lines ≤ 256 * l.reader.consumed;
+  grows : Grows l.fn.serving.progress.batches l.serving.progress.batches;
   backed : IsBacked g.D.Disk.content g.D.Disk.images l.fn.serving → IsBacked g.D.Disk.content g.D.Disk.images l.serving;
   clock : g.C.Clock.may l.clock ≡ g.C.Clock.may l.fn.clock;
   bounded : IsBounded l.reader;

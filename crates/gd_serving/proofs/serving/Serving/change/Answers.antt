@@ -1,4 +1,5 @@
-use Rattle.std.proofs.Common.{ℕ, ◌+◌, Vec, Global, ap, arith}
+use Rattle.std.proofs.Common.{ℕ, ◌+◌, Vec, Global, ap, rules, arith}
+use Rattle.std.proofs.lemmas.Grind.{common_steps}
 use Rattle.gd_json.specs.View.{view}
 use Rattle.gd_runs.specs.Built.{create_request}
 use Rattle.gd_change.specs.Fault.{fault_of}
@@ -7,56 +8,105 @@ use Rattle.gd_serving.proofs.Backed.{backs_nothing}
 use Rattle.gd_serving.proofs.Written.{asked_now, done_is, fault_is, refused_comes, full_comes, stored_comes, doubtful_comes}
 use Rattle.gd_serving.proofs.serving.Serving.change.Goals as goal
 
-pub returns-in-Err-clause-comes : goal.returns-in-Err-clause-comes
-returns-in-Err-clause-comes g c before line sid settled long asks =
+pub returns-in-Err : goal.returns-in-Err
+returns-in-Err g c before settled =
+    let d = g.D.Disk in
     let p = c.args.self.now.progress in
     let asked = create_request c.args.request.now.asks_guid c.args.request.now.name in
-    refused_comes (λ (v : Vec ℕ Global). v.items) (g.C.Clock.may c.args.clock.now) before p line sid asked c.moment-moment.result c.change_reply.result (fault_of c.in-Err.fault)
-    settled (asked_now p line sid asked asks c.requires.says) (fault_is (exec_now p asked c.moment-moment.result) c.evaluate.result c.in-Err.fault c.in-Err.is c.evaluate.ensures.exec)
-    c.change_reply.ensures.refusal c.change_reply.ensures.memory
+    record {
+      comes = λ line (sid, long, asks). refused_comes (λ (v : Vec ℕ Global). v.items) (g.C.Clock.may c.args.clock.now) before p line sid asked c.moment-moment.result c.change_reply.result (fault_of c.in-Err.fault)
+          settled (asked_now p line sid asked asks c.requires.says) (fault_is (exec_now p asked c.moment-moment.result) c.evaluate.result c.in-Err.fault c.in-Err.is c.evaluate.ensures.exec)
+          c.change_reply.ensures.refusal c.change_reply.ensures.memory;
+      err = first_of (search rules, grind (arith, common_steps));
+      line = first_of (search rules, grind (arith, common_steps));
+      backs = backs_nothing d.content d.moment d.images d.images_since d.faults g.met.D.Disk.only_now c.args.self.now;
+      fault = first_of (search rules, grind (arith, common_steps));
+      same = first_of (search rules, grind (arith, common_steps));
+    }
 
-pub returns-in-Err-clause-backs : goal.returns-in-Err-clause-backs
-returns-in-Err-clause-backs g c = let d = g.D.Disk in backs_nothing d.content d.moment d.images d.images_since d.faults g.met.D.Disk.only_now c.args.self.now
+pub returns-in_err-kept : goal.returns-in_err-kept
+returns-in_err-kept g c before settled =
+    let d = g.D.Disk in
+    record {
+      comes = first_of (search rules, grind (arith, common_steps));
+      err = first_of (search rules, grind (arith, common_steps));
+      line = first_of (search rules, grind (arith, common_steps));
+      backs = backs_nothing d.content d.moment d.images d.images_since d.faults g.met.D.Disk.only_now c.args.self.now;
+      fault = first_of (search rules, grind (arith, common_steps));
+      same = first_of (search rules, grind (arith, common_steps));
+    }
 
-pub returns-in_err-kept-clause-backs : goal.returns-in_err-kept-clause-backs
-returns-in_err-kept-clause-backs g c = let d = g.D.Disk in backs_nothing d.content d.moment d.images d.images_since d.faults g.met.D.Disk.only_now c.args.self.now
-
-pub returns-then-count-gt-HISTORY_LIMIT-clause-comes :
-    goal.returns-then-count-gt-HISTORY_LIMIT-clause-comes
-returns-then-count-gt-HISTORY_LIMIT-clause-comes g c before line sid settled long asks =
+pub returns-then-count-gt-HISTORY_LIMIT : goal.returns-then-count-gt-HISTORY_LIMIT
+returns-then-count-gt-HISTORY_LIMIT g c before settled =
+    let d = g.D.Disk in
     let p = c.args.self.now.progress in
     let asked = create_request c.args.request.now.asks_guid c.args.request.now.name in
-    full_comes (λ (v : Vec ℕ Global). v.items) (g.C.Clock.may c.args.clock.now) before p line sid asked c.moment-moment.result c.args.bytes (c.args.bytes + c.in_ok-kept.field-0) c.count_with-count.result
-    (c.in-Ok.done.0, view c.in-Ok.done.1) c.full_reply.result settled (asked_now p line sid asked asks c.requires.says)
-    (done_is (exec_now p asked c.moment-moment.result) c.evaluate.result c.in-Ok.done c.in-Ok.is c.evaluate.ensures.exec)
-    long (ap (λ k. c.args.bytes + k) c.in_ok-kept.ensures.len) c.count_with-count.ensures.count c.if-count-gt-HISTORY_LIMIT.true c.full_reply.ensures
+    record {
+      comes = λ line (sid, long, asks). full_comes (λ (v : Vec ℕ Global). v.items) (g.C.Clock.may c.args.clock.now) before p line sid asked c.moment-moment.result c.args.bytes (c.args.bytes + c.in_ok-kept.field-0) c.count_with-count.result
+          (c.in-Ok.done.0, view c.in-Ok.done.1) c.full_reply.result settled (asked_now p line sid asked asks c.requires.says)
+          (done_is (exec_now p asked c.moment-moment.result) c.evaluate.result c.in-Ok.done c.in-Ok.is c.evaluate.ensures.exec)
+          long (ap (λ k. c.args.bytes + k) c.in_ok-kept.ensures.len) c.count_with-count.ensures.count c.if-count-gt-HISTORY_LIMIT.true c.full_reply.ensures;
+      err = first_of (search rules, grind (arith, common_steps));
+      line = first_of (search rules, grind (arith, common_steps));
+      backs = backs_nothing d.content d.moment d.images d.images_since d.faults g.met.D.Disk.only_now c.args.self.now;
+      fault = first_of (search rules, grind (arith, common_steps));
+      same = first_of (search rules, grind (arith, common_steps));
+    }
 
-pub returns-then-count-gt-HISTORY_LIMIT-clause-backs :
-    goal.returns-then-count-gt-HISTORY_LIMIT-clause-backs
-returns-then-count-gt-HISTORY_LIMIT-clause-backs g c = let d = g.D.Disk in backs_nothing d.content d.moment d.images d.images_since d.faults g.met.D.Disk.only_now c.args.self.now
+pub returns-in_err-stored : goal.returns-in_err-stored
+returns-in_err-stored g c before settled =
+    let d = g.D.Disk in
+    record {
+      comes = first_of (search rules, grind (arith, common_steps));
+      err = first_of (search rules, grind (arith, common_steps));
+      line = first_of (search rules, grind (arith, common_steps));
+      backs = backs_nothing d.content d.moment d.images d.images_since d.faults g.met.D.Disk.only_now c.args.self.now;
+      fault = first_of (search rules, grind (arith, common_steps));
+      same = first_of (search rules, grind (arith, common_steps));
+    }
 
-pub returns-in_err-stored-clause-backs : goal.returns-in_err-stored-clause-backs
-returns-in_err-stored-clause-backs g c = let d = g.D.Disk in backs_nothing d.content d.moment d.images d.images_since d.faults g.met.D.Disk.only_now c.args.self.now
+pub returns-in_err-in_doubt : goal.returns-in_err-in_doubt
+returns-in_err-in_doubt g c before settled =
+    let d = g.D.Disk in
+    record {
+      comes = first_of (search rules, grind (arith, common_steps));
+      err = first_of (search rules, grind (arith, common_steps));
+      line = first_of (search rules, grind (arith, common_steps));
+      backs = backs_nothing d.content d.moment d.images d.images_since d.faults g.met.D.Disk.only_now c.args.self.now;
+      fault = first_of (search rules, grind (arith, common_steps));
+      same = first_of (search rules, grind (arith, common_steps));
+    }
 
-pub returns-in_err-in_doubt-clause-backs : goal.returns-in_err-in_doubt-clause-backs
-returns-in_err-in_doubt-clause-backs g c = let d = g.D.Disk in backs_nothing d.content d.moment d.images d.images_since d.faults g.met.D.Disk.only_now c.args.self.now
-
-pub returns-in-Ok-append-clause-comes : goal.returns-in-Ok-append-clause-comes
-returns-in-Ok-append-clause-comes g c before line sid settled long asks =
+pub returns-in-Ok-append : goal.returns-in-Ok-append
+returns-in-Ok-append g c before settled =
     let p = c.args.self.now.progress in
     let asked = create_request c.args.request.now.asks_guid c.args.request.now.name in
-    stored_comes (g.C.Clock.may c.args.clock.now) before p c.append.new.self.progress line sid asked c.moment-moment.result c.args.bytes (c.args.bytes + c.in_ok-kept.field-0) c.count_with-count.result
-    (c.in-Ok.done.0, view c.in-Ok.done.1) c.in_ok-stored.stored.items settled (asked_now p line sid asked asks c.requires.says)
-    (done_is (exec_now p asked c.moment-moment.result) c.evaluate.result c.in-Ok.done c.in-Ok.is c.evaluate.ensures.exec)
-    long (ap (λ k. c.args.bytes + k) c.in_ok-kept.ensures.len) c.count_with-count.ensures.count (omega (arith, c.if-count-gt-HISTORY_LIMIT.false))
-    c.moment-moment.ensures.given c.in_ok-stored.ensures c.in-Ok-append.ensures.progress
+    record {
+      comes = λ line (sid, long, asks). stored_comes (g.C.Clock.may c.args.clock.now) before p c.append.new.self.progress line sid asked c.moment-moment.result c.args.bytes (c.args.bytes + c.in_ok-kept.field-0) c.count_with-count.result
+          (c.in-Ok.done.0, view c.in-Ok.done.1) c.in_ok-stored.stored.items settled (asked_now p line sid asked asks c.requires.says)
+          (done_is (exec_now p asked c.moment-moment.result) c.evaluate.result c.in-Ok.done c.in-Ok.is c.evaluate.ensures.exec)
+          long (ap (λ k. c.args.bytes + k) c.in_ok-kept.ensures.len) c.count_with-count.ensures.count (omega (arith, c.if-count-gt-HISTORY_LIMIT.false))
+          c.moment-moment.ensures.given c.in_ok-stored.ensures c.in-Ok-append.ensures.progress;
+      err = first_of (search rules, grind (arith, common_steps));
+      line = first_of (search rules, grind (arith, common_steps));
+      backs = first_of (search rules, grind (arith, common_steps));
+      fault = first_of (search rules, grind (arith, common_steps));
+      same = first_of (search rules, grind (arith, common_steps));
+    }
 
-pub returns-in-Err-DiskFault-clause-comes : goal.returns-in-Err-DiskFault-clause-comes
-returns-in-Err-DiskFault-clause-comes g c before line sid settled long asks =
+pub returns-in-Err-DiskFault : goal.returns-in-Err-DiskFault
+returns-in-Err-DiskFault g c before settled =
     let p = c.args.self.now.progress in
     let asked = create_request c.args.request.now.asks_guid c.args.request.now.name in
-    doubtful_comes (g.C.Clock.may c.args.clock.now) before p c.append.new.self.progress line sid asked c.moment-moment.result c.args.bytes (c.args.bytes + c.in_ok-kept.field-0) c.count_with-count.result
-    (c.in-Ok.done.0, view c.in-Ok.done.1) c.in_ok-in_doubt.in_doubt.items settled (asked_now p line sid asked asks c.requires.says)
-    (done_is (exec_now p asked c.moment-moment.result) c.evaluate.result c.in-Ok.done c.in-Ok.is c.evaluate.ensures.exec)
-    long (ap (λ k. c.args.bytes + k) c.in_ok-kept.ensures.len) c.count_with-count.ensures.count (omega (arith, c.if-count-gt-HISTORY_LIMIT.false))
-    c.moment-moment.ensures.given c.in_ok-in_doubt.ensures (rw c.in-Err-DiskFault.field-0-is at c.in-Err-DiskFault.ensures.progress)
+    record {
+      comes = λ line (sid, long, asks). doubtful_comes (g.C.Clock.may c.args.clock.now) before p c.append.new.self.progress line sid asked c.moment-moment.result c.args.bytes (c.args.bytes + c.in_ok-kept.field-0) c.count_with-count.result
+          (c.in-Ok.done.0, view c.in-Ok.done.1) c.in_ok-in_doubt.in_doubt.items settled (asked_now p line sid asked asks c.requires.says)
+          (done_is (exec_now p asked c.moment-moment.result) c.evaluate.result c.in-Ok.done c.in-Ok.is c.evaluate.ensures.exec)
+          long (ap (λ k. c.args.bytes + k) c.in_ok-kept.ensures.len) c.count_with-count.ensures.count (omega (arith, c.if-count-gt-HISTORY_LIMIT.false))
+          c.moment-moment.ensures.given c.in_ok-in_doubt.ensures (rw c.in-Err-DiskFault.field-0-is at c.in-Err-DiskFault.ensures.progress);
+      err = first_of (search rules, grind (arith, common_steps));
+      line = first_of (search rules, grind (arith, common_steps));
+      backs = first_of (search rules, grind (arith, common_steps));
+      fault = first_of (search rules, grind (arith, common_steps));
+      same = first_of (search rules, grind (arith, common_steps));
+    }

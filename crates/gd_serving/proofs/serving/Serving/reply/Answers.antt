@@ -1,4 +1,5 @@
-use Rattle.std.proofs.Common.{ℕ, Ok, Err, Vec, Global, length, ap, refl, ◌∙◌}
+use Rattle.std.proofs.Common.{ℕ, Ok, Err, Vec, Global, length, ap, refl, ◌∙◌, rules, arith}
+use Rattle.std.proofs.lemmas.Grind.{common_steps}
 use Rattle.gd_mql.specs.declared.line.Line.{Line}
 use Rattle.gd_mql.specs.Line.{ask_view, line_view}
 use Rattle.gd_runs.specs.Built.{form_request, create_request}
@@ -8,37 +9,61 @@ use Rattle.gd_serving.proofs.Backed.{backs_nothing}
 use Rattle.gd_serving.proofs.Faults.{read_quiet, quiet_if_ok}
 use Rattle.gd_serving.proofs.serving.Serving.reply.Goals as goal
 
-pub returns-in-TooLong-clause-comes : goal.returns-in-TooLong-clause-comes
-returns-in-TooLong-clause-comes g c bytes kept =
-    too_long_comes (g.C.Clock.may c.args.clock.now) c.args.self.now.progress c.args.line.now bytes c.too_long_reply.result c.in-TooLong.is kept c.too_long_reply.ensures
+pub returns-in-TooLong : goal.returns-in-TooLong
+returns-in-TooLong g c =
+    let d = g.D.Disk in
+    record {
+      comes = λ bytes kept. too_long_comes (g.C.Clock.may c.args.clock.now) c.args.self.now.progress c.args.line.now bytes c.too_long_reply.result c.in-TooLong.is kept c.too_long_reply.ensures;
+      err = first_of (search rules, grind (arith, common_steps));
+      line = first_of (search rules, grind (arith, common_steps));
+      backs = backs_nothing d.content d.moment d.images d.images_since d.faults g.met.D.Disk.only_now c.args.self.now;
+      fault = first_of (search rules, grind (arith, common_steps));
+      same = first_of (search rules, grind (arith, common_steps));
+    }
 
-pub returns-in-Ok-Read-clause-comes : goal.returns-in-Ok-Read-clause-comes
-returns-in-Ok-Read-clause-comes g c bytes kept =
-    let p = c.args.self.now.progress in
-    read_comes (g.C.Clock.may c.args.clock.now) p bytes c.in-Ok-Read.field-0-0 (form_request (ask_view c.in-Ok-Read.request)) c.read.result
-    (line_is p c.args.line.now c.in-Bytes.bytes c.as_slice-bytes.result.now bytes (Ok c.in-Ok-Read.field-0) c.in-Bytes.is c.as_slice-bytes.ensures.value kept c.in-Ok-Read.ensures.gives
-    ∙ ap (λ (l : Line). Ok (line_view l)) c.in-Ok-Read.field-0-is)
-    c.read.ensures
-
-pub returns-in-Ok-Read-clause-fault : goal.returns-in-Ok-Read-clause-fault
-returns-in-Ok-Read-clause-fault g c =
+pub returns-in-Ok-Read : goal.returns-in-Ok-Read
+returns-in-Ok-Read g c =
+    let d = g.D.Disk in
     let p = c.args.self.now.progress in
     let r = form_request (ask_view c.in-Ok-Read.request) in
-    quiet_if_ok p.lines (λ (v : Vec ℕ Global). v.items) (reply_of p.batches (length p.batches) p.lines r) _ c.read.result (read_quiet p.lines p.batches (length p.batches) p.lines r) c.read.ensures
+    record {
+      comes = λ bytes kept. read_comes (g.C.Clock.may c.args.clock.now) p bytes c.in-Ok-Read.field-0-0 r c.read.result
+          (line_is p c.args.line.now c.in-Bytes.bytes c.as_slice-bytes.result.now bytes (Ok c.in-Ok-Read.field-0) c.in-Bytes.is c.as_slice-bytes.ensures.value kept c.in-Ok-Read.ensures.gives
+          ∙ ap (λ (l : Line). Ok (line_view l)) c.in-Ok-Read.field-0-is)
+          c.read.ensures;
+      err = first_of (search rules, grind (arith, common_steps));
+      line = first_of (search rules, grind (arith, common_steps));
+      backs = backs_nothing d.content d.moment d.images d.images_since d.faults g.met.D.Disk.only_now c.args.self.now;
+      fault = quiet_if_ok p.lines (λ (v : Vec ℕ Global). v.items) (reply_of p.batches (length p.batches) p.lines r) _ c.read.result (read_quiet p.lines p.batches (length p.batches) p.lines r) c.read.ensures;
+      same = first_of (search rules, grind (arith, common_steps));
+    }
 
-pub returns-in-Ok-Write-clause-comes : goal.returns-in-Ok-Write-clause-comes
-returns-in-Ok-Write-clause-comes g c bytes kept =
-    c.write.ensures.comes bytes c.in-Ok-Write.field-0-0
-    (kept_length c.args.line.now c.in-Bytes.bytes c.as_slice-bytes.result.now bytes (length c.as_slice-bytes.result.now) c.in-Bytes.is c.as_slice-bytes.ensures.value refl kept)
-    (asks_is c.args.line.now c.in-Bytes.bytes c.as_slice-bytes.result.now bytes c.in-Ok-Write.field-0 c.in-Ok-Write.field-0-0 (create_request c.in-Ok-Write.request.asks_guid c.in-Ok-Write.request.name)
-    c.in-Bytes.is c.as_slice-bytes.ensures.value kept c.in-Ok-Write.ensures.asked (ap line_view c.in-Ok-Write.field-0-is))
+pub returns-in-Ok-Write : goal.returns-in-Ok-Write
+returns-in-Ok-Write g c = record {
+  comes = λ bytes kept. c.write.ensures.comes bytes (
+    c.in-Ok-Write.field-0-0,
+    kept_length c.args.line.now c.in-Bytes.bytes c.as_slice-bytes.result.now bytes (length c.as_slice-bytes.result.now) c.in-Bytes.is c.as_slice-bytes.ensures.value refl kept,
+    asks_is c.args.line.now c.in-Bytes.bytes c.as_slice-bytes.result.now bytes c.in-Ok-Write.field-0 c.in-Ok-Write.field-0-0 (create_request c.in-Ok-Write.request.asks_guid c.in-Ok-Write.request.name)
+        c.in-Bytes.is c.as_slice-bytes.ensures.value kept c.in-Ok-Write.ensures.asked (ap line_view c.in-Ok-Write.field-0-is),
+  );
+  err = c.write.ensures.err;
+  line = c.write.ensures.line;
+  backs = c.write.ensures.backs;
+  fault = c.write.ensures.fault;
+  same = c.write.ensures.same;
+}
 
-pub returns-in-Err-clause-comes : goal.returns-in-Err-clause-comes
-returns-in-Err-clause-comes g c bytes kept =
+pub returns-in-Err : goal.returns-in-Err
+returns-in-Err g c =
+    let d = g.D.Disk in
     let p = c.args.self.now.progress in
-    fault_comes (g.C.Clock.may c.args.clock.now) p bytes c.in-Err.fault c.fault_reply.result
-    (line_is p c.args.line.now c.in-Bytes.bytes c.as_slice-bytes.result.now bytes (Err c.in-Err.fault) c.in-Bytes.is c.as_slice-bytes.ensures.value kept c.in-Err.ensures.gives)
-    c.fault_reply.ensures.memory c.fault_reply.ensures.refusal
-
-pub returns-in-Ok-Read-clause-backs : goal.returns-in-Ok-Read-clause-backs
-returns-in-Ok-Read-clause-backs g c = let d = g.D.Disk in backs_nothing d.content d.moment d.images d.images_since d.faults g.met.D.Disk.only_now c.args.self.now
+    record {
+      comes = λ bytes kept. fault_comes (g.C.Clock.may c.args.clock.now) p bytes c.in-Err.fault c.fault_reply.result
+          (line_is p c.args.line.now c.in-Bytes.bytes c.as_slice-bytes.result.now bytes (Err c.in-Err.fault) c.in-Bytes.is c.as_slice-bytes.ensures.value kept c.in-Err.ensures.gives)
+          c.fault_reply.ensures.memory c.fault_reply.ensures.refusal;
+      err = first_of (search rules, grind (arith, common_steps));
+      line = first_of (search rules, grind (arith, common_steps));
+      backs = backs_nothing d.content d.moment d.images d.images_since d.faults g.met.D.Disk.only_now c.args.self.now;
+      fault = first_of (search rules, grind (arith, common_steps));
+      same = first_of (search rules, grind (arith, common_steps));
+    }

@@ -1,0 +1,11 @@
+pub mod Passing
+pub mod Frames
+pub mod Scans
+pub mod First
+pub mod Kept
+pub mod Bodies
+pub mod Reached
+pub mod Suspended
+pub mod Whole
+pub mod Walks
+pub mod Laws

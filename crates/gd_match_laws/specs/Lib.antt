@@ -1,0 +1,5 @@
+pub mod Moves
+pub mod Rows
+pub mod Best
+pub mod Walks
+pub mod Laws

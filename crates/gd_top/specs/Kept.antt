@@ -1,0 +1,21 @@
+-- What a run keeps of the file of its store, whatever its status.
+use Rattle.std.specs.Prelude.{◌≡◌, ◌⊎◌, ℕ, List, ◌++◌, Option, IsSome}
+use Rattle.std.specs.Option.{ForSome}
+use Rattle.gd_prim.specs.declared.Batch.{Batch}
+use Rattle.gd_bytes.specs.File.{not_store, damaged, meaning, StandsFor}
+
+-- what is left of a file: the same bytes, or, where it stood for batches, bytes that stand for these and for further ones behind them
+abbrev pub IsLeft : List ℕ → List ℕ → Type 0
+IsLeft before after = (after ≡ before) ⊎ ((bs : List Batch) × (more : List Batch) × StandsFor before bs × StandsFor after (bs ++ more))
+
+-- A file is kept: it is told, what is read of it is left of it, all that a stop leaves is left of what one might have left before, and of a file that is no store or damaged nothing is changed.
+pub record KeepsFile (file : List ℕ) (now : Option (List ℕ)) (images_old images_new : List ℕ → Type 0) : Type 0 where
+  pub told : IsSome now
+  pub read : ForSome now (λ later. IsLeft file later)
+  pub images : (c : List ℕ) → images_new c → (d : List ℕ) × images_old d × IsLeft d c
+  pub not_store : meaning file ≡ not_store → (c : List ℕ) → images_new c → images_old c
+  pub damaged : (at : ℕ) → meaning file ≡ damaged at → (c : List ℕ) → images_new c → images_old c
+
+-- where the file is told, it is kept
+abbrev pub Keeps : Option (List ℕ) → Option (List ℕ) → (List ℕ → Type 0) → (List ℕ → Type 0) → Type 0
+Keeps told now images_old images_new = ForSome told (λ file. KeepsFile file now images_old images_new)

@@ -1,0 +1,34 @@
+-- Words that are no command, and words that are one.
+use Rattle.std.proofs.Common.{◌≡◌, refl, [], ◌∷◌, Some, None, codes}
+use Rattle.gd_words.specs.declared.verbs.Command.TheVariants as command
+use Rattle.gd_words.specs.Words.{command_of}
+use Rattle.gd_words.specs.Options.{options_of, settings, option_of}
+
+pub no_words : command_of [] ≡ None
+unfolding command_of
+no_words = refl
+
+pub more_words : command_of (codes "serve" ∷ codes "extra" ∷ []) ≡ None
+unfolding command_of options_of settings option_of
+more_words = refl
+
+pub too_many_workers : command_of (codes "serve" ∷ codes "--workers" ∷ codes "17" ∷ []) ≡ None
+unfolding command_of options_of settings option_of
+too_many_workers = refl
+
+pub no_path : command_of (codes "serve" ∷ codes "--file=" ∷ []) ≡ None
+unfolding command_of options_of settings option_of
+no_path = refl
+
+pub other_verb : command_of (codes "replay" ∷ codes "--budget" ∷ codes "5" ∷ []) ≡ None
+unfolding command_of
+other_verb = refl
+
+pub plain : command_of (codes "serve" ∷ []) ≡ Some (command.Serve (record { file = None; workers = 4; budget = 10000 }))
+unfolding command_of options_of settings option_of
+plain = refl
+
+pub each_option : command_of (codes "serve" ∷ codes "--workers" ∷ codes "16" ∷ codes "--file=a=b" ∷ codes "--budget=1" ∷ [])
+    ≡ Some (command.Serve (record { file = Some (codes "a=b"); workers = 16; budget = 1 }))
+unfolding command_of options_of settings option_of
+each_option = refl
