@@ -8,8 +8,7 @@ use Rattle.gd_bytes.specs.Cursor.{Cursor, cursor_of}
 use Rattle.gd_defs.specs.Lines.{Refusal, refused_at, bad_cursor, cursor_ahead, ok_line, ok_cursor_line, err_line, too_wide, too_large}
 use Rattle.gd_defs.specs.Query.{Query}
 use Rattle.gd_defs.specs.Asked.{Asked, Unknown, asked_query}
-use Rattle.gd_defs.specs.Reply.{Path, Mark, reply, meant_line, asked_line, result_line, within_reply, unknown_refusal, page, page_cursor, has_more, result_json, has_heavy_candidate, is_heavy_page, max_candidate_weight, max_page_weight, max_reply}
-use Rattle.gd_defs.specs.Rows.{rows}
+use Rattle.gd_defs.specs.Reply.{Path, Mark, reply, meant_line, asked_line, result_line, within_reply, unknown_refusal, rows_after, page, page_cursor, has_more, result_json, has_heavy_candidate, is_heavy_page, max_candidate_weight, max_page_weight, max_reply}
 use Rattle.gd_runs.specs.Request.{ReadRequest, CursorAsk, no_cursor, first_page, page_after, reply_of, page_reply}
 use Rattle.gd_runs.specs.Explained.{tells_fault}
 
@@ -43,7 +42,7 @@ module _ (k : ℕ) where
       let heavy : Refusal = too_wide (max_candidate_weight + 1) in
       let wide : Refusal = too_wide (max_page_weight + 1) in
       let cursor : Option Json = if w then Some (page_cursor dateline (page prims q after) (has_more prims q after)) else None in
-      let result : Result Json Path = result_json prims q (rows prims q) (page prims q after) in
+      let result : Result Json Path = result_json prims q (rows_after prims q after) (page prims q after) in
       let rest : List ℕ = if is_heavy_page prims q after then err_line dateline line wide else result_line dateline line cursor result in
       either_quiet (has_heavy_candidate prims q) (err_line dateline line heavy) rest (err_quiet dateline line heavy)
       (either_quiet (is_heavy_page prims q after) (err_line dateline line wide) (result_line dateline line cursor result) (err_quiet dateline line wide) (result_quiet dateline line cursor result))
