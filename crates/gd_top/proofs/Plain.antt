@@ -11,8 +11,7 @@ use Rattle.gd_defs.specs.Lines.{Refusal, refusal, line_text, object_of, count_js
 use Rattle.gd_defs.specs.History.{prims_at}
 use Rattle.gd_defs.specs.Asked.{Asked, Unknown, asked_query}
 use Rattle.gd_defs.specs.Query.{Query}
-use Rattle.gd_defs.specs.Reply.{reply, meant_line, result_line, within_reply, max_reply, max_candidate_weight, max_page_weight, has_heavy_candidate, is_heavy_page, page, page_cursor, has_more, result_json, bad_query_refusal, unknown_refusal}
-use Rattle.gd_defs.specs.Rows.{rows}
+use Rattle.gd_defs.specs.Reply.{reply, meant_line, result_line, within_reply, max_reply, max_candidate_weight, max_page_weight, has_heavy_candidate, is_heavy_page, page, page_cursor, has_more, result_json, bad_query_refusal, unknown_refusal, rows_after}
 use Rattle.gd_runs.specs.Request.{bad_line, bad_form, CursorAsk, no_cursor, first_page, page_after, page_reply, reply_of, change_refusal}
 use Rattle.gd_runs.specs.Input.{Forms, InputFault, line_too_long, no_json, no_line, json_refusal, input_fault_line}
 use Rattle.gd_runs.specs.Legal.{History, batches}
@@ -156,7 +155,7 @@ plain_asked false false n k cursor r = plain_result n k cursor r
 plain_meant : (prims : List Primitive) (n k : ℕ) (with_cursor : Bool) (after : Option Mark) (r : Result Asked Unknown) → Plain (meant_line prims n k with_cursor after r)
 plain_meant prims n k with_cursor after (Err u) = plain_err n k (unknown_refusal u)
 plain_meant prims n k with_cursor after (Ok q) = plain_asked (has_heavy_candidate prims q) (is_heavy_page prims q after) n k
-    (if with_cursor then Some (page_cursor n (page prims q after) (has_more prims q after)) else None) (result_json prims q (rows prims q) (page prims q after))
+    (if with_cursor then Some (page_cursor n (page prims q after) (has_more prims q after)) else None) (result_json prims q (rows_after prims q after) (page prims q after))
 
 plain_read : (prims : List Primitive) (n k : ℕ) (with_cursor : Bool) (after : Option Mark) (q : Query) → Plain (reply prims n k with_cursor after q)
 plain_read prims n k with_cursor after q = plain_meant prims n k with_cursor after (asked_query prims q)
