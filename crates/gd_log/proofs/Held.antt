@@ -6,7 +6,7 @@ use Rattle.std.specs.Int.{to_be_bytes, w16}
 use Rattle.gd_prim.specs.declared.Batch.{Batch}
 use Rattle.gd_bytes.specs.Disk.{LeavesOnly, IsUntouched}
 use Rattle.gd_bytes.specs.File.{MayStandFor}
-use Rattle.gd_bytes.specs.Group.{IsGroup, batch_bytes}
+use Rattle.gd_bytes.specs.Group.{IsGroup, group_of, batch_bytes}
 use Rattle.gd_disk.specs.Runs.{leaves_weaken}
 use Rattle.gd_journal.specs.Meaning as journal
 use Rattle.gd_journal.specs.State.{IsSettled, IsInDoubt}
@@ -22,8 +22,8 @@ told_file None is = cc
 -- ---- what is held
 
 -- the next group of what is held
-pub held_next : (co : Option (List ℕ)) (im : List ℕ → Type 0) (gate : ℕ) (bs more : List Batch) (p : List ℕ) → HoldsBefore co im gate bs more → IsGroup p more → IsNext bs p more
-held_next co im gate bs more p before is = record { group = is; follow = before.follow }
+pub held_next : (co : Option (List ℕ)) (im : List ℕ → Type 0) (gate : ℕ) (bs more : List Batch) (p : List ℕ) → HoldsBefore co im gate bs more → IsGroup p more → group_of p ≡ Some more → IsNext bs p more
+held_next co im gate bs more p before is meant = record { group = is; meant = meant; follow = before.follow }
 
 pub hold : (co : Option (List ℕ)) (im : List ℕ → Type 0) (gate : ℕ) (ps : List (List ℕ)) (bs : List Batch) → AreGroups [] ps bs → IsSettled co im gate ps → IsHeld co im gate bs
 hold co im gate ps bs are s = record { payloads = ps; groups = are; settled = s; means = λ c now. stands c ps bs (s.means c now) are }

@@ -8,7 +8,6 @@ use Rattle.gd_prim.specs.WellFormed.{all_follow}
 use Rattle.gd_bytes.specs.File.{Meaning, not_store, damaged, groups, header, joined, Payloads, no_payloads, payloads, record_batches, with_group, groups_of, meaning, StandsFor, MayStandFor}
 use Rattle.gd_journal.specs.Meaning as journal
 use Rattle.gd_log.specs.Groups.{IsNext, AreGroups}
-use Rattle.gd_codec.proofs.Meaning.{spelled_meant}
 
 -- ---- a file means what its payloads mean
 
@@ -33,7 +32,7 @@ taken_if bs t is = ap (λ (b : Bool). if b then Some bs else None) is
 -- a group that may follow is read
 pub next_read : (before : List Batch) (p : List ℕ) (more : List Batch) → IsNext before p more → record_batches before p ≡ Some more
 unfolding prims_of
-next_read before p more n = rw (spelled_meant more p n.group) (taken_if more (all_follow (prims_of before) (length before) more) n.follow)
+next_read before p more n = rw n.meant (taken_if more (all_follow (prims_of before) (length before) more) n.follow)
 
 -- groups in front of what follows
 abbrev pub behind : List (List Batch) → Meaning → Meaning

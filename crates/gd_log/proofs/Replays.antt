@@ -1,16 +1,15 @@
 -- What is taken in when payloads are read.
-use Rattle.std.proofs.Common.{◌≡◌, ℕ, suc, ◌+◌, ◌<◌, ◌≤◌, List, [], ◌∷◌, ◌++◌, length, take, drop, get_or, Bool, true, false, Some, None, refl, sym, ◌∙◌, ap, subst, arith, append_assoc, length-append, add-one, drop-cons}
-use Rattle.std.specs.Prelude.{Option, ◌≢◌, ◌&&◌, if◌then◌else◌, MatchBool, MatchOption}
+use Rattle.std.proofs.Common.{◌≡◌, ℕ, suc, ◌+◌, ◌<◌, ◌≤◌, List, [], ◌∷◌, ◌++◌, length, take, drop, get_or, Bool, true, false, Some, None, refl, sym, ◌∙◌, ap, subst, append_assoc, add-one, drop-cons}
+use Rattle.std.specs.Prelude.{Option, ◌≢◌, if◌then◌else◌, MatchBool, MatchOption}
 use Rattle.std.specs.Option.{option_or}
 use Rattle.std.specs.Bool.{OnTrue}
-use Rattle.std.proofs.lemmas.List.{append-nil, take-append-drop, take_all}
+use Rattle.std.proofs.lemmas.List.{take-append-drop, take_all}
 use Rattle.std.proofs.Math.Seq.{take-suc}
 use Rattle.std.proofs.lemmas.Bool.{OnTrue_at}
-use Rattle.gd_prim.specs.declared.Primitive.{Primitive}
 use Rattle.gd_prim.specs.declared.Batch.{Batch}
 use Rattle.gd_prim.specs.History.{prims_of}
 use Rattle.gd_prim.specs.WellFormed.{may_follow, all_follow}
-use Rattle.gd_store.proofs.History.{prims_of-append}
+use Rattle.gd_history_laws.proofs.Histories.{follow_more}
 use Rattle.gd_bytes.specs.File.{damaged, record_batches, groups_of}
 use Rattle.gd_bytes.specs.Group.{IsGroup, group_of}
 use Rattle.gd_codec.specs.declared.stop.CodecFault.{CodecFault}
@@ -19,7 +18,6 @@ use Rattle.gd_journal.specs.declared.payloads.Payload.{Payload}
 use Rattle.gd_journal.specs.Found.{seen}
 use Rattle.gd_log.specs.Groups.{AreGroups}
 use Rattle.gd_log.specs.Opening.{IsTaken, bytes_of}
-use Rattle.gd_codec.proofs.Meaning.{spelled_meant}
 use Rattle.gd_log.proofs.Meaning.{walk_stop, walk_torn, push}
 
 -- ---- batches one by one
@@ -27,15 +25,6 @@ use Rattle.gd_log.proofs.Meaning.{walk_stop, walk_torn, push}
 -- the item at a place, and what comes behind it
 pub next_item : {A : Type 0} (xs : List A) (i : ℕ) (x : A) → i < length xs → x ≡ get_or xs i x → drop i xs ≡ x ∷ drop (i + 1) xs
 next_item {A} xs i x lt is = drop-cons xs i x lt ∙ ap (λ (y : A). y ∷ drop (suc i) xs) (sym is) ∙ ap (λ (k : ℕ). x ∷ drop k xs) (sym (add-one i))
-
--- behind a batch that may follow the others follow as if it were stored
-pub follow_more : (store : List Batch) (b : Batch) (rest : List Batch) → may_follow (prims_of store) (length store) b ≡ true → all_follow (prims_of store) (length store) (b ∷ rest) ≡ all_follow (prims_of (store ++ b ∷ [])) (length (store ++ b ∷ [])) rest
-follow_more store b rest may =
-    let behind : prims_of store ++ b.prims ≡ prims_of (store ++ b ∷ []) = sym (prims_of-append store (b ∷ []) ∙ ap (λ (l : List Primitive). prims_of store ++ l) (append-nil b.prims)) in
-    let count : length store + 1 ≡ length (store ++ b ∷ []) = omega (arith, length-append store (b ∷ [])) in
-    ap (λ (t : Bool). t && all_follow (prims_of store ++ b.prims) (length store + 1) rest) may
-    ∙ ap (λ (l : List Primitive). all_follow l (length store + 1) rest) behind
-    ∙ ap (λ (n : ℕ). all_follow (prims_of (store ++ b ∷ [])) n rest) count
 
 pub batch_follow : (start store now xs : List Batch) (i : ℕ) (b : Batch) (t : Bool) → i < length xs → b ≡ get_or xs i b → t ≡ true → t ≡ may_follow (prims_of store) (length store) b → OnTrue t (now ≡ store ++ b ∷ [])
     → all_follow (prims_of store) (length store) (drop i xs) ≡ all_follow (prims_of start) (length start) xs → all_follow (prims_of now) (length now) (drop (i + 1) xs) ≡ all_follow (prims_of start) (length start) xs
@@ -60,13 +49,13 @@ taken_not : (bs : List Batch) (t : Bool) → t ≡ false → (if t then Some bs 
 taken_not bs t is = ap (λ (b : Bool). if b then Some bs else None) is
 
 -- a group is taken in exactly if its batches may follow
-pub group_taken : (before : List Batch) (p : List ℕ) (more listed now : List Batch) (t : Bool) → IsGroup p more → listed ≡ more → t ≡ all_follow (prims_of before) (length before) listed → OnTrue t (now ≡ before ++ listed)
+pub group_taken : (before : List Batch) (p : List ℕ) (more listed now : List Batch) (t : Bool) → IsGroup p more → group_of p ≡ Some more → listed ≡ more → t ≡ all_follow (prims_of before) (length before) listed → OnTrue t (now ≡ before ++ listed)
     → MatchBool t (IsTaken before p now) (record_batches before p ≡ None)
 unfolding prims_of
-group_taken before p more listed now true is same may now_is =
-    (more, record { group = is; follow = ap (λ (l : List Batch). all_follow (prims_of before) (length before) l) (sym same) ∙ sym may }, now_is ∙ ap (λ (l : List Batch). before ++ l) same)
-group_taken before p more listed now false is same may now_is =
-    rw (spelled_meant more p is) (taken_not more (all_follow (prims_of before) (length before) more) (ap (λ (l : List Batch). all_follow (prims_of before) (length before) l) (sym same) ∙ sym may))
+group_taken before p more listed now true is meant same may now_is =
+    (more, record { group = is; meant = meant; follow = ap (λ (l : List Batch). all_follow (prims_of before) (length before) l) (sym same) ∙ sym may }, now_is ∙ ap (λ (l : List Batch). before ++ l) same)
+group_taken before p more listed now false is meant same may now_is =
+    rw meant (taken_not more (all_follow (prims_of before) (length before) more) (ap (λ (l : List Batch). all_follow (prims_of before) (length before) l) (sym same) ∙ sym may))
 
 -- bytes that are no group are not taken in
 pub no_group : (before : List Batch) (p : List ℕ) (f : CodecFault) (n : ℕ) → f ≡ fault.BadBytes n → (f ≢ fault.Memory → group_of p ≡ None) → record_batches before p ≡ None

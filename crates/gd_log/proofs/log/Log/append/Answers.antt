@@ -1,7 +1,7 @@
-use Rattle.std.proofs.Common.{ℕ, List, [], ◌∷◌, ◌++◌, sym, ◌∙◌, ap, subst, arith}
+use Rattle.std.proofs.Common.{◌≡◌, ℕ, List, Some, [], ◌∷◌, ◌++◌, sym, ◌∙◌, ap, subst, arith}
 use Rattle.std.proofs.lemmas.Result.{on_ok_weaker}
 use Rattle.std.proofs.lemmas.Option.{IfSome_then}
-use Rattle.gd_bytes.specs.Group.{IsGroup}
+use Rattle.gd_bytes.specs.Group.{IsGroup, group_of}
 use Rattle.gd_journal.specs.State.{Journaled}
 use Rattle.gd_log.proofs.Held.{held_next, hold, doubt, leaves}
 use Rattle.gd_log.proofs.Meaning.{push}
@@ -20,7 +20,8 @@ returns-clause-added g c = rw (← c.self.view_is) (on_ok_weaker c.append.result
     let p = c.as_slice.result.now in
     let more = c.args.batches.now in
     let is : IsGroup p more = subst (λ (l : List ℕ). IsGroup l more) (sym c.as_slice.ensures.value) c.in_ok-payload.ensures.spelled in
-    let next = held_next (d.content j.disk) (d.images j.disk) j.gate bs more p before is in
+    let meant : group_of p ≡ Some more = ap group_of c.as_slice.ensures.value ∙ c.in_ok-payload.ensures.meant in
+    let next = held_next (d.content j.disk) (d.images j.disk) j.gate bs more p before is meant in
     let h = before.held in
     let after = c.append.new.self in
     hold (d.content after.disk) (d.images after.disk) after.gate (h.payloads ++ p ∷ []) (bs ++ more) (push [] h.payloads bs p more h.groups next) (run h.payloads h.settled)) c.append.ensures.added)
@@ -32,7 +33,8 @@ returns-clause-unsure g c = rw (← c.self.view_is) (IfSome_then c.append.new.se
     let p = c.as_slice.result.now in
     let more = c.args.batches.now in
     let is : IsGroup p more = subst (λ (l : List ℕ). IsGroup l more) (sym c.as_slice.ensures.value) c.in_ok-payload.ensures.spelled in
-    let next = held_next (d.content j.disk) (d.images j.disk) j.gate bs more p before is in
+    let meant : group_of p ≡ Some more = ap group_of c.as_slice.ensures.value ∙ c.in_ok-payload.ensures.meant in
+    let next = held_next (d.content j.disk) (d.images j.disk) j.gate bs more p before is meant in
     let h = before.held in
     let after = c.append.new.self in
     doubt (d.content after.disk) (d.images after.disk) after.gate n h.payloads p bs more h.groups next (run h.payloads h.settled)))
@@ -44,7 +46,8 @@ returns-clause-moments g c = rw (← c.self.view_is) (λ bs before.
     let p = c.as_slice.result.now in
     let more = c.args.batches.now in
     let is : IsGroup p more = subst (λ (l : List ℕ). IsGroup l more) (sym c.as_slice.ensures.value) c.in_ok-payload.ensures.spelled in
-    let next = held_next (d.content j.disk) (d.images j.disk) j.gate bs more p before is in
+    let meant : group_of p ≡ Some more = ap group_of c.as_slice.ensures.value ∙ c.in_ok-payload.ensures.meant in
+    let next = held_next (d.content j.disk) (d.images j.disk) j.gate bs more p before is meant in
     let h = before.held in
     let after = c.append.new.self in
     leaves d.moment d.images d.images_since j.disk after.disk h.payloads p bs more h.groups next (c.append.ensures.moments h.payloads h.settled))
