@@ -7,6 +7,7 @@ The crates below it are proved side by side, as far as their chain, the processo
 kept, so a run that was stopped goes on where it was.
 """
 import os
+import re
 import signal
 import subprocess
 import sys
@@ -108,7 +109,7 @@ def run(words, progress=None):
 def refusals(text):
     """What the toolchain said of why a crate is not proved, or the end of all that it said."""
     lines = text.splitlines(True)
-    found = [line for line in lines if "error" in line or "not proved" in line]
+    found = [line for line in lines if re.search(r"\berror[:[]|: not proved", line)]
     return "".join(lines[:1] + found[:20] if found else lines[-20:])
 
 
