@@ -7,6 +7,7 @@ The crates below it are proved side by side, as far as their chain, the processo
 kept, so a run that was stopped goes on where it was.
 """
 import os
+import re
 import signal
 import subprocess
 import sys
@@ -17,7 +18,7 @@ TOP = os.path.dirname(os.path.dirname(os.path.abspath(__file__)))
 PROGRAM = "graphd"
 # A check takes up to about so many bytes.
 ROOM = 3 << 30
-# Crates that are done within so many seconds were proved before.
+# Crates that are done within so many seconds of the first one were proved before.
 SOON = 10
 
 
@@ -58,24 +59,26 @@ class Progress:
     def __init__(self):
         self.sizes = {crate: size_of(crate) for crate in crates_of(PROGRAM)}
         self.done, self.before = {}, 0
-        self.began = time.monotonic()
+        self.began, self.first = time.monotonic(), None
         self.is_terminal = sys.stderr.isatty()
 
     def add(self, crate):
         """A crate is done."""
-        self.done[crate] = self.sizes.get(crate, 0)
-        if time.monotonic() - self.began < SOON:
-            self.before += self.done[crate]
+        now = time.monotonic()
+        self.first = self.first or now
+        self.done[crate] = self.sizes[crate]
+        if now - self.first < SOON:
+            self.before += self.sizes[crate]
         self.tell()
 
     def tell(self):
         """Says how far it is."""
-        seconds = time.monotonic() - self.began
-        line = "graphd: %d of %d crates proved, %d s" % (len(self.done), len(self.sizes), seconds)
+        now = time.monotonic()
+        line = "graphd: %d of %d crates proved, %d s" % (len(self.done), len(self.sizes), now - self.began)
         made = sum(self.done.values()) - self.before
         left = sum(self.sizes.values()) - made - self.before
         if made > 0 and left > 0:
-            line += ", about %d s to go" % (seconds * left / made)
+            line += ", about %d s to go" % ((now - self.first) * left / made)
         sys.stderr.write("\r\033[K" + line if self.is_terminal else line + "\n")
         sys.stderr.flush()
 
@@ -103,6 +106,13 @@ def run(words, progress=None):
         child.terminate()
 
 
+def refusals(text):
+    """What the toolchain said of why a crate is not proved, or the end of all that it said."""
+    lines = text.splitlines(True)
+    found = [line for line in lines if re.search(r"\berror[:[]|: not proved", line)]
+    return "".join(lines[:1] + found[:20] if found else lines[-20:])
+
+
 def main():
     """Proves all, and then builds the program."""
     progress, ended = Progress(), threading.Event()
@@ -118,7 +128,7 @@ def main():
         sys.stderr.write("\n")
     if status != 0:
         failed = [crate for crate in said if "\n%s: failed" % crate in said.get("summary", "")]
-        sys.stderr.write("".join(said[crate][-4000:] for crate in failed or list(said)[-1:]))
+        sys.stderr.write("".join(refusals(said[crate]) for crate in failed or list(said)[-1:]))
         sys.stderr.write("graphd: the program was not built\n")
     return status
 
