@@ -9,8 +9,7 @@ use Rattle.gd_defs.specs.Write.{WriteRequest, ChangeFault, full}
 use Rattle.gd_runs.specs.Request.{write, change_refusal}
 use Rattle.gd_runs.specs.Legal.{kept_bytes}
 use Rattle.gd_runs.specs.Explained.{MayBe, disk_line}
-use Rattle.gd_runs.specs.Built.{is_built, says_name}
-use Rattle.gd_runs.proofs.LineMore.{line_from-at}
+use Rattle.gd_runs.specs.Built.{says_name}
 use Rattle.gd_prim.specs.History.{prims_of, prims_at}
 use Rattle.gd_json.specs.declared.value.Json.{Json as Value}
 use Rattle.gd_json.specs.View.{view}

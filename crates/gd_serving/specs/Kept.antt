@@ -1,34 +1,17 @@
 -- What a step of a run keeps of its disk.
-use Rattle.std.specs.Prelude.{ℕ, ◌+◌, ◌≤◌, List, Option, Some, None, Result, Ok, Err}
-use Rattle.gd_prim.specs.declared.Batch.{Batch}
+use Rattle.std.specs.Prelude.{ℕ, ◌+◌, ◌≤◌, List, Option, Result, Ok, Err}
 use Rattle.gd_bytes.specs.Disk.{LeavesOnly}
-use Rattle.gd_bytes.specs.File.{MayStandFor}
-use Rattle.gd_journal.specs.State.{Journaled}
 use Rattle.gd_journal.specs.declared.fault.JournalFault.{JournalFault}
 use Rattle.gd_journal.specs.declared.fault.JournalFault.TheVariants.{DiskFault}
 use Rattle.gd_serving.specs.Served.{Progress, Doubt}
 use Rattle.gd_serving.specs.Step.{with_batch, doubtful}
-use Rattle.gd_serving.specs.Running.{Running, HoldsRun, IsBacked, StandsForEither, doubted_groups}
+use Rattle.gd_serving.specs.Running.{Running, IsBacked, StandsForEither}
 
 -- What the disk holds stays what the run has, a stop leaves what it had before or has after it, and the count of faults does not fall.
 pub record Backs {D : Type 0} (content : D → Option (List ℕ)) (moment : D → ℕ) (images : D → List ℕ → Type 0) (images_since : D → ℕ → List ℕ → Type 0) (faults : D → ℕ) (old new : Running D) : Type 0 where
   pub backed : IsBacked content images old → IsBacked content images new
   pub moments : IsBacked content images old → LeavesOnly moment images images_since old.log.disk new.log.disk (StandsForEither old.progress new.progress)
   pub later : faults old.log.disk ≤ faults new.log.disk
-
--- the disk of a log holds these batches, and the one in doubt if there is one
-abbrev pub HoldsLog : {D : Type 0} → (D → Option (List ℕ)) → (D → List ℕ → Type 0) → Journaled D → List Batch → Option Doubt → Type 0
-HoldsLog content images log bs d = HoldsRun (content log.disk) (images log.disk) log.gate log.doubt bs d
-
--- all or none of a write in doubt, as a run in doubt leaves it
-abbrev pub MayStand : List Batch → Option Doubt → List ℕ → Type 0
-MayStand bs d file = MayStandFor bs (doubted_groups d) file
-
--- the write that is in doubt after an append of it
-abbrev pub doubt_after : Result (Unit {0}) JournalFault → Doubt → Option Doubt
-doubt_after (Ok _) d = None
-doubt_after (Err DiskFault) d = Some d
-doubt_after (Err _) d = None
 
 -- the progress after an append of a write
 abbrev pub appended : Result (Unit {0}) JournalFault → Progress → Doubt → Progress

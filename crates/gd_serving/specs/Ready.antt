@@ -1,21 +1,15 @@
 -- What the fields of a run keep between two lines.
-use Rattle.std.specs.Prelude.{◌≡◌, ℕ, ◌+◌, ◌≤◌, List, [], ◌∷◌, ◌++◌, length, Bool, Option, Some, None}
+use Rattle.std.specs.Prelude.{◌≡◌, ℕ, ◌+◌, ◌≤◌, List, [], ◌∷◌, ◌++◌, Bool, Option, Some, None}
 use Rattle.gd_prim.specs.declared.Batch.{Batch}
 use Rattle.gd_prim.specs.History.{prims_of}
-use Rattle.gd_prim.specs.WellFormed.{bad_place}
-use Rattle.gd_prim.specs.Limits.{limits, first_full}
+use Rattle.gd_log.specs.Stored.{MayAppend}
 use Rattle.gd_runs.specs.Legal.{max_history}
 use Rattle.gd_runs.specs.Built.{says_name}
 use Rattle.gd_serving.specs.Served.{Doubt}
 
--- the batch may follow these, within the limits of a store
-pub record MayAbsorb (bs : List Batch) (b : Batch) : Type 0 where
-  pub well_formed : bad_place (prims_of bs) b ≡ None
-  pub fits : first_full (limits (prims_of bs) (length bs) b.prims) ≡ None
-
--- The batch in doubt may follow these, says of the property `name` what they say, and the history has room for its bytes.
+-- The batch in doubt may be appended to these, says of the property `name` what they say, and the history has room for its bytes.
 pub record IsReadyDoubt (bs : List Batch) (kept : ℕ) (d : Doubt) : Type 0 where
-  pub absorbs : MayAbsorb bs d.batch
+  pub may : MayAppend bs (d.batch ∷ [])
   pub says : says_name (prims_of (bs ++ d.batch ∷ [])) ≡ says_name (prims_of bs)
   pub room : kept + d.kept ≤ max_history
 

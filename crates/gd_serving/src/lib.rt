@@ -2,5 +2,4 @@
 #![tactic(auto)]
 
 mod fault_line;
-mod held;
 pub mod serving;

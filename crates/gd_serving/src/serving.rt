@@ -4,13 +4,15 @@ ghost use Rattle.gd_base.specs.Counts.{Rose};
 ghost use Rattle.gd_prim.specs.declared.Primitive.{Primitive};
 ghost use Rattle.gd_prim.specs.declared.What.TheVariants as what;
 ghost use Rattle.gd_prim.specs.History.{is_history, prims_of};
-ghost use Rattle.gd_prim.specs.WellFormed.{max_moment};
+ghost use Rattle.gd_prim.specs.Limits.{limits, first_full};
+ghost use Rattle.gd_prim.specs.WellFormed.{bad_place, max_moment};
 ghost use Rattle.gd_tree.specs.Json.{compact};
 ghost use Rattle.gd_json.specs.View.{view};
 ghost use Rattle.gd_defs.specs.Lines.{ok_line as ok_line_of, err_line as err_line_of};
 ghost use Rattle.gd_defs.specs.Write.{full};
 ghost use Rattle.gd_bytes.specs.Disk.{LeavesOnly};
 ghost use Rattle.gd_journal.specs.Causes.{HasReason};
+ghost use Rattle.gd_log.specs.Stored.{MayAppend};
 ghost use Rattle.gd_runs.specs.Request.{reply_of, change_refusal};
 ghost use Rattle.gd_runs.specs.Input.{line_at, input_fault_line, line_too_long};
 ghost use Rattle.gd_runs.specs.Explained.{MayBe, tells_fault, disk_line as disk_line_of, memory_line as memory_line_of};
@@ -21,12 +23,10 @@ ghost use Rattle.gd_input.specs.Line.{IsKept, IsShort};
 ghost use Rattle.gd_serving.specs.Served.{Progress, GoesOn, Grows, IsServed};
 ghost use Rattle.gd_serving.specs.Step.{Settles, MaySettle, AsksIn, exec_now, line_now};
 ghost use Rattle.gd_serving.specs.Running.{IsBacked, StandsForEither};
-ghost use Rattle.gd_serving.specs.Ready.{MayAbsorb};
 ghost use Rattle.gd_serving.specs.Kept.{Backs, appended};
 ghost use Rattle.gd_serving.specs.Replies.{Replies};
 
 use crate::fault_line::{maybe_stored, not_stored};
-use crate::held;
 use gd_base::memory::Memory;
 use gd_base::steps::Steps;
 use gd_change::fault::ChangeFault;
@@ -37,6 +37,7 @@ use gd_journal::fault::JournalFault;
 use gd_json::text::json_text;
 use gd_json::value::Json;
 use gd_log::log::Log;
+use gd_log::stored::StoredLog;
 use gd_mql::fault::{Code, LineFault, Path};
 use gd_mql::line::{Line, ReadRequest, WriteRequest, line_from};
 use gd_outside::clock::Clock;
@@ -48,6 +49,7 @@ use gd_resolve::property::says_name;
 use gd_store::store::Store;
 use std::alloc::Global;
 use std::marker::Model;
+use std::slice;
 
 /// The last moment, in milliseconds since 1970-01-01 in UTC: the end of the year 9999.
 const LAST_MOMENT: u64 = 253_402_300_799_999;
@@ -68,12 +70,11 @@ struct Pending {
     kept: u64,
 }
 
-/// A run over the log of a disk: the store, the write that is in doubt, the number of the next line, and the bytes of
+/// A run over the log of a disk with its store, the write that is in doubt, the number of the next line, and the bytes of
 /// the stored lines and their results. Contracts see how far the run is, and its log.
 #[derive(Drop)]
 pub struct Serving<D: Disk> {
-    log: Log<D>,
-    store: Store,
+    held: StoredLog<D>,
     pending: Option<Pending>,
     lines: u64,
     kept: u64,
@@ -90,15 +91,15 @@ impl<D: Disk> Model for Serving<D> {
 
     ghost view = { λ s. record {
       progress = record {
-        batches = s.store;
+        batches = s.held.batches;
         lines = s.lines;
         kept = s.kept;
         doubt = option_map (λ p. record { batch = p.batch; kept = p.kept }) s.pending;
       };
-      log = s.log;
+      log = s.held.log;
     } };
 
-    ghost invariant = { λ s. IsReady s.store s.kept s.says_name s.log.doubt
+    ghost invariant = { λ s. IsReady s.held.batches s.kept s.says_name s.held.log.doubt
         (option_map (λ p. record { batch = p.batch; kept = p.kept }) s.pending) };
 }
 
@@ -163,8 +164,7 @@ impl<D: Disk> Serving<D> {
     {
         let says_name = says_name_in(&store);
         Serving {
-            log,
-            store,
+            held: StoredLog::of(log, store),
             pending: None,
             lines: 0,
             kept: 0,
@@ -215,7 +215,14 @@ impl<D: Disk> Serving<D> {
     pub fn into_disk(self) -> D
         ensures { result ≡ self.log.disk }
     {
-        self.log.into_disk()
+        self.held.into_disk()
+    }
+
+    /// The store of the batches.
+    fn store(&self) -> &Store
+        ensures { result.now ≡ self.now.progress.batches }
+    {
+        self.held.store()
     }
 
     /// Goes on to the next line.
@@ -317,7 +324,8 @@ impl<D: Disk> Serving<D> {
             (length self.now.progress.batches) self.now.progress.lines (form_request (ask_view request.now))) }
     {
         let mut steps: Steps<Run> = Steps::new();
-        let view = self.store.view(self.store.requests());
+        let store = self.store();
+        let view = store.view(store.requests());
         reply_to(alloc, &view, self.lines, request, &mut steps)
     }
 
@@ -329,7 +337,7 @@ impl<D: Disk> Serving<D> {
             ≡ err_line_of (length self.now.progress.batches) self.now.progress.lines (change_refusal refusal))) }
         ensures memory { fault_of fault ≡ None → IsErr result }
     {
-        let dateline = self.store.requests();
+        let dateline = self.store().requests();
         match fault {
             ChangeFault::BadQuery { code, path } => {
                 err_line(
@@ -357,7 +365,7 @@ impl<D: Disk> Serving<D> {
             what: What::History,
             count,
         };
-        err_line(alloc, self.store.requests(), self.lines, &refusal)
+        err_line(alloc, self.store().requests(), self.lines, &refusal)
     }
 
     /// Ends an earlier doubt, if there is one, and then carries a write out. Where the disk fails while the doubt is to be
@@ -397,7 +405,7 @@ impl<D: Disk> Serving<D> {
         let Some(pending) = &self.pending else {
             return Ok(());
         };
-        let counts = held::settle(&mut self.log, &mut self.store, &pending.batch)?;
+        let counts = self.held.settle(slice::from_ref(&pending.batch))?;
         self.kept += counted(pending.kept, counts);
         self.pending = None;
         Ok(())
@@ -455,12 +463,14 @@ impl<D: Disk> Serving<D> {
         ensures exec { GivesChange (exec_now self.now.progress
             (create_request request.now.asks_guid request.now.name) moment) result }
         ensures small { IfErr result (IsSmall) }
-        ensures absorbs { IfOk result (λ done. MayAbsorb self.now.progress.batches done.0) }
+        ensures well_formed { IfOk result (λ done. bad_place (prims_of self.now.progress.batches) done.0 ≡ None) }
+        ensures fits { IfOk result (λ done. first_full (limits (prims_of self.now.progress.batches)
+            (length self.now.progress.batches) done.0.prims) ≡ None) }
         ensures moment { IfOk result (λ done. done.0.moment ≤ max_moment) }
         ensures says { IfOk result (λ done. says_name_of (prims_of (self.now.progress.batches ++ done.0 ∷ []))
             ≡ says_name_of (prims_of self.now.progress.batches)) }
     {
-        evaluate(alloc, &self.store, request, moment)
+        evaluate(alloc, self.store(), request, moment)
     }
 
     /// The bytes that the history has with so many more.
@@ -478,7 +488,7 @@ impl<D: Disk> Serving<D> {
         ensures { IfOk result (λ reply. reply.items ≡ ok_line_of (length self.now.progress.batches + 1)
             self.now.progress.lines (view answer)) }
     {
-        ok_line(alloc, self.store.requests() + 1, self.lines, answer)
+        ok_line(alloc, self.store().requests() + 1, self.lines, answer)
     }
 
     /// The reply to a write at which the disk failed, and which may be stored.
@@ -497,8 +507,7 @@ impl<D: Disk> Serving<D> {
 
     /// Stores a write. `DiskFault`: the disk failed, and the write is in doubt. Any other error: nothing was stored.
     fn append(&mut self, alloc: Global, write: Pending) -> Result<(), JournalFault>
-        requires absorbs { MayAbsorb self.old.progress.batches write.batch }
-        requires moment { write.batch.moment ≤ max_moment }
+        requires may { MayAppend self.old.progress.batches (write.batch ∷ []) }
         requires room { self.old.progress.kept + write.kept ≤ HISTORY_LIMIT }
         requires says { says_name_of (prims_of (self.old.progress.batches ++ write.batch ∷ []))
             ≡ says_name_of (prims_of self.old.progress.batches) }
@@ -508,13 +517,13 @@ impl<D: Disk> Serving<D> {
         ensures backs { Backs D.content D.moment D.images D.images_since D.faults self.old self.new }
         ensures cause { IfErr result (HasReason (D.faults self.old.log.disk) (D.faults self.new.log.disk)) }
     {
-        match held::append(alloc, &mut self.log, &mut self.store, &write.batch) {
+        match self.held.append(alloc, slice::from_ref(&write.batch)) {
             Ok(()) => {
                 self.kept += write.kept;
                 Ok(())
             }
             Err(fault) => {
-                if self.log.in_doubt() {
+                if self.held.in_doubt() {
                     self.pending = Some(write);
                     return Err(fault);
                 }

@@ -4,9 +4,13 @@ use Rattle.gd_json.specs.View.{view}
 use Rattle.gd_runs.specs.Built.{create_request}
 use Rattle.gd_change.specs.Fault.{fault_of}
 use Rattle.gd_serving.specs.Step.{exec_now}
+use Rattle.gd_serving.proofs.Alone.{may_alone}
 use Rattle.gd_serving.proofs.Backed.{backs_nothing}
 use Rattle.gd_serving.proofs.Written.{asked_now, done_is, fault_is, refused_comes, full_comes, stored_comes, doubtful_comes}
 use Rattle.gd_serving.proofs.serving.Serving.change.Goals as goal
+
+pub append-requires-clause-may : goal.append-requires-clause-may
+append-requires-clause-may g c = may_alone c.args.self.now.progress.batches c.in-Ok.done.0 c.in-Ok.ensures.well_formed c.in-Ok.ensures.fits c.in-Ok.ensures.moment
 
 pub returns-in-Err : goal.returns-in-Err
 returns-in-Err g c before settled =
