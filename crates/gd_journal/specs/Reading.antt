@@ -1,10 +1,11 @@
 -- What is read of a file, one payload after the other.
-use Rattle.std.specs.Prelude.{◌≡◌, ◌≢◌, ℕ, ◌+◌, ◌^◌, ◌<◌, ◌≤◌, List, [], ◌++◌, length, drop, slice_index, Option, Some}
+use Rattle.std.specs.Prelude.{◌≡◌, ◌≢◌, ℕ, ◌+◌, ◌^◌, ◌<◌, ◌≤◌, List, [], ◌∷◌, ◌++◌, length, drop, slice_index, Option, Some, None}
 use Rattle.std.specs.Option.{ForSome}
 use Rattle.gd_bytes.specs.File.{Payloads}
 use Rattle.gd_journal.specs.Meaning.{held_by, located}
 use Rattle.gd_journal.specs.Shape.{IsRecord, IsTorn, IsWalked}
 use Rattle.gd_journal.specs.Windows.{Shows}
+use Rattle.gd_journal.specs.declared.payloads.Payload.{Payload}
 use Rattle.gd_journal.specs.declared.window.Window.{Window}
 use Rattle.gd_journal.specs.declared.reading.Next.{Next}
 use Rattle.gd_journal.specs.declared.reading.Next.TheVariants.{End, Torn, Record}
@@ -39,3 +40,8 @@ HasRead content next = ForSome content (λ file. (read : List (ℕ × List ℕ))
 -- A file holds these payloads, maybe others behind them, and maybe a damaged record.
 abbrev pub BeginsWith : List (ℕ × List ℕ) → List ℕ → Type 0
 BeginsWith read file = (rest : Payloads) × (held_by file ≡ Some (record { list = read ++ rest.list; damaged = rest.damaged }))
+
+-- Behind these payloads comes this one, of which the next gate has this offset; or there is none, and the first damaged record, if there is one, has this one.
+abbrev pub ReadsOn : List (ℕ × List ℕ) → List ℕ → Option ℕ → ℕ → Option Payload → Type 0
+ReadsOn read file damaged next None = held_by file ≡ Some (record { list = read; damaged = damaged })
+ReadsOn read file damaged next (Some p) = IsRead (read ++ (p.offset, p.bytes) ∷ []) next file × BeginsWith (read ++ (p.offset, p.bytes) ∷ []) file

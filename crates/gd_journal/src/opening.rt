@@ -1,12 +1,12 @@
 //! Opening a file that a stop may have left.
-ghost use Rattle.std.specs.Prelude.{◌≡◌, ◌≢◌, ◌+◌, ◌<◌, ◌≤◌, ◌↔◌, ◌∷◌, ◌++◌, [], List, ℕ, None, Some, true, length, take, OnOk, OnErr, IfOk, IfErr, IfSome, IsErrOf, MatchOption, MatchResult};
+ghost use Rattle.std.specs.Prelude.{◌≡◌, ◌≢◌, ◌+◌, ◌<◌, ◌≤◌, ◌↔◌, [], List, ℕ, None, true, length, take, OnOk, OnErr, IfOk, IfErr, IfSome, IsErrOf, MatchOption, MatchResult};
 ghost use Rattle.std.specs.Option.{ForSome, is_some};
 ghost use Rattle.gd_base.specs.Counts.{HasCause};
 ghost use Rattle.gd_bytes.specs.Disk.{LeavesOnly, IsUntouched, Only};
 ghost use Rattle.gd_bytes.specs.File.{header};
 ghost use Rattle.gd_journal.specs.Causes.{HasReason, MayRefuse};
 ghost use Rattle.gd_journal.specs.Meaning.{held_by, StandsFor, IsDamagedAt, MeansOneOf};
-ghost use Rattle.gd_journal.specs.Reading.{IsRead, BeginsWith};
+ghost use Rattle.gd_journal.specs.Reading.{IsRead, ReadsOn};
 ghost use Rattle.gd_journal.specs.Shape.{IsAtRest, IsWalked, EndsAt};
 ghost use Rattle.gd_journal.specs.State.{HasEnd, IsSettled, Keeps, Sees};
 
@@ -268,10 +268,7 @@ impl<D: Disk> Opening<D> {
     /// disk failed. `Memory`: an allocation was refused. After either the same payload is the next one.
     pub fn next_payload(&mut self) -> Result<Option<Payload>, JournalFault>
         ensures next { IfOk result (λ next. ForSome (D.content self.old.disk) (λ file. (read : List (ℕ × List ℕ))
-            → IsRead read self.old.next file → MatchOption next
-            (held_by file ≡ Some (record { list = read; damaged = self.new.damaged }))
-            (λ p. IsRead (read ++ (p.offset, p.bytes) ∷ []) self.new.next file
-            × BeginsWith (read ++ (p.offset, p.bytes) ∷ []) file))) }
+            → IsRead read self.old.next file → ReadsOn read file self.new.damaged self.new.next next)) }
         ensures onward { IfOk result (λ next. IfSome next (λ _. (self.old.next < self.new.next)
             × (self.new.next < self.new.len))) }
         ensures len { self.new.len ≡ self.old.len }
