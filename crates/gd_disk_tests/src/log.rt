@@ -96,7 +96,7 @@ fn settle<D: Disk>(log: &mut Log<D>) -> Result<bool, JournalFault> {
 
 /// Appends the group to a new file whose last sync fails, and ends the doubt.
 fn settled(alloc: Global) -> Result<bool, JournalFault> {
-    let disk = MemoryDisk::new(alloc, b"", &[9])?;
+    let disk = MemoryDisk::new(alloc, b"", &[8])?;
     let mut log = opened(alloc, disk)?;
     let _ = append(alloc, &mut log, &ANN);
     settle(&mut log)
