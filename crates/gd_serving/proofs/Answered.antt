@@ -16,8 +16,8 @@ use Rattle.gd_input.specs.declared.line.RoundLine.{RoundLine}
 use Rattle.gd_input.specs.declared.line.RoundLine.TheVariants.{Bytes, TooLong}
 use Rattle.gd_input.specs.Line.{IsKept}
 use Rattle.gd_base.specs.declared.memory.Memory.{Memory}
-use Rattle.gd_serving.specs.Served.{Progress}
-use Rattle.gd_serving.specs.Step.{ComesTo, faulty, answered, line_now, AsksWrite}
+use Rattle.gd_served_laws.specs.Served.{Progress}
+use Rattle.gd_served_laws.specs.Step.{ComesTo, faulty, answered, line_now, AsksWrite}
 use Rattle.gd_serving.proofs.Written.{above}
 
 pub kept_bytes : (line : RoundLine) (v : Vec ℕ Global) (items bytes : List ℕ) → line ≡ Bytes v → items ≡ v.items → IsKept 262_144 line bytes → items ≡ bytes

@@ -15,8 +15,8 @@ use Rattle.gd_json.specs.declared.value.Json.{Json as Value}
 use Rattle.gd_json.specs.View.{view}
 use Rattle.gd_change.specs.declared.fault.ChangeFault.{ChangeFault as Fault}
 use Rattle.gd_change.specs.Fault.{GivesChange, fault_of}
-use Rattle.gd_serving.specs.Served.{Progress}
-use Rattle.gd_serving.specs.Step.{ComesTo, refused, too_long, stored, in_doubt, not_tried, Settles, MaySettle, AsksWrite, line_now, exec_now, kept_with, with_batch, doubtful}
+use Rattle.gd_served_laws.specs.Served.{Progress}
+use Rattle.gd_served_laws.specs.Step.{ComesTo, refused, too_long, stored, in_doubt, not_tried, Settles, MaySettle, AsksWrite, line_now, exec_now, kept_with, with_batch, doubtful}
 use Rattle.gd_serving.proofs.Says.{says_at}
 
 -- a refusal of what the write asks; without one nothing is given

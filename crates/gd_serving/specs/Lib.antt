@@ -1,5 +1,3 @@
-pub mod Served
-pub mod Step
 pub mod Running
 pub mod Ready
 pub mod Kept

@@ -4,8 +4,8 @@ use Rattle.std.specs.Global.{Vec}
 use Rattle.gd_base.specs.Counts.{Rose}
 use Rattle.gd_base.specs.declared.memory.Memory.{Memory}
 use Rattle.gd_runs.specs.Explained.{tells_fault}
-use Rattle.gd_serving.specs.Served.{Progress}
-use Rattle.gd_serving.specs.Step.{ComesTo}
+use Rattle.gd_served_laws.specs.Served.{Progress}
+use Rattle.gd_served_laws.specs.Step.{ComesTo}
 use Rattle.gd_serving.specs.Running.{Running}
 use Rattle.gd_serving.specs.Kept.{Backs}
 

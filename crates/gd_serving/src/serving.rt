@@ -20,8 +20,8 @@ ghost use Rattle.gd_runs.specs.Built.{is_built, line_asked, says_name as says_na
 ghost use Rattle.gd_mql.specs.Line.{ask_view, GivesLine, fault_view, line_view};
 ghost use Rattle.gd_change.specs.Fault.{GivesChange, fault_of, IsSmall};
 ghost use Rattle.gd_input.specs.Line.{IsKept, IsShort};
-ghost use Rattle.gd_serving.specs.Served.{Progress, GoesOn, Grows, IsServed};
-ghost use Rattle.gd_serving.specs.Step.{Settles, MaySettle, AsksIn, exec_now, line_now};
+ghost use Rattle.gd_served_laws.specs.Served.{Progress, GoesOn, Grows, IsServed};
+ghost use Rattle.gd_served_laws.specs.Step.{Settles, MaySettle, AsksIn, exec_now, line_now};
 ghost use Rattle.gd_serving.specs.Running.{IsBacked, StandsForEither};
 ghost use Rattle.gd_serving.specs.Kept.{Backs, appended};
 ghost use Rattle.gd_serving.specs.Replies.{Replies};
@@ -83,7 +83,7 @@ pub struct Serving<D: Disk> {
 
 impl<D: Disk> Model for Serving<D> {
     ghost use Rattle.std.specs.Prelude.{option_map};
-    ghost use Rattle.gd_serving.specs.Served.{Progress, Doubt};
+    ghost use Rattle.gd_served_laws.specs.Served.{Progress, Doubt};
     ghost use Rattle.gd_serving.specs.Running.{Running};
     ghost use Rattle.gd_serving.specs.Ready.{IsReady};
 

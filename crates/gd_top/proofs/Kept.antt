@@ -6,7 +6,7 @@ use Rattle.gd_prim.specs.declared.Batch.{Batch}
 use Rattle.gd_bytes.specs.Disk.{HoldsSame}
 use Rattle.gd_bytes.specs.File.{Meaning, not_store, damaged, groups, meaning, StandsFor}
 use Rattle.gd_runs.proofs.Rounds.{some_same}
-use Rattle.gd_serving.specs.Served.{Progress, Doubt, Grows}
+use Rattle.gd_served_laws.specs.Served.{Progress, Doubt, Grows}
 use Rattle.gd_serving.specs.Running.{Running, StandsForRun, IsBacked}
 use Rattle.gd_journal.specs.State.{Journaled}
 use Rattle.gd_log.specs.State.{IsHeld}

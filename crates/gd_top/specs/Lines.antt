@@ -3,7 +3,7 @@ use Rattle.std.specs.Prelude.{◌≡◌, ℕ, ◌+◌, ◌≤◌, List, length, 
 use Rattle.gd_base.specs.Counts.{Rose}
 use Rattle.gd_input.specs.declared.line.RoundLine.{RoundLine}
 use Rattle.gd_input.specs.Rounds.{AreKept}
-use Rattle.gd_serving.specs.Served.{Grows}
+use Rattle.gd_served_laws.specs.Served.{Grows}
 use Rattle.gd_serving.specs.Running.{Running, IsBacked}
 use Rattle.gd_top.specs.declared.stop.Stop.{Stop}
 use Rattle.gd_top.specs.declared.stop.Stop.TheVariants as stop

@@ -4,7 +4,7 @@ ghost use Rattle.std.specs.List.{All};
 ghost use Rattle.std.specs.Io.KnownBytes.{IsAtEnd};
 ghost use Rattle.gd_base.specs.Counts.{Rose};
 ghost use Rattle.gd_input.specs.Line.{IsShort};
-ghost use Rattle.gd_serving.specs.Served.{Grows};
+ghost use Rattle.gd_served_laws.specs.Served.{Grows};
 ghost use Rattle.gd_serving.specs.Running.{IsBacked};
 ghost use Rattle.gd_top.specs.Held.{HoldsAs, IsAtStart, RoseBy};
 ghost use Rattle.gd_top.specs.Lines.{AnswersLines};

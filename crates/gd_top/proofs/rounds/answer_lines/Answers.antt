@@ -1,6 +1,6 @@
 use Rattle.std.proofs.Common.{[], ◌∷◌, refl, ◌∙◌, rules, arith}
 use Rattle.std.proofs.lemmas.Grind.{common_steps}
-use Rattle.gd_serving.proofs.Growing.{grows_none, grows_then}
+use Rattle.gd_served_laws.proofs.Growing.{grows_none, grows_then}
 use Rattle.gd_top.proofs.Printed.{at_err}
 use Rattle.gd_top.proofs.Served.{no_lines, one_more, stopped_at, all_lines, item_is}
 use Rattle.gd_top.proofs.rounds.answer_lines.Goals as goal

@@ -1,7 +1,7 @@
 use Rattle.std.proofs.Common.{ap}
 use Rattle.gd_serving.specs.Running.{Running}
-use Rattle.gd_serving.proofs.Going.{goes_answered}
-use Rattle.gd_serving.proofs.Growing.{grows_none, grows_answered}
+use Rattle.gd_served_laws.proofs.Going.{goes_answered}
+use Rattle.gd_served_laws.proofs.Growing.{grows_none, grows_answered}
 use Rattle.gd_serving.proofs.serving.Serving.answer.Goals as goal
 
 pub returns-clause-served : goal.returns-clause-served

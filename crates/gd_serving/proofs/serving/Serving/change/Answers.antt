@@ -3,7 +3,7 @@ use Rattle.std.proofs.lemmas.Grind.{common_steps}
 use Rattle.gd_json.specs.View.{view}
 use Rattle.gd_runs.specs.Built.{create_request}
 use Rattle.gd_change.specs.Fault.{fault_of}
-use Rattle.gd_serving.specs.Step.{exec_now}
+use Rattle.gd_served_laws.specs.Step.{exec_now}
 use Rattle.gd_serving.proofs.Alone.{may_alone}
 use Rattle.gd_serving.proofs.Backed.{backs_nothing}
 use Rattle.gd_serving.proofs.Written.{asked_now, done_is, fault_is, refused_comes, full_comes, stored_comes, doubtful_comes}

@@ -3,7 +3,7 @@ use Rattle.std.proofs.lemmas.Grind.{common_steps}
 use Rattle.std.proofs.lemmas.Result.{on_err_weaker}
 use Rattle.gd_runs.specs.Built.{create_request}
 use Rattle.gd_serving.proofs.Backed.{backs_then, settled_stands}
-use Rattle.gd_serving.proofs.Steps.{settles_lines}
+use Rattle.gd_served_laws.proofs.Steps.{settles_lines}
 use Rattle.gd_serving.proofs.Written.{may_settle, not_tried_comes}
 use Rattle.gd_serving.proofs.serving.Serving.write.Goals as goal
 

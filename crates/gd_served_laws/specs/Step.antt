@@ -12,7 +12,7 @@ use Rattle.gd_runs.specs.Input.{InputFault, line_at, input_fault_line}
 use Rattle.gd_runs.specs.Legal.{kept_bytes, max_history}
 use Rattle.gd_runs.specs.Explained.{MayBe, disk_line, memory_line}
 use Rattle.gd_runs.specs.Built.{is_built, says_name}
-use Rattle.gd_serving.specs.Served.{Progress, Doubt}
+use Rattle.gd_served_laws.specs.Served.{Progress, Doubt}
 
 -- what a line of these bytes is over the store as it is
 abbrev pub line_now : Progress → List ℕ → Result Line InputFault

@@ -6,9 +6,9 @@ use Rattle.gd_prim.specs.declared.Batch.{Batch}
 use Rattle.gd_input.specs.declared.line.RoundLine.{RoundLine}
 use Rattle.gd_input.specs.declared.line.RoundLine.TheVariants.{Bytes, TooLong}
 use Rattle.gd_input.specs.Line.{IsKept, IsShort}
-use Rattle.gd_serving.specs.Served.{Progress, Grows}
-use Rattle.gd_serving.specs.Step.{ComesTo, faulty, answered, refused, too_long, stored, in_doubt, not_tried, without_memory, Settles, no_doubt, counts, counts_not, MaySettle}
-use Rattle.gd_serving.proofs.Steps.{next}
+use Rattle.gd_served_laws.specs.Served.{Progress, Grows}
+use Rattle.gd_served_laws.specs.Step.{ComesTo, faulty, answered, refused, too_long, stored, in_doubt, not_tried, without_memory, Settles, no_doubt, counts, counts_not, MaySettle}
+use Rattle.gd_served_laws.proofs.Steps.{next}
 
 pub grows_none : (bs : List Batch) → Grows bs bs
 grows_none bs = ([], sym (append-nil bs))

@@ -10,9 +10,9 @@ use Rattle.gd_runs.specs.Built.{is_built}
 use Rattle.gd_runs.proofs.Rounds.{no_some, get_cases, no_round}
 use Rattle.gd_base.specs.declared.memory.Memory.{Memory}
 use Rattle.gd_input.specs.Rounds.{in_round}
-use Rattle.gd_serving.specs.Served.{Progress, IsServed, AreUpto, GoesOn}
-use Rattle.gd_serving.specs.Step.{ComesTo, MaySettle, without_memory}
-use Rattle.gd_serving.proofs.Steps.{next, comes_served}
+use Rattle.gd_served_laws.specs.Served.{Progress, IsServed, AreUpto, GoesOn}
+use Rattle.gd_served_laws.specs.Step.{ComesTo, MaySettle, without_memory}
+use Rattle.gd_served_laws.proofs.Steps.{next, comes_served}
 
 -- the reply to a line
 pub goes_by_reply : (may : ℕ → Bool) (p q : Progress) (bytes reply : List ℕ) → ComesTo may p bytes reply q → GoesOn may p (next q) (bytes ∷ []) (reply ++ 10 ∷ [])

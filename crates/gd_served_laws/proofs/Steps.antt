@@ -17,8 +17,8 @@ use Rattle.gd_runs.specs.Explained as outcome
 use Rattle.gd_runs.specs.Built.{is_built}
 use Rattle.gd_runs.proofs.Rounds.{no_some, some_same, get_left, get_right, get_within, length_batches, write_kept, one_round_more}
 use Rattle.gd_runs.proofs.LineMore.{UptoRound, line_more, line_from-at, fault_more, memory_more, read_more, refused_more, stored_more, whole, entry_of, run_of}
-use Rattle.gd_serving.specs.Served.{Doubt, Progress, IsDoubtOf, IsDoubted, IsServed, AreUpto}
-use Rattle.gd_serving.specs.Step.{ComesTo, faulty, answered, refused, too_long, stored, in_doubt, not_tried, without_memory, Settles, no_doubt, counts, counts_not}
+use Rattle.gd_served_laws.specs.Served.{Doubt, Progress, IsDoubtOf, IsDoubted, IsServed, AreUpto}
+use Rattle.gd_served_laws.specs.Step.{ComesTo, faulty, answered, refused, too_long, stored, in_doubt, not_tried, without_memory, Settles, no_doubt, counts, counts_not}
 
 got_map : {A B : Type 0} (f : A → B) (xs : List A) (k : ℕ) (x : A) → slice_get xs k ≡ Some x → slice_get (map f xs) k ≡ Some (f x)
 got_map f [] k x is = no_some is
