@@ -1,5 +1,5 @@
 -- How a served run goes on with the lines of a round.
-use Rattle.std.proofs.Common.{◌≡◌, ℕ, zero, suc, ◌+◌, ◌≤◌, Bool, true, List, [], ◌∷◌, ◌++◌, None, Some, slice_get, refl, sym, subst, ap, ◌∙◌, inl, ⊎_elim, arith, append-nil, append_assoc, Result, Ok, Err, IfOk, OnErr, Vec, Global}
+use Rattle.std.proofs.Common.{◌≡◌, ℕ, zero, suc, ◌+◌, ◌≤◌, Bool, true, List, [], ◌∷◌, ◌++◌, None, Some, slice_get, refl, sym, subst, ap, ◌∙◌, inl, ⊎_elim, arith, append-nil, append_assoc, Result, Ok, Err, IfOk, OnErr}
 use Rattle.std.specs.Result.{result_unwrap_or}
 use Rattle.std.proofs.lemmas.List.{map-append}
 use Rattle.gd_prim.specs.declared.Batch.{Batch}
@@ -8,7 +8,6 @@ use Rattle.gd_prim.specs.WellFormed.{all_follow}
 use Rattle.gd_runs.specs.Explained.{Numbered, memory_line}
 use Rattle.gd_runs.specs.Built.{is_built}
 use Rattle.gd_runs.proofs.Rounds.{no_some, get_cases, no_round}
-use Rattle.gd_base.specs.declared.memory.Memory.{Memory}
 use Rattle.gd_input.specs.Rounds.{in_round}
 use Rattle.gd_served_laws.specs.Served.{Progress, IsServed, AreUpto, GoesOn}
 use Rattle.gd_served_laws.specs.Step.{ComesTo, MaySettle, without_memory}
@@ -62,15 +61,15 @@ goes_unanswered may p (l ∷ ls) = goes_further may p (next p) (after (next p) l
     (goes_without_memory may p l) (goes_unanswered may (next p) ls)
 
 -- a line for which a reply was found or was not, so that what was made before is printed
-pub goes_answered : (may : ℕ → Bool) (p s q : Progress) (bytes : List ℕ) (r : Result (Vec ℕ Global) Memory) (fallback reply : Vec ℕ Global) → reply ≡ result_unwrap_or r fallback
-    → fallback.items ≡ memory_line p.lines → IfOk r (λ found. ComesTo may p bytes found.items s) → OnErr r (MaySettle p s) → q ≡ next s
-    → GoesOn may p q (bytes ∷ []) (reply.items ++ 10 ∷ [])
-goes_answered may p s q bytes (Ok found) fallback reply is made comes left moved =
-    subst (λ (v : Vec ℕ Global). GoesOn may p q (bytes ∷ []) (v.items ++ 10 ∷ [])) (sym is)
-    (subst (λ (x : Progress). GoesOn may p x (bytes ∷ []) (found.items ++ 10 ∷ [])) (sym moved) (goes_by_reply may p s bytes found.items comes))
-goes_answered may p s q bytes (Err e) fallback reply is made comes left moved =
-    subst (λ (v : Vec ℕ Global). GoesOn may p q (bytes ∷ []) (v.items ++ 10 ∷ [])) (sym is)
-    (subst (λ (x : Progress). GoesOn may p x (bytes ∷ []) (fallback.items ++ 10 ∷ [])) (sym moved) (goes_by_reply may p s bytes fallback.items (without_memory s left made refl)))
+pub goes_answered : {V E : Type 0} (text : V → List ℕ) (may : ℕ → Bool) (p s q : Progress) (bytes : List ℕ) (r : Result V E) (fallback reply : V) → reply ≡ result_unwrap_or r fallback
+    → text fallback ≡ memory_line p.lines → IfOk r (λ found. ComesTo may p bytes (text found) s) → OnErr r (MaySettle p s) → q ≡ next s
+    → GoesOn may p q (bytes ∷ []) (text reply ++ 10 ∷ [])
+goes_answered text may p s q bytes (Ok found) fallback reply is made comes left moved =
+    subst (λ v. GoesOn may p q (bytes ∷ []) (text v ++ 10 ∷ [])) (sym is)
+    (subst (λ (x : Progress). GoesOn may p x (bytes ∷ []) (text found ++ 10 ∷ [])) (sym moved) (goes_by_reply may p s bytes (text found) comes))
+goes_answered text may p s q bytes (Err e) fallback reply is made comes left moved =
+    subst (λ v. GoesOn may p q (bytes ∷ []) (text v ++ 10 ∷ [])) (sym is)
+    (subst (λ (x : Progress). GoesOn may p x (bytes ∷ []) (text fallback ++ 10 ∷ [])) (sym moved) (goes_by_reply may p s bytes (text fallback) (without_memory s left made refl)))
 
 -- ---- the run before its first line
 

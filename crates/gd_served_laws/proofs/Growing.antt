@@ -1,7 +1,6 @@
 -- The batches of a run stay, and further ones may come behind them.
-use Rattle.std.proofs.Common.{◌≡◌, ℕ, suc, ◌<◌, Bool, List, [], ◌∷◌, ◌++◌, length, replicate, refl, sym, subst, ap, ◌∙◌, inl, inr, append-nil, append_assoc, Result, Ok, Err, IfOk, OnErr, Vec, Global, arith}
+use Rattle.std.proofs.Common.{◌≡◌, ℕ, suc, ◌<◌, Bool, List, [], ◌∷◌, ◌++◌, length, replicate, refl, sym, subst, ap, ◌∙◌, inl, inr, append-nil, append_assoc, Result, Ok, Err, IfOk, OnErr, arith}
 use Rattle.std.proofs.lemmas.List.{length-replicate}
-use Rattle.gd_base.specs.declared.memory.Memory.{Memory}
 use Rattle.gd_prim.specs.declared.Batch.{Batch}
 use Rattle.gd_input.specs.declared.line.RoundLine.{RoundLine}
 use Rattle.gd_input.specs.declared.line.RoundLine.TheVariants.{Bytes, TooLong}
@@ -57,9 +56,9 @@ some_kept (Bytes v) short = (v.items, (refl, short))
 some_kept TooLong short = longer 262_144
 
 -- a line that was answered, or was not
-pub grows_answered : (may : ℕ → Bool) (p s q : Progress) (line : RoundLine) (r : Result (Vec ℕ Global) Memory) → IsShort line
-    → ((bytes : List ℕ) → IsKept 262_144 line bytes → IfOk r (λ found. ComesTo may p bytes found.items s)) → OnErr r (MaySettle p s) → q ≡ next s → Grows p.batches q.batches
-grows_answered may p s q line (Ok found) short comes left moved =
+pub grows_answered : {V E : Type 0} (text : V → List ℕ) (may : ℕ → Bool) (p s q : Progress) (line : RoundLine) (r : Result V E) → IsShort line
+    → ((bytes : List ℕ) → IsKept 262_144 line bytes → IfOk r (λ found. ComesTo may p bytes (text found) s)) → OnErr r (MaySettle p s) → q ≡ next s → Grows p.batches q.batches
+grows_answered text may p s q line (Ok found) short comes left moved =
     let (bytes, kept) = some_kept line short in
-    subst (λ (x : Progress). Grows p.batches x.batches) (sym moved) (by_line may p s bytes found.items (comes bytes kept))
-grows_answered may p s q line (Err e) short comes left moved = subst (λ (x : Progress). Grows p.batches x.batches) (sym moved) (by_maybe p s left)
+    subst (λ (x : Progress). Grows p.batches x.batches) (sym moved) (by_line may p s bytes (text found) (comes bytes kept))
+grows_answered text may p s q line (Err e) short comes left moved = subst (λ (x : Progress). Grows p.batches x.batches) (sym moved) (by_maybe p s left)

@@ -2,3 +2,4 @@ pub mod Running
 pub mod Ready
 pub mod Kept
 pub mod Replies
+pub mod Judged

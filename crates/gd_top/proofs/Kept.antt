@@ -12,7 +12,7 @@ use Rattle.gd_journal.specs.State.{Journaled}
 use Rattle.gd_log.specs.State.{IsHeld}
 use Rattle.gd_log.specs.Opening.{IsReadSame, IsKept}
 use Rattle.gd_top.proofs.Settled.{backed, backed_first, told}
-use Rattle.gd_top.specs.Kept.{IsLeft, KeepsFile, Keeps}
+use Rattle.gd_top.specs.Kept.{IsLeft, Keeps}
 
 some_told : (now : Option (List ℕ)) (file : List ℕ) → now ≡ Some file → IsSome now
 some_told now file is = subst (λ (o : Option (List ℕ)). IsSome o) (sym is) refl
