@@ -26,6 +26,13 @@ left first (synced ∷ made) c = c ≡ held first made
 abbrev pub left_since : List ℕ → List Made → ℕ → List ℕ → Type 0
 left_since first made t c = (later : ℕ) × (t + later ≤ length made) × left first (drop later made) c
 
+-- What contracts see of a file in memory that tells its calls: what it held at first, the writes, cuts and syncs, the newest first, and the room for more.
+pub record Told : Type 0 where
+  pub first : List ℕ
+  pub made : List Made
+  pub calls_left : ℕ
+  pub bytes_left : ℕ
+
 -- What contracts see of a disk in memory.
 pub record Recorded : Type 0 where
   -- what it held at first

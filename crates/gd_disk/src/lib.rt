@@ -4,6 +4,7 @@
 pub mod disk;
 pub mod file_disk;
 pub mod file_shelf;
+mod kept_file;
 pub mod memory_disk;
 pub mod memory_shelf;
 pub mod shelf;

@@ -8,50 +8,35 @@ ghost use Rattle.gd_disk.specs.Laws.{reads_one_law, counts_now_law, only_now_law
 
 use crate::Failed;
 use crate::disk::Disk;
+use crate::kept_file::KeptFile;
 use gd_base::memory::Memory;
 use std::alloc::Global;
 use std::marker::Model;
 
-/// A write of `len` bytes at an offset, a cut to a length, a sync.
-#[derive(Clone, Copy)]
-enum Call {
-    Write { at: u64, len: u64 },
-    Cut { len: u64 },
-    Sync,
-}
-
-/// A file in memory. It keeps a list of its writes, cuts and syncs, so that contracts can say what a stop may leave,
-/// and counts its calls from 0, `reserve` aside: those whose numbers it was given fail.
+/// A file in memory. It can tell its writes, cuts and syncs, so that contracts can say what a stop may leave, and counts
+/// its calls from 0, `reserve` aside: those whose numbers it was given fail.
 #[derive(Drop)]
 pub struct MemoryDisk {
-    first: Vec<u8>,
-    bytes: Vec<u8>,
-    calls: Vec<Call>,
-    kept: Vec<u8>,
+    file: KeptFile,
     failing: Vec<u64>,
     number: u64,
     faults: u64,
 }
 
 impl Model for MemoryDisk {
-    ghost use Rattle.std.specs.Prelude.{◌≡◌, ◌-◌, [], length, min, vec_len, vec_capacity};
-    ghost use Rattle.gd_disk.specs.Recorded.{Recorded, held};
-    ghost use Rattle.gd_disk.specs.Calls.{made_of, written_by};
+    ghost use Rattle.gd_disk.specs.Recorded.{Recorded};
 
     ghost Value = { Recorded };
 
     ghost view = { λ d. record {
-      first = d.first.items;
-      made = made_of d.kept.items d.calls.items [];
+      first = d.file.first;
+      made = d.file.made;
       failing = d.failing.items;
       calls = d.number;
       faults = d.faults;
-      calls_left = vec_capacity d.calls - vec_len d.calls;
-      bytes_left = min (vec_capacity d.kept - vec_len d.kept) (vec_capacity d.bytes - vec_len d.bytes);
+      calls_left = d.file.calls_left;
+      bytes_left = d.file.bytes_left;
     } };
-
-    ghost invariant = { λ d. (d.bytes.items ≡ held d.first.items (made_of d.kept.items d.calls.items []))
-        × (written_by d.calls.items ≡ length d.kept.items) };
 }
 
 impl MemoryDisk {
@@ -64,10 +49,7 @@ impl MemoryDisk {
         ensures faults { IfOk result (λ disk. disk.faults ≡ 0) }
     {
         Ok(MemoryDisk {
-            first: content.to_vec(alloc)?,
-            bytes: content.to_vec(alloc)?,
-            calls: Vec::new(alloc),
-            kept: Vec::new(alloc),
+            file: KeptFile::new(alloc, content)?,
             failing: failing.to_vec(alloc)?,
             number: 0,
             faults: 0,
@@ -92,7 +74,7 @@ impl MemoryDisk {
     pub fn bytes(&self) -> &[u8]
         ensures { result.now ≡ held self.now.first self.now.made }
     {
-        self.bytes.as_slice()
+        self.file.bytes()
     }
 }
 
@@ -101,6 +83,7 @@ pub(crate) fn meet(failing: &[u64], number: &mut u64, faults: &mut u64) -> Resul
     ensures number { number.new ≡ min (number.old + 1) (2 ^ 64 - 1) }
     ensures fails { IsErr result ↔ Contains failing.now number.old }
     ensures faults { faults.new ≡ (if is_ok result then faults.old else min (faults.old + 1) (2 ^ 64 - 1)) }
+    ensures cause { HasCause faults.old faults.new result }
 {
     let fails = failing.contains(number);
     *number = number.saturating_add(1);
@@ -109,38 +92,6 @@ pub(crate) fn meet(failing: &[u64], number: &mut u64, faults: &mut u64) -> Resul
         return Err(Failed);
     }
     Ok(())
-}
-
-/// Adds a call, for which there is room.
-fn note(calls: &mut Vec<Call>, call: Call)
-    requires { vec_len calls.old < vec_capacity calls.old }
-    ensures items { calls.new.items ≡ calls.old.items ++ call ∷ [] }
-    ensures len { vec_len calls.new ≡ vec_len calls.old + 1 }
-    ensures capacity { vec_capacity calls.old ≤ vec_capacity calls.new }
-{
-    calls.push(call).unwrap();
-}
-
-/// Adds bytes, for which there is room.
-fn keep(kept: &mut Vec<u8>, bytes: &[u8])
-    requires { vec_len kept.old + length bytes.now ≤ vec_capacity kept.old }
-    ensures items { kept.new.items ≡ kept.old.items ++ bytes.now }
-    ensures len { vec_len kept.new ≡ vec_len kept.old + length bytes.now }
-    ensures capacity { vec_capacity kept.old ≤ vec_capacity kept.new }
-{
-    kept.extend_from_slice(bytes).unwrap();
-}
-
-/// Writes over what is there and past the end, for which there is room.
-fn overwrite(file: &mut Vec<u8>, at: usize, bytes: &[u8])
-    requires within { at ≤ vec_len file.old }
-    requires room { vec_len file.old + length bytes.now ≤ vec_capacity file.old }
-    ensures items { file.new.items ≡ written at bytes.now file.old.items }
-    ensures capacity { vec_capacity file.old ≤ vec_capacity file.new }
-{
-    let over = bytes.len().min(file.len() - at);
-    file[at..at + over].copy_from_slice(&bytes[..over]);
-    file.extend_from_slice(&bytes[over..]).unwrap();
 }
 
 impl Disk for MemoryDisk {
@@ -179,9 +130,10 @@ impl Disk for MemoryDisk {
         ensures made { self.new.made ≡ self.old.made }
     {
         meet(&self.failing, &mut self.number, &mut self.faults)?;
-        let at = (at as usize).min(self.bytes.len());
-        let count = buf.len().min(self.bytes.len() - at);
-        buf[..count].copy_from_slice(&self.bytes[at..at + count]);
+        let file = self.file.bytes();
+        let at = (at as usize).min(file.len());
+        let count = buf.len().min(file.len() - at);
+        buf[..count].copy_from_slice(&file[at..at + count]);
         Ok(count)
     }
 
@@ -198,7 +150,7 @@ impl Disk for MemoryDisk {
         ensures made { self.new.made ≡ self.old.made }
     {
         meet(&self.failing, &mut self.number, &mut self.faults)?;
-        Ok(self.bytes.len() as u64)
+        Ok(self.file.bytes().len() as u64)
     }
 
     fn write_at(&mut self, at: u64, bytes: &[u8]) -> Result<(), Failed>
@@ -219,14 +171,9 @@ impl Disk for MemoryDisk {
         ensures numbered { IsNumbered self.old self.new result }
         ensures made { OnOk result (self.new.made ≡ wrote at bytes.now ∷ self.old.made) }
     {
-        let call = Call::Write {
-            at,
-            len: bytes.len() as u64,
-        };
+        let at = at as usize;
         meet(&self.failing, &mut self.number, &mut self.faults)?;
-        note(&mut self.calls, call);
-        keep(&mut self.kept, bytes);
-        overwrite(&mut self.bytes, at as usize, bytes);
+        self.file.write(at, bytes);
         Ok(())
     }
 
@@ -247,8 +194,7 @@ impl Disk for MemoryDisk {
         ensures made { OnOk result (self.new.made ≡ cut_to len ∷ self.old.made) }
     {
         meet(&self.failing, &mut self.number, &mut self.faults)?;
-        note(&mut self.calls, Call::Cut { len });
-        self.bytes.truncate(len as usize);
+        self.file.cut(len as usize);
         Ok(())
     }
 
@@ -266,7 +212,7 @@ impl Disk for MemoryDisk {
         ensures made { OnOk result (self.new.made ≡ synced ∷ self.old.made) }
     {
         meet(&self.failing, &mut self.number, &mut self.faults)?;
-        note(&mut self.calls, Call::Sync);
+        self.file.sync();
         Ok(())
     }
 
@@ -281,9 +227,7 @@ impl Disk for MemoryDisk {
         ensures faults { self.new.faults ≡ self.old.faults }
         ensures same { (self.new.first ≡ self.old.first) × (self.new.made ≡ self.old.made) × (self.new.failing ≡ self.old.failing) × (self.new.calls ≡ self.old.calls) }
     {
-        self.calls.reserve(calls as usize)?;
-        self.kept.reserve(bytes as usize)?;
-        self.bytes.reserve(bytes as usize)?;
+        self.file.reserve(calls, bytes)?;
         Ok(())
     }
 }

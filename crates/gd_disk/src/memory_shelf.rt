@@ -115,6 +115,20 @@ fn add_out(slots: &mut Vec<Slot>, path: &Text) -> Result<(), Memory>
     Ok(())
 }
 
+/// Makes an empty disk for a path without a slot, and a slot for the path, which is out.
+fn add_empty(alloc: Global, slots: &mut Vec<Slot>, path: &Text) -> Result<MemoryDisk, Memory>
+    requires { slot_at slots.old.items path.now ≡ None }
+    ensures empty { IfOk result (λ disk. (disk.first ≡ []) × (disk.made ≡ []) × (disk.faults ≡ 0)) }
+    ensures out { OnOk result (slot_at slots.new.items path.now ≡ Some None) }
+    ensures refused { OnErr result (slots.new.items ≡ slots.old.items) }
+    ensures others { (other : List ℕ) → other ≢ path.now
+        → slot_at slots.new.items other ≡ slot_at slots.old.items other }
+{
+    let disk = MemoryDisk::new(alloc, &[], &[])?;
+    add_out(slots, path)?;
+    Ok(disk)
+}
+
 impl Shelf for MemoryShelf {
     type Device = MemoryDisk;
 
@@ -153,8 +167,7 @@ impl Shelf for MemoryShelf {
             Some(Some(disk)) => Ok(disk.with_no_faults()),
             Some(None) => unreachable!(),
             None => {
-                let disk = MemoryDisk::new(self.alloc, &[], &[])?;
-                add_out(&mut self.slots, path)?;
+                let disk = add_empty(self.alloc, &mut self.slots, path)?;
                 Ok(disk)
             }
         }

@@ -1,8 +1,9 @@
 -- A block of a file.
-use Rattle.std.specs.Prelude.{◌≡◌, ℕ, List, Option}
+use Rattle.std.specs.Prelude.{◌≡◌, ℕ, List, length, Option}
 use Rattle.std.specs.Option.{ForSome}
 use Rattle.gd_bytes.specs.Disk.{part}
+use Rattle.gd_journal.specs.declared.window.Window.{Window}
 
--- These are the bytes of the file from this offset on, as many as were asked for once.
-abbrev pub Shows : Option (List ℕ) → ℕ → List ℕ → Type 0
-Shows content at bytes = ForSome content (λ file. (size : ℕ) × (bytes ≡ part at size file))
+-- The window knows how long the file is, and has its bytes from an offset on, as many as were asked for once.
+abbrev pub Shows : Option (List ℕ) → Window → Type 0
+Shows content window = ForSome content (λ file. (size : ℕ) × (window.bytes ≡ part window.at size file) × (window.len ≡ length file))

@@ -50,20 +50,19 @@ fn head_of(bytes: &[u8], room: u64) -> Head
     Head::Record(size)
 }
 
-/// What stands at a gate of a file that has so many bytes.
+/// What stands at a gate.
 pub(crate) fn head_at<D: Disk>(
     alloc: Global,
     disk: &mut D,
     window: &mut Window,
     at: u64,
-    len: u64,
 ) -> Result<Head, JournalFault>
-    requires at { at < len }
-    requires len { ForSome (D.content disk.old) (λ file. len ≡ length file) }
-    requires shows { Shows (D.content disk.old) window.old.at window.old.bytes }
-    ensures shows { Shows (D.content disk.new) window.new.at window.new.bytes }
+    requires at { at < window.old.len }
+    requires shows { Shows (D.content disk.old) window.old }
+    ensures shows { Shows (D.content disk.new) window.new }
+    ensures len { window.new.len ≡ window.old.len }
     ensures head { IfOk result (λ head. ForSome (D.content disk.old) (λ file. HeadIs (drop at file) head)) }
-    ensures fits { IfOk result (λ head. Fits (len - at) head) }
+    ensures fits { IfOk result (λ head. Fits (window.old.len - at) head) }
     ensures untouched { IsUntouched D.content D.moment D.images D.images_since disk.old disk.new }
     ensures later { D.faults disk.old ≤ D.faults disk.new }
     ensures cause { IfErr result (HasReason (D.faults disk.old) (D.faults disk.new)) }
@@ -73,5 +72,5 @@ pub(crate) fn head_at<D: Disk>(
     if bytes.is_empty() {
         return Ok(Head::End);
     }
-    Ok(head_of(bytes, len - at))
+    Ok(head_of(bytes, window.left(at)))
 }

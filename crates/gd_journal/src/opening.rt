@@ -79,10 +79,10 @@ fn scan<D: Disk>(alloc: Global, disk: &mut D, len: u64) -> Result<Ending, Journa
     ensures later { D.faults disk.old ≤ D.faults disk.new }
     ensures cause { IfErr result (HasReason (D.faults disk.old) (D.faults disk.new)) }
 {
-    let mut window = Window::none(alloc);
+    let mut window = Window::none(alloc, len);
     let mut at = 8;
     loop {
-        match head_at(alloc, disk, &mut window, at, len)? {
+        match head_at(alloc, disk, &mut window, at)? {
             Head::End => {
                 return Ok(Ending {
                     gate: at,

@@ -26,10 +26,10 @@ fn read_records<D: Disk>(alloc: Global, disk: &mut D, len: u64) -> Result<Payloa
     ensures cause { IfErr result (HasReason (D.faults disk.old) (D.faults disk.new)) }
 {
     let mut list = Vec::new(alloc);
-    let mut window = Window::none(alloc);
+    let mut window = Window::none(alloc, len);
     let mut at = 8;
     loop {
-        match head_at(alloc, disk, &mut window, at, len)? {
+        match head_at(alloc, disk, &mut window, at)? {
             Head::End => return Ok(found(list, None)),
             Head::Torn => return Ok(found(list, Some(at))),
             Head::Record(size) => {

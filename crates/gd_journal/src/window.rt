@@ -13,22 +13,32 @@ use std::alloc::Global;
 /// How many bytes are read at once, where no more are asked for.
 const BLOCK: u32 = 65_536;
 
-/// The block of a file that was read last, and its offset.
+/// The block of a file of so many bytes that was read last, and its offset.
 #[derive(Drop)]
 pub(crate) struct Window {
+    len: u64,
     at: u64,
     bytes: PayloadBytes,
 }
 
 impl Window {
-    /// No block yet. It takes no memory.
-    pub(crate) fn none(alloc: Global) -> Window
-        ensures { (content : Option (List ℕ)) → Shows content result.at result.bytes }
+    /// No block yet of a file of so many bytes. It takes no memory.
+    pub(crate) fn none(alloc: Global, len: u64) -> Window
+        ensures len { result.len ≡ len }
+        ensures shows { (content : Option (List ℕ)) → ForSome content (λ file. len ≡ length file) → Shows content result }
     {
         Window {
+            len,
             at: 0,
             bytes: PayloadBytes::from(Vec::new(alloc)),
         }
+    }
+
+    /// How many bytes the file has from an offset on.
+    pub(crate) fn left(&self, at: u64) -> u64
+        ensures { result ≡ self.now.len - at }
+    {
+        self.len.saturating_sub(at)
     }
 }
 
@@ -37,7 +47,7 @@ fn read_block<D: Disk>(
     alloc: Global,
     disk: &mut D,
     at: u64,
-    size: u32,
+    size: u64,
 ) -> Result<PayloadBytes, JournalFault>
     ensures bytes { IfOk result (λ p. ForSome (D.content disk.old) (λ file. p ≡ part at size file)) }
     ensures untouched { IsUntouched D.content D.moment D.images D.images_since disk.old disk.new }
@@ -58,7 +68,7 @@ fn covers(window: &Window, at: u64, len: u32) -> bool
     window.at <= at && at - window.at <= held && u64::from(len) <= held - (at - window.at)
 }
 
-/// Moves the window, unless it has so many bytes from an offset on.
+/// Moves the window, unless it has so many bytes from an offset on. No block is longer than what is left of the file.
 pub(crate) fn reach<D: Disk>(
     alloc: Global,
     disk: &mut D,
@@ -66,8 +76,9 @@ pub(crate) fn reach<D: Disk>(
     at: u64,
     len: u32,
 ) -> Result<(), JournalFault>
-    requires shows { Shows (D.content disk.old) window.old.at window.old.bytes }
-    ensures shows { Shows (D.content disk.new) window.new.at window.new.bytes }
+    requires shows { Shows (D.content disk.old) window.old }
+    ensures shows { Shows (D.content disk.new) window.new }
+    ensures len { window.new.len ≡ window.old.len }
     ensures before { OnOk result (window.new.at ≤ at) }
     ensures there { OnOk result (ForSome (D.content disk.old) (λ file.
         take len (drop (at - window.new.at) window.new.bytes) ≡ part at len file)) }
@@ -78,8 +89,10 @@ pub(crate) fn reach<D: Disk>(
     if covers(window, at, len) {
         return Ok(());
     }
-    let bytes = read_block(alloc, disk, at, len.max(BLOCK))?;
-    *window = Window { at, bytes };
+    let size = window.left(at).min(u64::from(len.max(BLOCK)));
+    let bytes = read_block(alloc, disk, at, size)?;
+    window.at = at;
+    window.bytes = bytes;
     Ok(())
 }
 
@@ -102,8 +115,9 @@ pub(crate) fn read_part<D: Disk>(
     at: u64,
     len: u32,
 ) -> Result<PayloadBytes, JournalFault>
-    requires shows { Shows (D.content disk.old) window.old.at window.old.bytes }
-    ensures shows { Shows (D.content disk.new) window.new.at window.new.bytes }
+    requires shows { Shows (D.content disk.old) window.old }
+    ensures shows { Shows (D.content disk.new) window.new }
+    ensures len { window.new.len ≡ window.old.len }
     ensures bytes { IfOk result (λ p. ForSome (D.content disk.old) (λ file. p ≡ part at len file)) }
     ensures untouched { IsUntouched D.content D.moment D.images D.images_since disk.old disk.new }
     ensures later { D.faults disk.old ≤ D.faults disk.new }

@@ -8,7 +8,8 @@ abbrev pub invariant-loop-window : goal.invariant-loop-window
 invariant-loop-window g l = record {
   within : l.at < l.len;
   walked : (file : List ℕ) → g.D.Disk.content l.fn.disk ≡ Some file → (ps : List (List ℕ)) × IsWalked ps l.at file;
-  shows : Shows (g.D.Disk.content l.disk) l.window.at l.window.bytes;
+  shows : Shows (g.D.Disk.content l.disk) l.window;
+  len : l.window.len ≡ l.len;
   untouched : IsUntouched g.D.Disk.content g.D.Disk.moment g.D.Disk.images g.D.Disk.images_since l.fn.disk l.disk;
   faults : g.D.Disk.faults l.fn.disk ≤ g.D.Disk.faults l.disk;
 }

@@ -10,7 +10,8 @@ pub loop-window-init : goal.loop-window-init
 loop-window-init g c = record {
   within = omega arith;
   walked = λ f is. ([], walked_none f (c.requires.header f is), ap seen c.new-list.ensures.items);
-  shows = c.none-window.ensures (g.D.Disk.content c.args.disk.now);
+  shows = c.none-window.ensures.shows (g.D.Disk.content c.args.disk.now) c.requires.len;
+  len = c.none-window.ensures.len;
   untouched = untouched_none g.D.Disk.content g.D.Disk.moment g.D.Disk.images g.D.Disk.images_since c.args.disk.now;
   faults = omega arith;
 }
@@ -36,9 +37,9 @@ loop-window-preserved g c =
     let d = g.D.Disk in
     let i = c.loop-window.invariant in
     let e = c.in_ok-head_at.ensures in
-    let fits = subst (Fits (c.args.len - c.loop-window.at)) c.in-Record.is e.fits in
+    let fits = subst (Fits (c.loop-window.window.len - c.loop-window.at)) c.in-Record.is e.fits in
     record {
-      within = omega (arith, fits.0, c.from.ensures, i.within);
+      within = omega (arith, fits.0, c.from.ensures, i.within, i.len);
       walked = λ f is.
           let told = i.untouched.same ∙ is in
           let w = i.walked f is in
@@ -49,6 +50,7 @@ loop-window-preserved g c =
             seen_push w.0 c.loop-window.at f there.0 c.loop-window.list.items c.push.new.self.items _ w.1 w.2 c.in_ok-push-in-Record.ensures.items refl bytes,
           );
       shows = c.read_part.ensures.shows;
+      len = c.read_part.ensures.len ∙ c.head_at.ensures.len ∙ i.len;
       untouched = untouched_then d.content d.moment d.images d.images_since c.args.disk.now c.head_at.new.disk c.read_part.new.disk
           (untouched_then d.content d.moment d.images d.images_since c.args.disk.now c.loop-window.disk c.head_at.new.disk i.untouched c.head_at.ensures.untouched)
           c.read_part.ensures.untouched;
