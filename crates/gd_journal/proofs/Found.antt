@@ -4,14 +4,11 @@ use Rattle.std.specs.Prelude.{Option, Bool, bytes_eq}
 use Rattle.std.specs.Option.{option_or}
 use Rattle.std.specs.Int.{to_be_bytes, w32}
 use Rattle.std.proofs.lemmas.Slice.Eq.{bytes_eq-Decides}
-use Rattle.std.proofs.lemmas.List.{map-append, take_at, drop-drop}
+use Rattle.std.proofs.lemmas.List.{take_at, drop-drop}
 use Rattle.gd_bytes.specs.Disk.{part}
 use Rattle.gd_bytes.specs.File.{Payloads, header, open_record}
-use Rattle.gd_journal.specs.declared.payloads.Payload.{Payload}
-use Rattle.gd_journal.specs.declared.payloads.Payloads.{Payloads as Found}
-use Rattle.gd_journal.specs.Found.{seen, found_in}
 use Rattle.gd_journal.specs.Meaning.{held_by, located, whole}
-use Rattle.gd_journal.specs.Shape.{front, spelled, IsRecord, IsWalked}
+use Rattle.gd_journal.specs.Shape.{spelled, IsRecord}
 use Rattle.gd_journal.specs.State.{Standing}
 use Rattle.gd_journal.proofs.Heads.{no_header}
 
@@ -21,23 +18,11 @@ located_push (q ∷ ps) at p =
     let same : at + 5 + length q + length (flat_map open_record ps) ≡ at + length (flat_map open_record (q ∷ ps)) = omega (arith, length-append (spelled q) (flat_map open_record ps), length-append (to_be_bytes w32 (length q)) q) in
     ap (λ (l : List (ℕ × List ℕ)). (at, q) ∷ l) (located_push ps (at + 5 + length q) p) ∙ ap (λ (n : ℕ). (at, q) ∷ (located (at + 5 + length q) ps ++ (n, p) ∷ [])) same
 
--- one payload more is seen
-pub seen_push : (ps : List (List ℕ)) (at : ℕ) (file p : List ℕ) (list more : List Payload) (one : Payload) → IsWalked ps at file → seen list ≡ located 8 ps → more ≡ list ++ one ∷ [] → one.offset ≡ at → one.bytes ≡ p → seen more ≡ located 8 (ps ++ p ∷ [])
-unfolding front
-seen_push ps at file p list more one walked same is offset bytes =
-    let place : at ≡ 8 + length (flat_map open_record ps) = omega (arith, walked.place, length-append header (flat_map open_record ps)) in
-    ap seen is ∙ map-append (λ (q : Payload). (q.offset, q.bytes)) list (one ∷ []) ∙ ap (λ (l : List (ℕ × List ℕ)). l ++ (one.offset, one.bytes) ∷ []) same
-    ∙ ap (λ (n : ℕ). located 8 ps ++ (n, one.bytes) ∷ []) (offset ∙ place) ∙ ap (λ (b : List ℕ). located 8 ps ++ (8 + length (flat_map open_record ps), b) ∷ []) bytes ∙ sym (located_push ps 8 p)
-
 -- the bytes behind a gate and a length are the payload
 pub payload_read : (file p : List ℕ) (at n : ℕ) → length p ≡ n → IsRecord (drop at file) p → part (at + 5) n file ≡ p
 payload_read file p at n size whole =
     let back : drop (at + 5) file ≡ p ++ (whole.gate ∷ whole.rest) = sym (drop-drop 5 at file) ∙ ap (λ (l : List ℕ). drop 5 l) whole.is ∙ ap (λ (l : List ℕ). drop 4 l) (append_assoc (to_be_bytes w32 (length p)) p (whole.gate ∷ whole.rest)) in
     ap (λ (l : List ℕ). take n l) back ∙ take_at p (whole.gate ∷ whole.rest) n size
-
-pub found_is : (file : List ℕ) (found : Found) (list : List Payload) (ps : List (List ℕ)) (damaged : Option ℕ) → found.list ≡ list → found.damaged ≡ damaged → seen list ≡ located 8 ps → held_by file ≡ Some (record { list = located 8 ps; damaged = damaged }) → held_by file ≡ Some (found_in found)
-found_is file found list ps damaged list_is damaged_is same held =
-    held ∙ ap (λ (l : List (ℕ × List ℕ)). Some (record { list = l; damaged = damaged })) (sym same ∙ ap seen (sym list_is)) ∙ ap (λ (o : Option ℕ). Some (record { list = seen found.list; damaged = o })) (sym damaged_is)
 
 cases_bool : (b : Bool) → (b ≡ true) ⊎ (b ≡ false)
 cases_bool true = inl refl

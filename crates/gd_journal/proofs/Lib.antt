@@ -9,3 +9,4 @@ mod Rows
 mod Settles
 mod Ends
 mod Windows
+mod OneByOne

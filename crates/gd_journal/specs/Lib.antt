@@ -6,3 +6,4 @@ pub mod Heads
 pub mod Found
 pub mod Laws
 pub mod Windows
+pub mod Reading

@@ -46,12 +46,13 @@ Standing content images gate (Some next) (Some at) = ⊥
 abbrev pub Keeps : Option (List ℕ) → (List ℕ → Type 0) → ℕ → Option ℕ → Option ℕ → Type 0
 Keeps content images gate doubt damaged = IsSome content → Standing content images gate doubt damaged
 
--- What contracts see of a file that is being opened: its disk, its length, the offset of the gate that ends its records, and that of the first damaged record.
+-- What contracts see of a file that is being opened: its disk, its length, the offset of the gate that ends its records, that of the first damaged record, and that of the next gate to be read.
 pub record Looked (D : Type 0) : Type 0 where
   pub disk : D
   pub len : ℕ
   pub gate : ℕ
   pub damaged : Option ℕ
+  pub next : ℕ
 
 -- The records of a file of this length end at this gate, or its first damaged record stands there. Of an unfinished creation it is the gate of an empty store.
 pub record HasEnd (file : List ℕ) (len gate : ℕ) (damaged : Option ℕ) : Type 0 where

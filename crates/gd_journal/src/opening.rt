@@ -1,20 +1,20 @@
 //! Opening a file that a stop may have left.
-ghost use Rattle.std.specs.Prelude.{◌≡◌, ◌≢◌, ◌+◌, ◌<◌, ◌≤◌, ◌↔◌, [], List, ℕ, None, Some, true, length, take, OnOk, OnErr, IfOk, IfErr, IsErrOf, MatchOption, MatchResult};
+ghost use Rattle.std.specs.Prelude.{◌≡◌, ◌≢◌, ◌+◌, ◌<◌, ◌≤◌, ◌↔◌, [], List, ℕ, None, true, length, take, OnOk, OnErr, IfOk, IfErr, IfSome, IsErrOf, MatchOption, MatchResult};
 ghost use Rattle.std.specs.Option.{ForSome, is_some};
 ghost use Rattle.gd_base.specs.Counts.{HasCause};
 ghost use Rattle.gd_bytes.specs.Disk.{LeavesOnly, IsUntouched, Only};
 ghost use Rattle.gd_bytes.specs.File.{header};
 ghost use Rattle.gd_journal.specs.Causes.{HasReason, MayRefuse};
 ghost use Rattle.gd_journal.specs.Meaning.{held_by, StandsFor, IsDamagedAt, MeansOneOf};
-ghost use Rattle.gd_journal.specs.Found.{found_in};
+ghost use Rattle.gd_journal.specs.Reading.{IsRead, ReadsOn};
 ghost use Rattle.gd_journal.specs.Shape.{IsAtRest, IsWalked, EndsAt};
 ghost use Rattle.gd_journal.specs.State.{HasEnd, IsSettled, Keeps, Sees};
 
 use crate::fault::JournalFault;
 use crate::head::{HEAD, Head, head_at};
 use crate::journal::Journal;
-use crate::payloads::Payloads;
-use crate::reading::read_payloads;
+use crate::payloads::Payload;
+use crate::reading::{Next, Records};
 use crate::record::clear;
 use crate::window::Window;
 use gd_disk::Failed;
@@ -162,23 +162,28 @@ fn mend<D: Disk>(disk: &mut D, len: u64, end: Ending) -> Result<(), Failed>
 }
 
 /// A file that is being opened: what it holds is certain, and it was left as it is. Contracts see its disk, its length,
-/// the offset of the gate that ends its records, and that of the first damaged record.
+/// the offset of the gate that ends its records, that of the first damaged record, and that of the gate that
+/// `next_payload` reads next.
 #[derive(Drop)]
 pub struct Opening<D: Disk> {
     disk: D,
     len: u64,
     end: Ending,
+    records: Records,
     alloc: Global,
 }
 
 impl<D: Disk> Model for Opening<D> {
     ghost use Rattle.gd_journal.specs.State.{Looked, Sees};
+    ghost use Rattle.gd_journal.specs.Reading.{IsReady, HasRead};
 
     ghost Value = { Looked D };
 
-    ghost view = { λ o. record { disk = o.disk; len = o.len; gate = o.end.gate; damaged = o.end.damaged } };
+    ghost view = { λ o. record { disk = o.disk; len = o.len; gate = o.end.gate; damaged = o.end.damaged; next = o.records.at } };
 
-    ghost invariant = { λ o. Sees (D.content o.disk) (D.images o.disk) o.len o.end.gate o.end.damaged };
+    ghost invariant = { λ o. Sees (D.content o.disk) (D.images o.disk) o.len o.end.gate o.end.damaged
+        × IsReady (D.content o.disk) o.len o.records.at o.records.window
+        × HasRead (D.content o.disk) o.records.at };
 }
 
 /// Makes certain what the file holds, and finds where its records end.
@@ -203,6 +208,7 @@ pub fn look<D: Disk>(alloc: Global, disk: D) -> Result<Opening<D>, (JournalFault
     ensures untouched { MatchResult result
         (λ opening. IsUntouched D.content D.moment D.images D.images_since disk opening.disk)
         (λ refused. IsUntouched D.content D.moment D.images D.images_since disk refused.1) }
+    ensures unread { IfOk result (λ opening. ForSome (D.content disk) (λ file. IsRead [] opening.next file)) }
     ensures not_store { IfErr result (λ refused. refused.0 ≡ JournalFault.NotStore
         → ForSome (D.content disk) (λ file. held_by file ≡ None)) }
     ensures later { MatchResult result
@@ -215,6 +221,7 @@ pub fn look<D: Disk>(alloc: Global, disk: D) -> Result<Opening<D>, (JournalFault
             disk,
             len,
             end,
+            records: Records::none(alloc, len),
             alloc,
         }),
         Err(fault) => Err((fault, disk)),
@@ -249,22 +256,38 @@ impl<D: Disk> Opening<D> {
         self.disk
     }
 
-    /// Reads each payload, as `Journal::read_all` does, and leaves the file as it is.
-    pub fn read_all(&mut self) -> Result<Payloads, JournalFault>
-        ensures found { IfOk result (λ found. ForSome (D.content self.old.disk) (λ file.
-            held_by file ≡ Some (found_in found))) }
-        ensures damaged { IfOk result (λ found. self.new.damaged ≡ found.damaged) }
-        ensures left { OnErr result (self.new.damaged ≡ self.old.damaged) }
+    /// The offset of the first damaged record, where there is one.
+    pub fn damaged(&self) -> Option<u64>
+        ensures { result ≡ self.now.damaged }
+    {
+        self.end.damaged
+    }
+
+    /// Reads the next payload, from the first one on, with the offset of its gate. None: the gate that ends the records
+    /// is reached, or the first damaged record, whose offset `damaged` tells. The file is left as it is. `DiskFault`: the
+    /// disk failed. `Memory`: an allocation was refused. After either the same payload is the next one.
+    pub fn next_payload(&mut self) -> Result<Option<Payload>, JournalFault>
+        ensures next { IfOk result (λ next. ForSome (D.content self.old.disk) (λ file. (read : List (ℕ × List ℕ))
+            → IsRead read self.old.next file → ReadsOn read file self.new.damaged self.new.next next)) }
+        ensures onward { IfOk result (λ next. IfSome next (λ _. (self.old.next < self.new.next)
+            × (self.new.next < self.new.len))) }
+        ensures len { self.new.len ≡ self.old.len }
+        ensures left { OnErr result ((self.new.damaged ≡ self.old.damaged) × (self.new.next ≡ self.old.next)) }
         ensures untouched { IsUntouched D.content D.moment D.images D.images_since self.old.disk self.new.disk }
         ensures later { D.faults self.old.disk ≤ D.faults self.new.disk }
         ensures cause { IfErr result (HasReason (D.faults self.old.disk) (D.faults self.new.disk)) }
     {
-        let found = read_payloads(self.alloc, &mut self.disk)?;
-        self.end.damaged = found.damaged.or(self.end.damaged);
-        Ok(Payloads {
-            list: found.list,
-            damaged: self.end.damaged,
-        })
+        if self.len <= UNFINISHED {
+            return Ok(None);
+        }
+        match self.records.next(self.alloc, &mut self.disk)? {
+            Next::End => Ok(None),
+            Next::Torn(offset) => {
+                self.end.damaged = Some(offset);
+                Ok(None)
+            }
+            Next::Record(payload) => Ok(Some(payload)),
+        }
     }
 
     /// Makes a journal of the file: of one of at most 9 bytes, an unfinished creation, an empty store; any other is cut
@@ -296,6 +319,7 @@ impl<D: Disk> Opening<D> {
             disk,
             len,
             end,
+            records: _,
             alloc,
         } = self;
         let mut disk = disk;

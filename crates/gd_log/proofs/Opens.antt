@@ -5,39 +5,18 @@ use Rattle.gd_base.specs.Counts.{Rose}
 use Rattle.std.specs.Prelude.{Option, MatchOption}
 use Rattle.gd_prim.specs.declared.Batch.{Batch}
 use Rattle.gd_bytes.specs.Disk.{LeavesOnly, IsUntouched}
-use Rattle.gd_bytes.specs.File.{Meaning, Payloads, groups_of, meaning, StandsFor}
+use Rattle.gd_bytes.specs.File.{Meaning, Payloads, meaning, StandsFor}
 use Rattle.gd_disk.specs.Runs.{leaves_start, leaves_join, leaves_weaken, leaves_untouched}
 use Rattle.gd_journal.specs.declared.fault.JournalFault.{JournalFault}
 use Rattle.gd_journal.specs.declared.fault.JournalFault.TheVariants.{DiskFault, NotStore, Damaged, Memory}
-use Rattle.gd_journal.specs.declared.payloads.Payloads.{Payloads as Found}
 use Rattle.gd_journal.specs.Causes.{HasReason, MayRefuse}
-use Rattle.gd_journal.specs.Found.{seen, found_in}
 use Rattle.gd_journal.specs.Meaning as journal
 use Rattle.gd_journal.specs.State.{IsSettled}
 use Rattle.gd_log.specs.Groups.{AreGroups}
 use Rattle.gd_log.specs.State.{IsHeld}
-use Rattle.gd_log.specs.Opening.{MeansOneOf, Refuses, Stops, Loads, IsKept, bytes_of}
+use Rattle.gd_log.specs.Opening.{MeansOneOf, Refuses, Loads, IsKept, bytes_of}
 use Rattle.gd_log.proofs.Meaning.{bytes, of_payloads, meaning_held, walk_all, located_bytes}
 use Rattle.gd_log.proofs.Held.{hold}
-
--- what stops the reading of payloads is a refusal of the file
-pub stops_refuses : (f : JournalFault) (file : List ℕ) (found : Found) → journal.held_by file ≡ Some (found_in found) → Stops f (groups_of [] (seen found.list) found.damaged) → Refuses f (meaning file)
-stops_refuses DiskFault file found is stops = tt
-stops_refuses NotStore file found is stops = absurd stops
-stops_refuses (Damaged offset) file found is stops = meaning_held file ∙ ap of_payloads is ∙ stops
-stops_refuses Memory file found is stops = tt
-
-pub stops_store : (f : JournalFault) (m : Meaning) → Stops f m → f ≡ NotStore → ⊥
-stops_store DiskFault m stops e = absurd stops
-stops_store NotStore m stops e = stops
-stops_store (Damaged offset) m stops e = cc
-stops_store Memory m stops e = cc
-
-pub stops_disk : (f : JournalFault) (m : Meaning) → Stops f m → f ≡ DiskFault → ⊥
-stops_disk DiskFault m stops e = stops
-stops_disk NotStore m stops e = absurd stops
-stops_disk (Damaged offset) m stops e = cc
-stops_disk Memory m stops e = cc
 
 -- what a journal says of the file, where it refuses it
 pub journal_refuses : (f : JournalFault) (before now : ℕ) (file : List ℕ) → MayRefuse before now f → (f ≡ NotStore → journal.held_by file ≡ None) → Refuses f (meaning file)
@@ -48,9 +27,9 @@ journal_refuses Memory before now file may none = tt
 
 -- what was loaded is what the file stands for
 pub loads_stands : (file : List ℕ) (bs : List Batch) → Loads file bs → StandsFor file bs
-loads_stands file bs (found, is, (none, are)) =
-    let w = walk_all (seen found.list) bs are in
-    (w.0, meaning_held file ∙ ap of_payloads is ∙ ap (λ (o : Option ℕ). groups_of [] (seen found.list) o) none ∙ w.1, w.2)
+loads_stands file bs (read, is, are) =
+    let w = walk_all read bs are in
+    (w.0, meaning_held file ∙ ap of_payloads is ∙ w.1, w.2)
 
 -- ---- files that hold the same payloads
 
@@ -109,9 +88,10 @@ module _ {D : Type 0} (content : D → Option (List ℕ)) (moment : D → ℕ) (
 -- a journal that was finished, and whose payloads were loaded, holds what was loaded
 pub held_finished : (co : Option (List ℕ)) (im : List ℕ → Type 0) (gate : ℕ) (file : List ℕ) (d : Option ℕ) (bs : List Batch) (B : ℕ → Type 0) → d ≡ None
     → MatchOption d ((ps : List (List ℕ)) × journal.StandsFor ps file × IsSettled co im gate ps) B → Loads file bs → IsHeld co im gate bs
-held_finished co im gate file None bs B none (ps, stands_for, settled) (found, is, (undamaged, are)) =
-    let same : found_in found ≡ journal.whole ps = cc in
-    let list : seen found.list ≡ journal.located 8 ps = ap (λ (p : Payloads). p.list) same in
-    let all : bytes_of found.list ≡ ps = ap bytes list ∙ located_bytes 8 ps in
+held_finished co im gate file None bs B none (ps, stands_for, settled) (read, is, are) =
+    let found : Payloads = record { list = read; damaged = None } in
+    let same : found ≡ journal.whole ps = cc in
+    let list : read ≡ journal.located 8 ps = ap (λ (p : Payloads). p.list) same in
+    let all : bytes_of read ≡ ps = ap bytes list ∙ located_bytes 8 ps in
     hold co im gate ps bs (subst (λ (l : List (List ℕ)). AreGroups [] l bs) all are) settled
 held_finished co im gate file (Some at) bs B none m loads = cc

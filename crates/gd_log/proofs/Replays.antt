@@ -1,30 +1,31 @@
 -- What is taken in when payloads are read.
-use Rattle.std.proofs.Common.{◌≡◌, ℕ, suc, ◌+◌, ◌<◌, ◌≤◌, List, [], ◌∷◌, ◌++◌, length, take, drop, get_or, Bool, true, false, Some, None, refl, sym, ◌∙◌, ap, subst, append_assoc, add-one, drop-cons}
+use Rattle.std.proofs.Common.{◌≡◌, ℕ, suc, ◌+◌, ◌<◌, List, [], ◌∷◌, ◌++◌, length, take, drop, get_or, Bool, true, false, Some, None, refl, sym, ◌∙◌, ap, subst, append_assoc, add-one, drop-cons}
 use Rattle.std.specs.Prelude.{Option, ◌≢◌, if◌then◌else◌, MatchBool, MatchOption}
-use Rattle.std.specs.Option.{option_or}
 use Rattle.std.specs.Bool.{OnTrue}
-use Rattle.std.proofs.lemmas.List.{take-append-drop, take_all}
 use Rattle.std.proofs.Math.Seq.{take-suc}
 use Rattle.std.proofs.lemmas.Bool.{OnTrue_at}
 use Rattle.gd_prim.specs.declared.Batch.{Batch}
 use Rattle.gd_prim.specs.History.{prims_of}
 use Rattle.gd_prim.specs.WellFormed.{may_follow, all_follow}
 use Rattle.gd_history_laws.proofs.Histories.{follow_more}
-use Rattle.gd_bytes.specs.File.{damaged, record_batches, groups_of}
+use Rattle.gd_bytes.specs.File.{damaged, record_batches, groups_of, meaning}
 use Rattle.gd_bytes.specs.Group.{IsGroup, group_of}
 use Rattle.gd_codec.specs.declared.stop.CodecFault.{CodecFault}
 use Rattle.gd_codec.specs.declared.stop.CodecFault.TheVariants as fault
-use Rattle.gd_journal.specs.declared.payloads.Payload.{Payload}
-use Rattle.gd_journal.specs.Found.{seen}
+use Rattle.gd_journal.specs.Meaning.{held_by}
+use Rattle.gd_journal.specs.Reading.{BeginsWith}
 use Rattle.gd_log.specs.Groups.{AreGroups}
-use Rattle.gd_log.specs.Opening.{IsTaken, bytes_of}
-use Rattle.gd_log.proofs.Meaning.{walk_stop, walk_torn, push}
+use Rattle.gd_log.specs.Opening.{IsTaken, Loads, bytes_of}
+use Rattle.gd_log.proofs.Meaning.{of_payloads, meaning_held, walk_stop, walk_torn, push}
 
 -- ---- batches one by one
 
 -- the item at a place, and what comes behind it
 pub next_item : {A : Type 0} (xs : List A) (i : ℕ) (x : A) → i < length xs → x ≡ get_or xs i x → drop i xs ≡ x ∷ drop (i + 1) xs
 next_item {A} xs i x lt is = drop-cons xs i x lt ∙ ap (λ (y : A). y ∷ drop (suc i) xs) (sym is) ∙ ap (λ (k : ℕ). x ∷ drop k xs) (sym (add-one i))
+
+pub take_item : {A : Type 0} (xs : List A) (i : ℕ) (x : A) → i < length xs → x ≡ get_or xs i x → take (i + 1) xs ≡ take i xs ++ x ∷ []
+take_item {A} xs i x lt is = ap (λ (k : ℕ). take k xs) (add-one i) ∙ take-suc xs i x lt ∙ ap (λ (y : A). take i xs ++ y ∷ []) (sym is)
 
 pub batch_follow : (start store now xs : List Batch) (i : ℕ) (b : Batch) (t : Bool) → i < length xs → b ≡ get_or xs i b → t ≡ true → t ≡ may_follow (prims_of store) (length store) b → OnTrue t (now ≡ store ++ b ∷ [])
     → all_follow (prims_of store) (length store) (drop i xs) ≡ all_follow (prims_of start) (length start) xs → all_follow (prims_of now) (length now) (drop (i + 1) xs) ≡ all_follow (prims_of start) (length start) xs
@@ -63,46 +64,22 @@ no_group before p f n is meant = rw (meant (λ same. let clash : fault.BadBytes 
 
 -- ---- payloads one by one
 
-seen_append : (a b : List Payload) → seen (a ++ b) ≡ seen a ++ seen b
-seen_append [] b = refl
-seen_append (p ∷ a) b = ap (λ (l : List (ℕ × List ℕ)). (p.offset, p.bytes) ∷ l) (seen_append a b)
-
-bytes_push : (list : List Payload) (p : Payload) → bytes_of (list ++ p ∷ []) ≡ bytes_of list ++ p.bytes ∷ []
-bytes_push [] p = refl
-bytes_push (q ∷ list) p = ap (λ (l : List (List ℕ)). q.bytes ∷ l) (bytes_push list p)
-
-pub take_item : {A : Type 0} (xs : List A) (i : ℕ) (x : A) → i < length xs → x ≡ get_or xs i x → take (i + 1) xs ≡ take i xs ++ x ∷ []
-take_item {A} xs i x lt is = ap (λ (k : ℕ). take k xs) (add-one i) ∙ take-suc xs i x lt ∙ ap (λ (y : A). take i xs ++ y ∷ []) (sym is)
+bytes_push : (read : List (ℕ × List ℕ)) (r : ℕ × List ℕ) → bytes_of (read ++ r ∷ []) ≡ bytes_of read ++ r.1 ∷ []
+bytes_push [] r = refl
+bytes_push (q ∷ read) r = ap (λ (l : List (List ℕ)). q.1 ∷ l) (bytes_push read r)
 
 -- one record more was taken in
-pub record_taken : (list : List Payload) (i : ℕ) (p : Payload) (store now : List Batch) → i < length list → p ≡ get_or list i p → AreGroups [] (bytes_of (take i list)) store → IsTaken store p.bytes now → AreGroups [] (bytes_of (take (i + 1) list)) now
-record_taken list i p store now lt is are (more, next, now_is) =
-    let all : bytes_of (take (i + 1) list) ≡ bytes_of (take i list) ++ p.bytes ∷ [] = ap bytes_of (take_item list i p lt is) ∙ bytes_push (take i list) p in
-    subst (λ (l : List (List ℕ)). AreGroups [] l now) (sym all) (subst (λ (l : List Batch). AreGroups [] (bytes_of (take i list) ++ p.bytes ∷ []) l) (sym now_is) (push [] (bytes_of (take i list)) store p.bytes more are next))
+pub record_taken : (read : List (ℕ × List ℕ)) (r : ℕ × List ℕ) (store now : List Batch) → AreGroups [] (bytes_of read) store → IsTaken store r.1 now → AreGroups [] (bytes_of (read ++ r ∷ [])) now
+record_taken read r store now are (more, next, now_is) =
+    subst (λ (l : List (List ℕ)). AreGroups [] l now) (sym (bytes_push read r)) (subst (λ (l : List Batch). AreGroups [] (bytes_of read ++ r.1 ∷ []) l) (sym now_is) (push [] (bytes_of read) store r.1 more are next))
 
 -- a record that is not taken in is the first damaged one
-pub record_stops : (list : List Payload) (torn : Option ℕ) (i : ℕ) (p : Payload) (store : List Batch) → i < length list → p ≡ get_or list i p → AreGroups [] (bytes_of (take i list)) store → record_batches store p.bytes ≡ None → groups_of [] (seen list) torn ≡ damaged p.offset
-record_stops list torn i p store lt is are none =
-    let split : seen list ≡ seen (take i list) ++ (p.offset, p.bytes) ∷ seen (drop (i + 1) list) =
-    ap seen (sym (take-append-drop i list)) ∙ seen_append (take i list) (drop i list) ∙ ap (λ (l : List Payload). seen (take i list) ++ seen l) (next_item list i p lt is) in
-    ap (λ (l : List (ℕ × List ℕ)). groups_of [] l torn) split ∙ walk_stop (seen (take i list)) (p.offset, p.bytes) (seen (drop (i + 1) list)) torn store are none
+pub record_stops : (file : List ℕ) (read : List (ℕ × List ℕ)) (r : ℕ × List ℕ) (store : List Batch) → BeginsWith (read ++ r ∷ []) file → AreGroups [] (bytes_of read) store → record_batches store r.1 ≡ None → meaning file ≡ damaged r.0
+record_stops file read r store (rest, held) are none =
+    meaning_held file ∙ ap of_payloads held ∙ ap (λ (l : List (ℕ × List ℕ)). groups_of [] l rest.damaged) (append_assoc read (r ∷ []) rest.list) ∙ walk_stop read r rest.list rest.damaged store are none
 
--- all records were taken in
-pub records_done : (list : List Payload) (i : ℕ) (store : List Batch) → length list ≤ i → AreGroups [] (bytes_of (take i list)) store → AreGroups [] (bytes_of list) store
-records_done list i store all are = subst (λ (l : List Payload). AreGroups [] (bytes_of l) store) (take_all i list all) are
-
--- the first damage: a payload that is not taken in, or a record behind them that is not there in full
-pub first_damage : (list : List Payload) (bad torn first : Option ℕ) (store : List Batch) (offset : ℕ) → MatchOption bad (AreGroups [] (bytes_of list) store) (λ at. (t : Option ℕ) → groups_of [] (seen list) t ≡ damaged at) → first ≡ option_or bad torn → first ≡ Some offset
-    → groups_of [] (seen list) torn ≡ damaged offset
-first_damage list None torn first store offset are is some =
-    let there : torn ≡ Some offset = sym is ∙ some in
-    ap (λ (o : Option ℕ). groups_of [] (seen list) o) there ∙ walk_torn (seen list) offset store are
-first_damage list (Some at) torn first store offset stops is some =
-    let same : at ≡ offset = cc in
-    stops torn ∙ ap damaged same
-
--- none
-pub no_damage : (list : List Payload) (bad torn first : Option ℕ) (store : List Batch) → MatchOption bad (AreGroups [] (bytes_of list) store) (λ at. (t : Option ℕ) → groups_of [] (seen list) t ≡ damaged at) → first ≡ option_or bad torn → first ≡ None
-    → (torn ≡ None) × AreGroups [] (bytes_of list) store
-no_damage list None torn first store are is none = (sym is ∙ none, are)
-no_damage list (Some at) torn first store stops is none = cc
+-- all were taken in, and behind them a record is not there in full, or none
+pub records_done : (file : List ℕ) (read : List (ℕ × List ℕ)) (torn first : Option ℕ) (store : List Batch) → held_by file ≡ Some (record { list = read; damaged = torn }) → AreGroups [] (bytes_of read) store → first ≡ torn → MatchOption first (Loads file store) (λ offset. meaning file ≡ damaged offset)
+records_done file read torn None store held are is = (read, held ∙ ap (λ (o : Option ℕ). Some (record { list = read; damaged = o })) (sym is), are)
+records_done file read torn (Some offset) store held are is =
+    meaning_held file ∙ ap of_payloads held ∙ ap (λ (o : Option ℕ). groups_of [] read o) (sym is) ∙ walk_torn read offset store are

@@ -6,9 +6,6 @@ use Rattle.gd_prim.specs.declared.Batch.{Batch}
 use Rattle.gd_bytes.specs.File.{Meaning, not_store, damaged, meaning, StandsFor}
 use Rattle.gd_journal.specs.declared.fault.JournalFault.{JournalFault}
 use Rattle.gd_journal.specs.declared.fault.JournalFault.TheVariants.{DiskFault, NotStore, Damaged, Memory}
-use Rattle.gd_journal.specs.declared.payloads.Payload.{Payload}
-use Rattle.gd_journal.specs.declared.payloads.Payloads.{Payloads as Found}
-use Rattle.gd_journal.specs.Found.{seen, found_in}
 use Rattle.gd_journal.specs.Meaning.{held_by}
 use Rattle.gd_log.specs.Groups.{IsNext, AreGroups}
 
@@ -23,28 +20,17 @@ Refuses NotStore m = m ≡ not_store
 Refuses (Damaged offset) m = m ≡ damaged offset
 Refuses Memory m = ⊤
 
--- The same where the payloads are read already: only damage and want of memory are left.
-abbrev pub Stops : JournalFault → Meaning → Type 0
-Stops DiskFault m = ⊥
-Stops NotStore m = ⊥
-Stops (Damaged offset) m = m ≡ damaged offset
-Stops Memory m = ⊤
-
 -- The bytes of payloads.
-abbrev pub bytes_of : List Payload → List (List ℕ)
-bytes_of list = map (λ r. r.1) (seen list)
+abbrev pub bytes_of : List (ℕ × List ℕ) → List (List ℕ)
+bytes_of read = map (λ r. r.1) read
 
 -- A record was taken in behind these batches.
 abbrev pub IsTaken : List Batch → List ℕ → List Batch → Type 0
 IsTaken before p now = (more : List Batch) × IsNext before p more × (now ≡ before ++ more)
 
--- What was read are payloads that are groups of these batches, and no damage.
-abbrev pub AreAll : Found → List Batch → Type 0
-AreAll found bs = (found.damaged ≡ None) × AreGroups [] (bytes_of found.list) bs
-
 -- All that a file holds are payloads that are groups of these batches.
 abbrev pub Loads : List ℕ → List Batch → Type 0
-Loads file bs = (found : Found) × (held_by file ≡ Some (found_in found)) × AreAll found bs
+Loads file bs = (read : List (ℕ × List ℕ)) × (held_by file ≡ Some (record { list = read; damaged = None })) × AreGroups [] (bytes_of read) bs
 
 -- The same bytes, or both stand for the same batches.
 abbrev pub IsReadSame : List ℕ → List ℕ → Type 0

@@ -1,5 +1,5 @@
 //! Opening a file of batches.
-ghost use Rattle.std.specs.Prelude.{◌≡◌, ◌≢◌, ◌≤◌, None, IfOk, IfErr, OnOk, MatchResult};
+ghost use Rattle.std.specs.Prelude.{◌≡◌, ◌≢◌, ◌≤◌, [], None, IfOk, IfErr, OnOk, MatchResult};
 ghost use Rattle.std.specs.Option.{ForSome, is_some};
 ghost use Rattle.gd_base.specs.Counts.{Rose};
 ghost use Rattle.gd_bytes.specs.Disk.{LeavesOnly, IsUntouched};
@@ -7,6 +7,7 @@ ghost use Rattle.gd_bytes.specs.File.{meaning, StandsFor};
 ghost use Rattle.gd_log.specs.State.{IsHeld};
 ghost use Rattle.gd_journal.specs.Causes.{HasReason};
 ghost use Rattle.gd_journal.specs.Meaning.{held_by};
+ghost use Rattle.gd_journal.specs.Reading.{IsRead};
 ghost use Rattle.gd_log.specs.Opening.{MeansOneOf, Refuses, Loads, IsKept};
 
 use crate::log::Log;
@@ -17,8 +18,9 @@ use gd_journal::opening::{Opening, look};
 use gd_store::store::Store;
 use std::alloc::Global;
 
-/// Reads all payloads of a file once, and makes the store for which they stand.
+/// Reads the payloads of a file one by one, and makes the store for which they stand. It answers `Damaged` as `replay`.
 fn load<D: Disk>(alloc: Global, opening: &mut Opening<D>) -> Result<Store, JournalFault>
+    requires { ForSome (D.content opening.old.disk) (λ file. IsRead [] opening.old.next file) }
     ensures all { IfOk result (λ store. ForSome (D.content opening.old.disk) (λ file. Loads file store)) }
     ensures undamaged { OnOk result (opening.new.damaged ≡ None) }
     ensures refused { IfErr result (λ fault. ForSome (D.content opening.old.disk) (λ file. Refuses fault (meaning file))) }
@@ -28,8 +30,11 @@ fn load<D: Disk>(alloc: Global, opening: &mut Opening<D>) -> Result<Store, Journ
     ensures cause { IfErr result (λ fault. fault ≡ JournalFault.DiskFault
         → Rose (D.faults opening.old.disk) (D.faults opening.new.disk)) }
 {
-    let found = opening.read_all()?;
-    replay(alloc, &found)
+    let mut store = Store::new(alloc)?;
+    match replay(alloc, opening, &mut store) {
+        Ok(()) => Ok(store),
+        Err(fault) => Err(fault),
+    }
 }
 
 /// Makes a log of a file whose batches these are.

@@ -1,17 +1,21 @@
 //! The store for which payloads stand.
-ghost use Rattle.std.specs.Prelude.{◌≡◌, ◌++◌, ◌∷◌, [], ℕ, Option, None, length, IfOk, MatchBool, MatchOption, MatchResult};
+ghost use Rattle.std.specs.Prelude.{◌≡◌, ◌≢◌, ◌≤◌, ◌++◌, ◌∷◌, [], None, length, IfOk, IfErr, OnOk, MatchBool, MatchOption};
 ghost use Rattle.std.specs.Bool.{OnTrue};
+ghost use Rattle.std.specs.Option.{ForSome};
+ghost use Rattle.gd_base.specs.Counts.{Rose};
 ghost use Rattle.gd_prim.specs.History.{prims_of};
 ghost use Rattle.gd_prim.specs.WellFormed as defined;
-ghost use Rattle.gd_bytes.specs.File.{damaged, record_batches, groups_of};
-ghost use Rattle.gd_journal.specs.Found.{seen};
-ghost use Rattle.gd_log.specs.Groups.{AreGroups};
-ghost use Rattle.gd_log.specs.Opening.{Stops, IsTaken, AreAll, bytes_of};
+ghost use Rattle.gd_bytes.specs.Disk.{IsUntouched};
+ghost use Rattle.gd_bytes.specs.File.{damaged, record_batches, meaning};
+ghost use Rattle.gd_journal.specs.Causes.{HasReason};
+ghost use Rattle.gd_journal.specs.Reading.{IsRead};
+ghost use Rattle.gd_log.specs.Opening.{Refuses, IsTaken, Loads};
 
 use gd_base::memory::Memory;
 use gd_codec::{CodecFault, decode_group};
+use gd_disk::disk::Disk;
 use gd_journal::fault::JournalFault;
-use gd_journal::payloads::{Payload, Payloads};
+use gd_journal::opening::Opening;
 use gd_prim::Batch;
 use gd_store::store::Store;
 use std::alloc::Global;
@@ -65,32 +69,56 @@ fn absorb_record(alloc: Global, store: &mut Store, bytes: &[u8]) -> Result<bool,
     }
 }
 
-/// Stores the batches of payloads one by one, and gives the offset of the first that is no group, or a batch of which may
-/// not follow.
-fn absorb_records(alloc: Global, store: &mut Store, list: &[Payload]) -> Result<Option<u64>, Memory>
-    requires { store.old ≡ [] }
-    ensures { IfOk result (λ bad. MatchOption bad (AreGroups [] (bytes_of list.now) store.new)
-        (λ offset. (torn : Option ℕ) → groups_of [] (seen list.now) torn ≡ damaged offset)) }
+/// Stores the batches of a file's payloads one by one, from the first payload on, and gives the offset of the first
+/// record that is damaged: a payload that is no group, or a batch of which may not follow, or a record behind the
+/// payloads that is not there in full.
+fn absorb_records<D: Disk>(
+    alloc: Global,
+    opening: &mut Opening<D>,
+    store: &mut Store,
+) -> Result<Option<u64>, JournalFault>
+    requires empty { store.old ≡ [] }
+    requires unread { ForSome (D.content opening.old.disk) (λ file. IsRead [] opening.old.next file) }
+    ensures taken { IfOk result (λ first. ForSome (D.content opening.old.disk) (λ file. MatchOption first
+        (Loads file store.new) (λ offset. meaning file ≡ damaged offset))) }
+    ensures undamaged { IfOk result (λ first. first ≡ None → opening.new.damaged ≡ None) }
+    ensures untouched { IsUntouched D.content D.moment D.images D.images_since opening.old.disk opening.new.disk }
+    ensures later { D.faults opening.old.disk ≤ D.faults opening.new.disk }
+    ensures cause { IfErr result (HasReason (D.faults opening.old.disk) (D.faults opening.new.disk)) }
 {
-    for payload in list {
-        if !absorb_record(alloc, store, payload.bytes.as_slice())? {
-            return Ok(Some(payload.offset));
+    loop {
+        match opening.next_payload()? {
+            None => return Ok(opening.damaged()),
+            Some(payload) => {
+                if !absorb_record(alloc, store, payload.bytes.as_slice())? {
+                    return Ok(Some(payload.offset));
+                }
+            }
         }
     }
-    Ok(None)
 }
 
-/// The store that stands for the batches of these payloads. `Damaged`: a payload is no group, or a batch of it may not
-/// follow those before it, or a record behind the payloads is not there in full; the gate's offset of the first such
-/// record is told. `Memory`: an allocation was refused.
-pub(crate) fn replay(alloc: Global, payloads: &Payloads) -> Result<Store, JournalFault>
-    ensures { MatchResult result (λ store. AreAll payloads.now store)
-        (λ fault. Stops fault (groups_of [] (seen payloads.now.list) payloads.now.damaged)) }
+/// Stores the batches of a file's payloads, from the first payload on. `Damaged`: a payload is no group, or a batch of it may
+/// not follow those before it, or a record behind the payloads is not there in full; the gate's offset of the first such
+/// record is told.
+pub(crate) fn replay<D: Disk>(
+    alloc: Global,
+    opening: &mut Opening<D>,
+    store: &mut Store,
+) -> Result<(), JournalFault>
+    requires empty { store.old ≡ [] }
+    requires unread { ForSome (D.content opening.old.disk) (λ file. IsRead [] opening.old.next file) }
+    ensures all { OnOk result (ForSome (D.content opening.old.disk) (λ file. Loads file store.new)) }
+    ensures undamaged { OnOk result (opening.new.damaged ≡ None) }
+    ensures refused { IfErr result (λ fault. ForSome (D.content opening.old.disk) (λ file. Refuses fault (meaning file))) }
+    ensures not_store { IfErr result (λ fault. fault ≢ JournalFault.NotStore) }
+    ensures untouched { IsUntouched D.content D.moment D.images D.images_since opening.old.disk opening.new.disk }
+    ensures later { D.faults opening.old.disk ≤ D.faults opening.new.disk }
+    ensures cause { IfErr result (λ fault. fault ≡ JournalFault.DiskFault
+        → Rose (D.faults opening.old.disk) (D.faults opening.new.disk)) }
 {
-    let mut store = Store::new(alloc)?;
-    let bad = absorb_records(alloc, &mut store, payloads.list.as_slice())?;
-    match bad.or(payloads.damaged) {
+    match absorb_records(alloc, opening, store)? {
         Some(offset) => Err(JournalFault::Damaged { offset }),
-        None => Ok(store),
+        None => Ok(()),
     }
 }

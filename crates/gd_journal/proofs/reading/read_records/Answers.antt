@@ -1,58 +1,51 @@
-use Rattle.std.proofs.Common.{◌-◌, [], ◌∷◌, ◌++◌, drop, Some, None, refl, sym, ◌∙◌, ap, subst, arith}
+use Rattle.std.proofs.Common.{ℕ, List, Some, None, sym, ◌∙◌, subst, arith}
 use Rattle.gd_disk.specs.Runs.{untouched_none, untouched_then}
-use Rattle.gd_journal.specs.Heads.{HeadIs, Fits}
+use Rattle.gd_journal.specs.declared.payloads.Payload.{Payload}
 use Rattle.gd_journal.specs.Found.{seen}
-use Rattle.gd_journal.proofs.Heads.{walked_none, walked_more, walked_held}
-use Rattle.gd_journal.proofs.Found.{seen_push, payload_read, found_is}
+use Rattle.gd_journal.specs.Reading.{ComesNext, Moves, IsReady, IsRead}
+use Rattle.gd_journal.proofs.OneByOne.{read_none, read_more, read_all_of, seen_push, found_is}
 use Rattle.gd_journal.proofs.reading.read_records.Goals as goal
 
-pub loop-window-init : goal.loop-window-init
-loop-window-init g c = record {
-  within = omega arith;
-  walked = λ f is. ([], walked_none f (c.requires.header f is), ap seen c.new-list.ensures.items);
-  shows = c.none-window.ensures.shows (g.D.Disk.content c.args.disk.now) c.requires.len;
-  len = c.none-window.ensures.len;
+pub loop-records-init : goal.loop-records-init
+loop-records-init g c = record {
+  ready = c.none-records.ensures.ready (g.D.Disk.content c.args.disk.now) c.requires.len;
+  read = λ f is. subst (λ (n : ℕ). IsRead (seen c.new-list.result.items) n f) (sym c.none-records.ensures.at) (subst (λ (l : List Payload). IsRead (seen l) 8 f) (sym c.new-list.ensures.items) (read_none f (λ _. c.requires.header f is)));
   untouched = untouched_none g.D.Disk.content g.D.Disk.moment g.D.Disk.images g.D.Disk.images_since c.args.disk.now;
   faults = omega arith;
 }
 
 pub returns-in-End-clause-found : goal.returns-in-End-clause-found
 returns-in-End-clause-found g c = λ f is.
-    let i = c.loop-window.invariant in
-    let w = i.walked f is in
-    let ends = subst (HeadIs (drop c.loop-window.at f)) c.in-End.is (c.in_ok-head_at.ensures.head f (i.untouched.same ∙ is)) in
-    found_is f c.found.result c.loop-window.list.items w.0 None c.found.ensures.list c.found.ensures.damaged w.2
-    (walked_held w.0 c.loop-window.at f None (omega (arith, c.requires.len f is)) (omega (arith, c.requires.len f is, i.within)) w.1 ends)
+    let l = c.loop-records in
+    let i = l.invariant in
+    let size = c.requires.len f is in
+    let comes = subst (ComesNext l.records.at c.next.new.self.at f) c.in-End.is (c.in_ok-next.ensures.comes f (i.untouched.same ∙ is)) in
+    found_is f c.found.result l.list.items None c.found.ensures.list c.found.ensures.damaged
+    (read_all_of (seen l.list.items) l.records.at f None (omega (arith, size)) (omega (arith, size, i.ready.within c.requires.long)) (i.read f is) comes)
 
 pub returns-in-Torn-clause-found : goal.returns-in-Torn-clause-found
 returns-in-Torn-clause-found g c = λ f is.
-    let i = c.loop-window.invariant in
-    let w = i.walked f is in
-    let ends = subst (HeadIs (drop c.loop-window.at f)) c.in-Torn.is (c.in_ok-head_at.ensures.head f (i.untouched.same ∙ is)) in
-    found_is f c.found-in-Torn.result c.loop-window.list.items w.0 (Some c.loop-window.at) c.found-in-Torn.ensures.list c.found-in-Torn.ensures.damaged w.2
-    (walked_held w.0 c.loop-window.at f (Some c.loop-window.at) (omega (arith, c.requires.len f is)) (omega (arith, c.requires.len f is, i.within)) w.1 (refl, ends))
+    let l = c.loop-records in
+    let i = l.invariant in
+    let size = c.requires.len f is in
+    let comes = subst (ComesNext l.records.at c.next.new.self.at f) c.in-Torn.is (c.in_ok-next.ensures.comes f (i.untouched.same ∙ is)) in
+    let moves = subst (Moves l.records.at c.next.new.self.at) c.in-Torn.is c.in_ok-next.ensures.moves in
+    found_is f c.found-in-Torn.result l.list.items (Some c.in-Torn.offset) c.found-in-Torn.ensures.list c.found-in-Torn.ensures.damaged
+    (read_all_of (seen l.list.items) l.records.at f (Some c.in-Torn.offset) (omega (arith, size)) (omega (arith, size, i.ready.within c.requires.long)) (i.read f is) (moves.1, comes))
 
-pub loop-window-preserved : goal.loop-window-preserved
-loop-window-preserved g c =
+pub loop-records-preserved : goal.loop-records-preserved
+loop-records-preserved g c =
     let d = g.D.Disk in
-    let i = c.loop-window.invariant in
-    let e = c.in_ok-head_at.ensures in
-    let fits = subst (Fits (c.loop-window.window.len - c.loop-window.at)) c.in-Record.is e.fits in
+    let l = c.loop-records in
+    let i = l.invariant in
+    let p = c.in-Record.payload in
+    let moves = subst (Moves l.records.at c.next.new.self.at) c.in-Record.is c.in_ok-next.ensures.moves in
     record {
-      within = omega (arith, fits.0, c.from.ensures, i.within, i.len);
-      walked = λ f is.
-          let told = i.untouched.same ∙ is in
-          let w = i.walked f is in
-          let there = subst (HeadIs (drop c.loop-window.at f)) c.in-Record.is (e.head f told) in
-          let bytes = c.in_ok-bytes-in-Record.ensures.bytes f (c.head_at.ensures.untouched.same ∙ told) ∙ payload_read f there.0 c.loop-window.at c.in-Record.size there.1 there.2 in (
-            w.0 ++ there.0 ∷ [],
-            walked_more w.0 c.loop-window.at c.from.result f there.0 w.1 (there.1 ∙ sym c.from.ensures) there.2,
-            seen_push w.0 c.loop-window.at f there.0 c.loop-window.list.items c.push.new.self.items _ w.1 w.2 c.in_ok-push-in-Record.ensures.items refl bytes,
-          );
-      shows = c.read_part.ensures.shows;
-      len = c.read_part.ensures.len ∙ c.head_at.ensures.len ∙ i.len;
-      untouched = untouched_then d.content d.moment d.images d.images_since c.args.disk.now c.head_at.new.disk c.read_part.new.disk
-          (untouched_then d.content d.moment d.images d.images_since c.args.disk.now c.loop-window.disk c.head_at.new.disk i.untouched c.head_at.ensures.untouched)
-          c.read_part.ensures.untouched;
-      faults = omega (arith, c.head_at.ensures.later, c.read_part.ensures.later);
+      ready = subst (λ (n : ℕ). IsReady (d.content c.next.new.disk) n c.next.new.self.at c.next.new.self.window) i.ready.size c.next.ensures.ready;
+      read = λ f is.
+          let comes = subst (ComesNext l.records.at c.next.new.self.at f) c.in-Record.is (c.in_ok-next.ensures.comes f (i.untouched.same ∙ is)) in
+          subst (λ (r : List (ℕ × List ℕ)). IsRead r c.next.new.self.at f) (sym (seen_push l.list.items c.push.new.self.items p c.in_ok-push-in-Record.ensures.items))
+          (read_more (seen l.list.items) l.records.at c.next.new.self.at f p (omega (arith, c.requires.len f is)) (i.read f is) comes moves.1);
+      untouched = untouched_then d.content d.moment d.images d.images_since c.args.disk.now l.disk c.next.new.disk i.untouched c.next.ensures.untouched;
+      faults = omega (arith, c.next.ensures.later);
     }

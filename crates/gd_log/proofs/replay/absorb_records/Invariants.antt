@@ -1,7 +1,16 @@
-use Rattle.std.proofs.Common.{[], take}
+use Rattle.std.proofs.Common.{◌≡◌, ◌-◌, ◌≤◌, [], List, ℕ, Some}
+use Rattle.gd_bytes.specs.Disk.{IsUntouched}
+use Rattle.gd_journal.specs.Reading.{IsRead}
 use Rattle.gd_log.specs.Groups.{AreGroups}
 use Rattle.gd_log.specs.Opening.{bytes_of}
 use Rattle.gd_log.proofs.replay.absorb_records.Given as goal
 
-abbrev pub invariant-loop-payload : goal.invariant-loop-payload
-invariant-loop-payload l = AreGroups [] (bytes_of (take l.payload-index l.list)) l.store
+abbrev pub invariant-loop-opening : goal.invariant-loop-opening
+invariant-loop-opening g l = record {
+  read : (file : List ℕ) → g.D.Disk.content l.fn.opening.disk ≡ Some file → (read : List (ℕ × List ℕ)) × IsRead read l.opening.next file × AreGroups [] (bytes_of read) l.store;
+  untouched : IsUntouched g.D.Disk.content g.D.Disk.moment g.D.Disk.images g.D.Disk.images_since l.fn.opening.disk l.opening.disk;
+  faults : g.D.Disk.faults l.fn.opening.disk ≤ g.D.Disk.faults l.opening.disk;
+}
+
+abbrev pub decreases-loop-opening : goal.decreases-loop-opening
+decreases-loop-opening g l = l.opening.len - l.opening.next

@@ -1,10 +1,13 @@
-use Rattle.gd_log.proofs.Replays.{first_damage, no_damage}
+use Rattle.std.proofs.Common.{◌≡◌, ℕ, subst}
+use Rattle.std.specs.Prelude.{Option, MatchOption}
+use Rattle.gd_bytes.specs.File.{damaged, meaning}
+use Rattle.gd_log.specs.Opening.{Loads}
 use Rattle.gd_log.proofs.replay.replay.Goals as goal
 
-pub returns-in-Some : goal.returns-in-Some
-returns-in-Some c =
-    rw (← c.as_slice.ensures) (first_damage c.as_slice.result.now c.in_ok-bad.bad c.args.payloads.now.damaged c.or.result c.absorb_records.new.store c.in-Some.offset c.in_ok-bad.ensures c.or.ensures c.in-Some.is)
+pub returns-in-Some-clause-refused : goal.returns-in-Some-clause-refused
+returns-in-Some-clause-refused g c = λ f is.
+    subst (λ (o : Option ℕ). MatchOption o (Loads f c.absorb_records.new.store) (λ at. meaning f ≡ damaged at)) c.in-Some.is (c.in_ok-offset.ensures.taken f is)
 
-pub returns-in-None : goal.returns-in-None
-returns-in-None c =
-    rw (← c.as_slice.ensures) (no_damage c.as_slice.result.now c.in_ok-bad.bad c.args.payloads.now.damaged c.or.result c.absorb_records.new.store c.in_ok-bad.ensures c.or.ensures c.in-None.is)
+pub returns-in-None-clause-all : goal.returns-in-None-clause-all
+returns-in-None-clause-all g c = λ f is.
+    subst (λ (o : Option ℕ). MatchOption o (Loads f c.absorb_records.new.store) (λ at. meaning f ≡ damaged at)) c.in-None.is (c.in_ok-offset.ensures.taken f is)
