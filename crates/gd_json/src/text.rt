@@ -9,12 +9,22 @@ use gd_base::memory::Memory;
 use json::Writer;
 use std::alloc::Global;
 
+/// Room for a short text.
+const SHORT: usize = 128;
+
 /// The compact text of a value: no blanks, the members of an object in their order, and of the escapes only those
 /// that JSON asks for.
 pub fn json_text(alloc: Global, value: &Json) -> Result<Vec<u8>, Memory>
     ensures { IfOk result (λ text. text.items ≡ compact (view value.now)) }
 {
-    let mut out = Writer::new(Vec::new(alloc));
+    with_json(Vec::with_capacity(alloc, SHORT)?, value)
+}
+
+/// These bytes and, behind them, the compact text of a value. `Memory`: the bytes are let go.
+pub fn with_json(bytes: Vec<u8>, value: &Json) -> Result<Vec<u8>, Memory>
+    ensures { IfOk result (λ text. text.items ≡ bytes.items ++ compact (view value.now)) }
+{
+    let mut out = Writer::new(bytes);
     write(&mut out, value)?;
     Ok(out.into_inner())
 }

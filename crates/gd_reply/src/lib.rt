@@ -5,3 +5,4 @@ pub mod guid;
 pub mod lines;
 pub mod members;
 pub mod refusal;
+pub mod reply;

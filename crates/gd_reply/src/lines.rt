@@ -1,21 +1,25 @@
 //! Reply lines: one line of JSON, whose newline is not part of it.
-ghost use Rattle.std.specs.Prelude.{◌≡◌, ◌<◌, ◌^◌, ◌∷◌, ◌++◌, [], IfOk, OnOk, codes, map};
+ghost use Rattle.std.specs.Prelude.{◌≡◌, ◌<◌, ◌^◌, ◌∷◌, ◌++◌, [], IfOk, OnOk, codes, decimal, length, map};
 ghost use Rattle.gd_tree.specs.Json as tree;
 ghost use Rattle.gd_json.specs.View.{view, member_view, members_view};
 ghost use Rattle.gd_defs.specs.Lines as printed;
 ghost use Rattle.gd_defs.specs.Reply as reply;
-ghost use Rattle.gd_runs.specs.Explained as explained;
 ghost use Rattle.gd_reply.specs.Refusals.{refusal_of, CountsFit};
+ghost use Rattle.gd_reply.specs.Replies.{ok_front_of};
 
 use crate::members::{Members, object, push_count, push_member, push_text};
 use crate::refusal::{Refusal, error_name, info};
 use gd_base::memory::Memory;
-use gd_json::text::json_text;
+use gd_json::text::{json_text, with_json};
 use gd_json::value::Json;
+use itoa::Buffer;
 use std::alloc::Global;
 
 /// The greatest number of bytes of a reply line.
 const REPLY_LIMIT: usize = 1_048_576;
+
+/// Room for a short reply line.
+const SHORT_REPLY: usize = 256;
 
 /// The printed text of an object of these members.
 fn object_line(alloc: Global, members: Members) -> Result<Vec<u8>, Memory>
@@ -36,15 +40,48 @@ fn begun(alloc: Global, code: &str, dateline: u32) -> Result<Members, Memory>
     Ok(members)
 }
 
-/// The reply line of an answer: its dateline, the number of its line and the result.
-pub fn ok_line(alloc: Global, dateline: u32, line: u64, outcome: Json) -> Result<Vec<u8>, Memory>
-    requires { line < 2 ^ 63 }
-    ensures { IfOk result (λ bytes. bytes.items ≡ printed.ok_line dateline line (view outcome)) }
+/// The reply line of an answer, and how many of its bytes are the result's.
+#[derive(Drop)]
+pub struct OkLine {
+    pub bytes: Vec<u8>,
+    pub outcome: usize,
+}
+
+/// Appends a text and, behind it, a number in decimal digits.
+fn push_number(bytes: &mut Vec<u8>, front: &str, n: u64) -> Result<(), Memory>
+    ensures { OnOk result (bytes.new.items ≡ bytes.old.items ++ front.now ++ decimal n) }
 {
-    let mut members = begun(alloc, "/api/status/ok", dateline)?;
-    push_count(alloc, &mut members, "line", line)?;
-    push_member(alloc, &mut members, "result", outcome)?;
-    object_line(alloc, members)
+    bytes.extend_from_slice(front.as_bytes())?;
+    bytes.extend_from_slice(Buffer::new().format(n).as_bytes())?;
+    Ok(())
+}
+
+/// What stands before the result in the reply line of an answer.
+fn ok_front(alloc: Global, dateline: u32, line: u64) -> Result<Vec<u8>, Memory>
+    ensures { IfOk result (λ bytes. bytes.items ≡ ok_front_of dateline line) }
+{
+    let mut bytes = Vec::with_capacity(alloc, SHORT_REPLY)?;
+    push_number(
+        &mut bytes,
+        "{\"code\":\"/api/status/ok\",\"dateline\":",
+        u64::from(dateline),
+    )?;
+    push_number(&mut bytes, ",\"line\":", line)?;
+    bytes.extend_from_slice(b",\"result\":")?;
+    Ok(bytes)
+}
+
+/// The reply line of an answer: its dateline, the number of its line and the result.
+pub fn ok_line(alloc: Global, dateline: u32, line: u64, outcome: &Json) -> Result<OkLine, Memory>
+    ensures line { IfOk result (λ made. made.bytes.items ≡ printed.ok_line dateline line (view outcome.now)) }
+    ensures outcome { IfOk result (λ made. made.outcome ≡ length (tree.compact (view outcome.now))) }
+{
+    let front = ok_front(alloc, dateline, line)?;
+    let before = front.len();
+    let mut bytes = with_json(front, outcome)?;
+    let outcome = bytes.len() - before;
+    bytes.push(b'}')?;
+    Ok(OkLine { bytes, outcome })
 }
 
 /// Appends what each refusal tells: its name, its information and the number of its line.
@@ -113,12 +150,4 @@ pub fn within_reply(
     }
     let bytes = bytes.len() as u64;
     err_line(alloc, dateline, line, &Refusal::ReplyTooLarge { bytes })
-}
-
-/// The reply line to a line for which no memory is found. It is made before it may be needed.
-pub fn memory_line(alloc: Global, line: u64) -> Result<Vec<u8>, Memory>
-    requires { line < 2 ^ 63 }
-    ensures { IfOk result (λ bytes. bytes.items ≡ explained.memory_line line) }
-{
-    err_line_plain(alloc, line, &Refusal::Memory)
 }

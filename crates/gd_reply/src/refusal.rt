@@ -17,7 +17,7 @@ use gd_prim::What;
 use std::alloc::Global;
 
 /// Why a line is refused, with what its reply tells of it.
-#[derive(Debug, Drop)]
+#[derive(Drop)]
 pub enum Refusal {
     /// The line has more than 262,144 bytes.
     LineTooLong,

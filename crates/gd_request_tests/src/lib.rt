@@ -16,3 +16,5 @@ mod reply;
 mod resolve;
 #[cfg(test)]
 mod serving;
+#[cfg(test)]
+mod templates;

@@ -4,7 +4,7 @@ use gd_base::memory::Memory;
 use gd_json::value::Json;
 use gd_prim::What;
 use gd_reply::guid::guid;
-use gd_reply::lines::{err_line, err_line_plain, memory_line, ok_line, within_reply};
+use gd_reply::lines::{OkLine, err_line, err_line_plain, ok_line, within_reply};
 use gd_reply::refusal::Refusal;
 use std::alloc::Global;
 
@@ -34,11 +34,18 @@ fn prints_a_guid(rt: HostRuntime) {
     );
 }
 
+fn is_answer(line: Result<OkLine, Memory>, wanted: &[u8]) -> bool {
+    match line {
+        Ok(made) => made.bytes.as_slice() == wanted,
+        Err(_) => false,
+    }
+}
+
 #[test]
 fn prints_an_answer(rt: HostRuntime) {
-    let line = ok_line(rt.alloc(), 1, 0, Json::Null);
+    let line = ok_line(rt.alloc(), 1, 0, &Json::Null);
     assert!(rt;
-        is_line(
+        is_answer(
             line,
             b"{\"code\":\"/api/status/ok\",\"dateline\":1,\"line\":0,\"result\":null}"
         )
@@ -67,17 +74,6 @@ fn prints_a_refusal_without_a_dateline(rt: HostRuntime) {
         is_line(
             line,
             b"{\"code\":\"/api/status/error\",\"error\":\"LineTooLong\",\"info\":{},\"line\":2}"
-        )
-    );
-}
-
-#[test]
-fn prints_want_of_memory(rt: HostRuntime) {
-    let line = memory_line(rt.alloc(), 3);
-    assert!(rt;
-        is_line(
-            line,
-            b"{\"code\":\"/api/status/error\",\"error\":\"Memory\",\"info\":{},\"line\":3}"
         )
     );
 }

@@ -16,9 +16,17 @@ use Rattle.gd_input.specs.declared.line.RoundLine.{RoundLine}
 use Rattle.gd_input.specs.declared.line.RoundLine.TheVariants.{Bytes, TooLong}
 use Rattle.gd_input.specs.Line.{IsKept}
 use Rattle.gd_base.specs.declared.memory.Memory.{Memory}
-use Rattle.gd_serving.specs.Served.{Progress}
-use Rattle.gd_serving.specs.Step.{ComesTo, faulty, answered, line_now, AsksWrite}
+use Rattle.gd_reply.specs.declared.reply.Reply.{Reply}
+use Rattle.gd_reply.specs.Replies.{reply_text}
+use Rattle.gd_served_laws.specs.Served.{Progress}
+use Rattle.gd_served_laws.specs.Step.{ComesTo, faulty, answered, line_now, AsksWrite}
+use Rattle.gd_serving.specs.Judged.{made_of}
 use Rattle.gd_serving.proofs.Written.{above}
+
+-- what holds of a line that was made holds of it as a reply
+pub made_gives : (P : List ℕ → Type 0) (line : Result (Vec ℕ Global) Memory) (r : Result Reply Memory) → r ≡ made_of line → IfOk line (λ v. P v.items) → IfOk r (λ reply. P (reply_text reply))
+made_gives P (Ok v) r is holds = subst (λ (x : Result Reply Memory). IfOk x (λ reply. P (reply_text reply))) (sym is) holds
+made_gives P (Err e) r is holds = subst (λ (x : Result Reply Memory). IfOk x (λ reply. P (reply_text reply))) (sym is) tt
 
 pub kept_bytes : (line : RoundLine) (v : Vec ℕ Global) (items bytes : List ℕ) → line ≡ Bytes v → items ≡ v.items → IsKept 262_144 line bytes → items ≡ bytes
 kept_bytes line v items bytes is same kept = same ∙ (subst (λ (l : RoundLine). IsKept 262_144 l bytes) is kept).0

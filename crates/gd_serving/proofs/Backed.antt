@@ -10,8 +10,8 @@ use Rattle.gd_journal.specs.State.{Journaled}
 use Rattle.gd_journal.specs.declared.fault.JournalFault.{JournalFault}
 use Rattle.gd_journal.specs.declared.fault.JournalFault.TheVariants.{DiskFault, NotStore, Damaged, Memory}
 use Rattle.gd_log.specs.Stored.{Holds, groups_in_doubt, doubt_after}
-use Rattle.gd_serving.specs.Served.{Progress, Doubt}
-use Rattle.gd_serving.specs.Step.{Settles, no_doubt, counts, counts_not}
+use Rattle.gd_served_laws.specs.Served.{Progress, Doubt}
+use Rattle.gd_served_laws.specs.Step.{Settles, no_doubt, counts, counts_not}
 use Rattle.gd_serving.specs.Running.{Running, doubted_group, doubted_groups, HoldsRun, StandsForRun, StandsForEither}
 use Rattle.gd_serving.specs.Kept.{Backs}
 

@@ -1,32 +1,39 @@
 -- What a write comes to, by what its steps gave.
-use Rattle.std.proofs.Common.{◌≡◌, ◌≤◌, ◌<◌, ℕ, inr, codes, ◌+◌, List, length, Bool, true, false, nat_lt, Option, Some, None, Result, Ok, Err, IsErr, IfOk, IfSome, refl, ap, sym, subst, ◌∙◌, arith}
+use Rattle.std.proofs.Common.{◌≡◌, ◌≢◌, ◌≤◌, ◌<◌, ℕ, inr, codes, ◌+◌, List, length, Bool, true, false, nat_lt, Option, Some, None, Result, Ok, Err, IfSome, refl, ap, sym, subst, ◌∙◌, arith}
 use Rattle.std.proofs.lemmas.Bool.Decides.{nat_tests}
 use Rattle.gd_prim.specs.declared.Batch.{Batch}
 use Rattle.gd_prim.specs.declared.What.TheVariants as what
 use Rattle.gd_tree.specs.Json.{Json, compact}
-use Rattle.gd_defs.specs.Lines.{ok_line, err_line}
+use Rattle.gd_defs.specs.Lines.{err_line}
 use Rattle.gd_defs.specs.Write.{WriteRequest, ChangeFault, full}
 use Rattle.gd_runs.specs.Request.{write, change_refusal}
 use Rattle.gd_runs.specs.Legal.{kept_bytes}
-use Rattle.gd_runs.specs.Explained.{MayBe, disk_line}
+use Rattle.gd_runs.specs.Explained.{disk_line}
 use Rattle.gd_runs.specs.Built.{says_name}
 use Rattle.gd_prim.specs.History.{prims_of, prims_at}
 use Rattle.gd_json.specs.declared.value.Json.{Json as Value}
 use Rattle.gd_json.specs.View.{view}
 use Rattle.gd_change.specs.declared.fault.ChangeFault.{ChangeFault as Fault}
 use Rattle.gd_change.specs.Fault.{GivesChange, fault_of}
-use Rattle.gd_serving.specs.Served.{Progress}
-use Rattle.gd_serving.specs.Step.{ComesTo, refused, too_long, stored, in_doubt, not_tried, Settles, MaySettle, AsksWrite, line_now, exec_now, kept_with, with_batch, doubtful}
+use Rattle.gd_served_laws.specs.Served.{Progress}
+use Rattle.gd_served_laws.specs.Step.{ComesTo, refused, too_long, stored, in_doubt, not_tried, Settles, MaySettle, AsksWrite, line_now, exec_now, kept_with, with_batch, doubtful}
+use Rattle.gd_runs.specs.Explained.{tells_fault}
+use Rattle.gd_serving.specs.declared.serving.Storable.{Storable}
+use Rattle.gd_serving.specs.Judged.{IsRefused, ComesAs}
 use Rattle.gd_serving.proofs.Says.{says_at}
 
+-- what the line asks over the store as it is
+pub asked_now : (p : Progress) (line : List ℕ) (sid : ℕ) (w : WriteRequest) → AsksWrite line sid w → says_name (prims_of p.batches) ≡ true → line_now p line ≡ Ok (write sid w)
+asked_now p line sid w asks says = asks (prims_at p.batches (length p.batches)) (says_at p.batches says)
+
 -- a refusal of what the write asks; without one nothing is given
-pub refused_comes : {V E : Type 0} (bytes_of : V → List ℕ) (may : ℕ → Bool) (b p : Progress) (line : List ℕ) (sid : ℕ) (w : WriteRequest) (moment : ℕ) (r : Result V E) (fault : Option ChangeFault)
-    → Settles b p → line_now p line ≡ Ok (write sid w) → IfSome fault (λ f. exec_now p w moment ≡ Err f)
-    → IfOk r (λ reply. IfSome fault (λ f. bytes_of reply ≡ err_line (length p.batches) p.lines (change_refusal f))) → (fault ≡ None → IsErr r)
-    → IfOk r (λ reply. ComesTo may b line (bytes_of reply) p)
-refused_comes bytes_of may b p line sid w moment (Err e) fault settled is does prints none = tt
-refused_comes bytes_of may b p line sid w moment (Ok reply) None settled is does prints none = cc (none refl)
-refused_comes bytes_of may b p line sid w moment (Ok reply) (Some f) settled is does prints none = refused p sid w moment f settled is does prints refl
+pub refused_comes : (p : Progress) (bytes : ℕ) (w : WriteRequest) (moment : ℕ) (reply : List ℕ) (fault : Option ChangeFault) → says_name (prims_of p.batches) ≡ true
+    → IfSome fault (λ f. exec_now p w moment ≡ Err f) → IfSome fault (λ f. reply ≡ err_line (length p.batches) p.lines (change_refusal f)) → fault ≢ None → IsRefused p bytes w reply
+refused_comes p bytes w moment reply None says does prints none = absurd (none refl)
+refused_comes p bytes w moment reply (Some f) says does prints none = record {
+  comes = λ may b line settled (sid, long, asks). refused p sid w moment f settled (asked_now p line sid w asks says) does prints refl;
+  quiet = λ k. ap (tells_fault k) prints;
+}
 
 -- what a call that gave a batch and a result says of the write
 pub done_is : (expected : Result (Batch × Json) ChangeFault) (r : Result (Batch × Value) Fault) (done : Batch × Value) → r ≡ Ok done → GivesChange expected r → expected ≡ Ok (done.0, view done.1)
@@ -46,46 +53,36 @@ kept_is : (p : Progress) (line : List ℕ) (result : Json) (bytes kept : ℕ) �
 kept_is p line result bytes kept long is = omega (arith, long, is)
 
 -- a history that would grow too long
-pub full_comes : {V E : Type 0} (bytes_of : V → List ℕ) (may : ℕ → Bool) (b p : Progress) (line : List ℕ) (sid : ℕ) (w : WriteRequest) (moment bytes kept n : ℕ) (done : Batch × Json) (r : Result V E)
-    → Settles b p → line_now p line ≡ Ok (write sid w) → exec_now p w moment ≡ Ok done → length line ≡ bytes → kept ≡ bytes + length (compact done.1) → n ≡ p.kept + kept → 134_217_728 < n
-    → IfOk r (λ reply. bytes_of reply ≡ err_line (length p.batches) p.lines (change_refusal (full what.History n)))
-    → IfOk r (λ reply. ComesTo may b line (bytes_of reply) p)
-full_comes bytes_of may b p line sid w moment bytes kept n done (Err e) settled is does long sum count over prints = tt
-full_comes bytes_of may b p line sid w moment bytes kept n done (Ok reply) settled is does long sum count over prints =
-    let same : kept_with p line done.1 ≡ n = ap (λ k. p.kept + k) (kept_is p line done.1 bytes kept long sum) ∙ sym count in
-    too_long p sid w moment done settled is does (ap (nat_lt 134_217_728) same ∙ above 134_217_728 n over)
-    (prints ∙ ap (λ k. err_line (length p.batches) p.lines (change_refusal (full what.History k))) (sym same)) refl
+pub full_comes : (p : Progress) (bytes : ℕ) (w : WriteRequest) (moment kept n : ℕ) (done : Batch × Json) (reply : List ℕ) → says_name (prims_of p.batches) ≡ true
+    → exec_now p w moment ≡ Ok done → kept ≡ bytes + length (compact done.1) → n ≡ p.kept + kept → 134_217_728 < n
+    → reply ≡ err_line (length p.batches) p.lines (change_refusal (full what.History n)) → IsRefused p bytes w reply
+full_comes p bytes w moment kept n done reply says does sum count over prints = record {
+  comes = λ may b line settled (sid, long, asks).
+      let same : kept_with p line done.1 ≡ n = ap (λ k. p.kept + k) (kept_is p line done.1 bytes kept long sum) ∙ sym count in
+      too_long p sid w moment done settled (asked_now p line sid w asks says) does (ap (nat_lt 134_217_728) same ∙ above 134_217_728 n over)
+      (prints ∙ ap (λ k. err_line (length p.batches) p.lines (change_refusal (full what.History k))) (sym same)) refl;
+  quiet = λ k. ap (tells_fault k) prints;
+}
 
 -- a write that is stored
-pub stored_comes : (may : ℕ → Bool) (b p q : Progress) (line : List ℕ) (sid : ℕ) (w : WriteRequest) (moment bytes kept n : ℕ) (done : Batch × Json) (reply : List ℕ)
-    → Settles b p → line_now p line ≡ Ok (write sid w) → exec_now p w moment ≡ Ok done → length line ≡ bytes → kept ≡ bytes + length (compact done.1) → n ≡ p.kept + kept → n ≤ 134_217_728
-    → MayBe may moment → reply ≡ ok_line (length p.batches + 1) p.lines done.1 → q ≡ with_batch p done.0 (p.kept + kept)
-    → ComesTo may b line reply q
-stored_comes may b p q line sid w moment bytes kept n done reply settled is does long sum count under may_be prints leaves =
-    let same : kept_with p line done.1 ≡ p.kept + kept = ap (λ k. p.kept + k) (kept_is p line done.1 bytes kept long sum) in
-    stored p sid w moment done settled is does (ap (nat_lt 134_217_728) (same ∙ sym count) ∙ within 134_217_728 n under) may_be prints
-    (leaves ∙ ap (with_batch p done.0) (sym same))
+pub stored_comes : (p q : Progress) (s : Storable) → says_name (prims_of p.batches) ≡ true → q ≡ with_batch p s.write.batch (p.kept + s.write.kept) → ComesAs p s q s.stored.items
+stored_comes p q s says leaves bytes w moment is may may_be b line settled (sid, long, asks) =
+    let same : kept_with p line is.outcome ≡ p.kept + s.write.kept = ap (λ k. p.kept + k) (kept_is p line is.outcome bytes s.write.kept long is.kept) in
+    stored p sid w moment (s.write.batch, is.outcome) settled (asked_now p line sid w asks says) is.does (ap (nat_lt 134_217_728) same ∙ within 134_217_728 (p.kept + s.write.kept) is.room) may_be is.stored
+    (leaves ∙ ap (with_batch p s.write.batch) (sym same))
 
 -- a write that is in doubt
-pub doubtful_comes : (may : ℕ → Bool) (b p q : Progress) (line : List ℕ) (sid : ℕ) (w : WriteRequest) (moment bytes kept n : ℕ) (done : Batch × Json) (reply : List ℕ)
-    → Settles b p → line_now p line ≡ Ok (write sid w) → exec_now p w moment ≡ Ok done → length line ≡ bytes → kept ≡ bytes + length (compact done.1) → n ≡ p.kept + kept → n ≤ 134_217_728
-    → MayBe may moment → reply ≡ disk_line p.lines (codes "maybe") → q ≡ doubtful p done.0 kept
-    → ComesTo may b line reply q
-doubtful_comes may b p q line sid w moment bytes kept n done reply settled is does long sum count under may_be prints leaves =
-    let own = kept_is p line done.1 bytes kept long sum in
-    let same : kept_with p line done.1 ≡ p.kept + kept = ap (λ k. p.kept + k) own in
-    in_doubt p sid w moment done settled is does (ap (nat_lt 134_217_728) (same ∙ sym count) ∙ within 134_217_728 n under) may_be prints
-    (leaves ∙ ap (doubtful p done.0) (sym own))
-
--- what the line asks over the store as it is
-pub asked_now : (p : Progress) (line : List ℕ) (sid : ℕ) (w : WriteRequest) → AsksWrite line sid w → says_name (prims_of p.batches) ≡ true → line_now p line ≡ Ok (write sid w)
-asked_now p line sid w asks says = asks (prims_at p.batches (length p.batches)) (says_at p.batches says)
+pub doubtful_comes : (p q : Progress) (s : Storable) (reply : List ℕ) → says_name (prims_of p.batches) ≡ true → reply ≡ disk_line p.lines (codes "maybe") → q ≡ doubtful p s.write.batch s.write.kept → ComesAs p s q reply
+doubtful_comes p q s reply says prints leaves bytes w moment is may may_be b line settled (sid, long, asks) =
+    let own = kept_is p line is.outcome bytes s.write.kept long is.kept in
+    let same : kept_with p line is.outcome ≡ p.kept + s.write.kept = ap (λ k. p.kept + k) own in
+    in_doubt p sid w moment (s.write.batch, is.outcome) settled (asked_now p line sid w asks says) is.does (ap (nat_lt 134_217_728) same ∙ within 134_217_728 (p.kept + s.write.kept) is.room) may_be prints
+    (leaves ∙ ap (doubtful p s.write.batch) (sym own))
 
 -- a write that is not tried
-pub not_tried_comes : {V E : Type 0} (bytes_of : V → List ℕ) (may : ℕ → Bool) (p q : Progress) (line : List ℕ) (sid : ℕ) (w : WriteRequest) (r : Result V E) → AsksWrite line sid w → says_name (prims_of p.batches) ≡ true → q ≡ p
-    → IfOk r (λ reply. bytes_of reply ≡ disk_line q.lines (codes "no")) → IfOk r (λ reply. ComesTo may p line (bytes_of reply) q)
-not_tried_comes bytes_of may p q line sid w (Err e) asks says same prints = tt
-not_tried_comes bytes_of may p q line sid w (Ok reply) asks says same prints =
+pub not_tried_comes : (may : ℕ → Bool) (p q : Progress) (line : List ℕ) (sid : ℕ) (w : WriteRequest) (reply : List ℕ) → AsksWrite line sid w → says_name (prims_of p.batches) ≡ true → q ≡ p
+    → reply ≡ disk_line q.lines (codes "no") → ComesTo may p line reply q
+not_tried_comes may p q line sid w reply asks says same prints =
     not_tried sid w (asked_now p line sid w asks says) (prints ∙ ap (λ (x : Progress). disk_line x.lines (codes "no")) same) same
 
 -- what stays as a doubt ended stays so

@@ -3,8 +3,8 @@ use Rattle.std.specs.Prelude.{ℕ, ◌+◌, ◌≤◌, List, Option, Result, Ok,
 use Rattle.gd_bytes.specs.Disk.{LeavesOnly}
 use Rattle.gd_journal.specs.declared.fault.JournalFault.{JournalFault}
 use Rattle.gd_journal.specs.declared.fault.JournalFault.TheVariants.{DiskFault}
-use Rattle.gd_serving.specs.Served.{Progress, Doubt}
-use Rattle.gd_serving.specs.Step.{with_batch, doubtful}
+use Rattle.gd_served_laws.specs.Served.{Progress, Doubt}
+use Rattle.gd_served_laws.specs.Step.{with_batch, doubtful}
 use Rattle.gd_serving.specs.Running.{Running, IsBacked, StandsForEither}
 
 -- What the disk holds stays what the run has, a stop leaves what it had before or has after it, and the count of faults does not fall.

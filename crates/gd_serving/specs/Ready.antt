@@ -5,7 +5,7 @@ use Rattle.gd_prim.specs.History.{prims_of}
 use Rattle.gd_log.specs.Stored.{MayAppend}
 use Rattle.gd_runs.specs.Legal.{max_history}
 use Rattle.gd_runs.specs.Built.{says_name}
-use Rattle.gd_serving.specs.Served.{Doubt}
+use Rattle.gd_served_laws.specs.Served.{Doubt}
 
 -- The batch in doubt may be appended to these, says of the property `name` what they say, and the history has room for its bytes.
 pub record IsReadyDoubt (bs : List Batch) (kept : ℕ) (d : Doubt) : Type 0 where

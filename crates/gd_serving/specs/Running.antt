@@ -4,7 +4,7 @@ use Rattle.gd_prim.specs.declared.Batch.{Batch}
 use Rattle.gd_bytes.specs.File.{MayStandFor}
 use Rattle.gd_journal.specs.State.{Journaled}
 use Rattle.gd_log.specs.Stored.{Holds, groups_in_doubt}
-use Rattle.gd_serving.specs.Served.{Progress, Doubt}
+use Rattle.gd_served_laws.specs.Served.{Progress, Doubt}
 
 -- how far the run is, and its log
 pub record Running (D : Type 0) : Type 0 where

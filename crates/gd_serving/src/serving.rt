@@ -9,24 +9,25 @@ ghost use Rattle.gd_prim.specs.WellFormed.{bad_place, max_moment};
 ghost use Rattle.gd_tree.specs.Json.{compact};
 ghost use Rattle.gd_json.specs.View.{view};
 ghost use Rattle.gd_defs.specs.Lines.{ok_line as ok_line_of, err_line as err_line_of};
-ghost use Rattle.gd_defs.specs.Write.{full};
+ghost use Rattle.gd_defs.specs.Write.{full, WriteRequest as WriteRequestOf};
 ghost use Rattle.gd_bytes.specs.Disk.{LeavesOnly};
 ghost use Rattle.gd_journal.specs.Causes.{HasReason};
 ghost use Rattle.gd_log.specs.Stored.{MayAppend};
 ghost use Rattle.gd_runs.specs.Request.{reply_of, change_refusal};
 ghost use Rattle.gd_runs.specs.Input.{line_at, input_fault_line, line_too_long};
-ghost use Rattle.gd_runs.specs.Explained.{MayBe, tells_fault, disk_line as disk_line_of, memory_line as memory_line_of};
+ghost use Rattle.gd_runs.specs.Explained.{MayBe, tells_fault};
 ghost use Rattle.gd_runs.specs.Built.{is_built, line_asked, says_name as says_name_of, form_request, create_request};
 ghost use Rattle.gd_mql.specs.Line.{ask_view, GivesLine, fault_view, line_view};
 ghost use Rattle.gd_change.specs.Fault.{GivesChange, fault_of, IsSmall};
 ghost use Rattle.gd_input.specs.Line.{IsKept, IsShort};
-ghost use Rattle.gd_serving.specs.Served.{Progress, GoesOn, Grows, IsServed};
-ghost use Rattle.gd_serving.specs.Step.{Settles, MaySettle, AsksIn, exec_now, line_now};
+ghost use Rattle.gd_served_laws.specs.Served.{Progress, GoesOn, Grows, IsServed};
+ghost use Rattle.gd_served_laws.specs.Step.{Settles, MaySettle, AsksIn, exec_now, line_now};
 ghost use Rattle.gd_serving.specs.Running.{IsBacked, StandsForEither};
 ghost use Rattle.gd_serving.specs.Kept.{Backs, appended};
 ghost use Rattle.gd_serving.specs.Replies.{Replies};
+ghost use Rattle.gd_serving.specs.Judged.{made_of, IsJudged, IsStorable, ComesAs};
+ghost use Rattle.gd_reply.specs.Replies.{reply_text, failure_line};
 
-use crate::fault_line::{maybe_stored, not_stored};
 use gd_base::memory::Memory;
 use gd_base::steps::Steps;
 use gd_change::fault::ChangeFault;
@@ -34,7 +35,6 @@ use gd_change::write::evaluate;
 use gd_disk::disk::Disk;
 use gd_input::line::RoundLine;
 use gd_journal::fault::JournalFault;
-use gd_json::text::json_text;
 use gd_json::value::Json;
 use gd_log::log::Log;
 use gd_log::stored::StoredLog;
@@ -43,8 +43,9 @@ use gd_mql::line::{Line, ReadRequest, WriteRequest, line_from};
 use gd_outside::clock::Clock;
 use gd_prim::{Batch, What};
 use gd_read::reply::reply as reply_to;
-use gd_reply::lines::{err_line, err_line_plain, memory_line, ok_line};
+use gd_reply::lines::{err_line, err_line_plain, ok_line};
 use gd_reply::refusal::Refusal;
+use gd_reply::reply::{Failure, Reply};
 use gd_resolve::property::says_name;
 use gd_store::store::Store;
 use std::alloc::Global;
@@ -70,6 +71,20 @@ struct Pending {
     kept: u64,
 }
 
+/// A write that may be stored next, and the reply line that says that it is.
+#[derive(Drop)]
+struct Storable {
+    write: Pending,
+    stored: Vec<u8>,
+}
+
+/// What a write comes to over the store as it is: it is refused with this reply line, or it may be stored.
+#[derive(Drop)]
+enum Verdict {
+    Refused(Vec<u8>),
+    Storable(Storable),
+}
+
 /// A run over the log of a disk with its store, the write that is in doubt, the number of the next line, and the bytes of
 /// the stored lines and their results. Contracts see how far the run is, and its log.
 #[derive(Drop)]
@@ -83,7 +98,7 @@ pub struct Serving<D: Disk> {
 
 impl<D: Disk> Model for Serving<D> {
     ghost use Rattle.std.specs.Prelude.{option_map};
-    ghost use Rattle.gd_serving.specs.Served.{Progress, Doubt};
+    ghost use Rattle.gd_served_laws.specs.Served.{Progress, Doubt};
     ghost use Rattle.gd_serving.specs.Running.{Running};
     ghost use Rattle.gd_serving.specs.Ready.{IsReady};
 
@@ -112,16 +127,26 @@ fn moment<C: Clock>(clock: &mut C) -> u64
     clock.now_ms().min(LAST_MOMENT)
 }
 
-/// How many bytes the compact text of a value has. More than 2^40 bytes count as want of memory.
-fn text_len(alloc: Global, value: &Json) -> Result<u64, Memory>
-    ensures len { IfOk result (λ len. len ≡ length (compact (view value.now))) }
-    ensures bound { IfOk result (λ len. len ≤ 2 ^ 40) }
+/// How many bytes a line and its result have. A result of more than 2^40 bytes counts as want of memory.
+fn bytes_with(line: usize, outcome: usize) -> Result<u64, Memory>
+    requires { line ≤ 262_144 }
+    ensures sum { IfOk result (λ kept. kept ≡ line + outcome) }
+    ensures bound { IfOk result (λ kept. kept < 2 ^ 62) }
 {
-    let len = json_text(alloc, value)?.len() as u64;
-    if len > TEXT_LIMIT {
+    if outcome as u64 > TEXT_LIMIT {
         return Err(Memory);
     }
-    Ok(len)
+    Ok(line as u64 + outcome as u64)
+}
+
+/// A line that was made, as a reply.
+fn made(line: Result<Vec<u8>, Memory>) -> Result<Reply, Memory>
+    ensures { result ≡ made_of line }
+{
+    match line {
+        Ok(bytes) => Ok(Reply::Line(bytes)),
+        Err(fault) => Err(fault),
+    }
 }
 
 /// The bytes of a write, where it counts.
@@ -173,24 +198,17 @@ impl<D: Disk> Serving<D> {
     }
 
     /// Answers the next line, and goes on to the one after it: gives its reply, or, where no memory is found for that,
-    /// the reply line that says so. `Memory`: none was found for that line either, and neither the run nor the disk has
-    /// changed.
+    /// the reply that says so, which takes none.
     ///
     /// A write first ends an earlier doubt; where the disk fails then, it is not tried, and says `DiskFault` with `no`.
     /// Where the disk fails while it is appended, it says `DiskFault` with `maybe`, and is in doubt from then on.
-    pub fn answer<C: Clock>(
-        &mut self,
-        alloc: Global,
-        clock: &mut C,
-        line: &RoundLine,
-    ) -> Result<Vec<u8>, Memory>
+    pub fn answer<C: Clock>(&mut self, alloc: Global, clock: &mut C, line: &RoundLine) -> Reply
         requires lines { self.old.progress.lines < 2 ^ 63 }
         requires short { IsShort line.now }
         ensures served { (bytes : List ℕ) → IsKept 262_144 line.now bytes
-            → IfOk result (λ reply. GoesOn (C.may clock.old) self.old.progress self.new.progress (bytes ∷ []) (reply.items ++ 10 ∷ [])) }
-        ensures next { OnOk result (self.new.progress.lines ≡ self.old.progress.lines + 1) }
+            → GoesOn (C.may clock.old) self.old.progress self.new.progress (bytes ∷ []) (reply_text result ++ 10 ∷ []) }
+        ensures next { self.new.progress.lines ≡ self.old.progress.lines + 1 }
         ensures grows { Grows self.old.progress.batches self.new.progress.batches }
-        ensures err { OnErr result (self.new ≡ self.old) }
 
         // What the disk holds stays what the run has; a stop during the call leaves what it had before or has after it,
         // with all or none of a write in doubt.
@@ -200,15 +218,15 @@ impl<D: Disk> Serving<D> {
             (StandsForEither self.old.progress self.new.progress) }
 
         // The reply tells a failure of the disk only where the disk's count rose in this call.
-        ensures fault { IfOk result (λ reply. tells_fault self.old.progress.lines reply.items ≡ true
-            → Rose (D.faults self.old.log.disk) (D.faults self.new.log.disk)) }
+        ensures fault { tells_fault self.old.progress.lines (reply_text result) ≡ true
+            → Rose (D.faults self.old.log.disk) (D.faults self.new.log.disk) }
         ensures later { D.faults self.old.log.disk ≤ D.faults self.new.log.disk }
         ensures same { C.may clock.new ≡ C.may clock.old }
     {
-        let fallback = self.memory_reply(alloc)?;
+        let fallback = self.failed(Failure::NoMemory);
         let reply = self.reply(alloc, clock, line).unwrap_or(fallback);
         self.next_line();
-        Ok(reply)
+        reply
     }
 
     /// The disk. It takes no memory, and leaves the file as it is.
@@ -248,7 +266,7 @@ impl<D: Disk> Serving<D> {
         alloc: Global,
         clock: &mut C,
         line: &RoundLine,
-    ) -> Result<Vec<u8>, Memory>
+    ) -> Result<Reply, Memory>
         requires lines { self.old.progress.lines < 2 ^ 63 }
         requires short { IsShort line.now }
         ensures { Replies D.content D.moment D.images D.images_since D.faults (IsKept 262_144 line.now)
@@ -256,13 +274,13 @@ impl<D: Disk> Serving<D> {
             (MaySettle self.old.progress self.new.progress) result }
     {
         let bytes = match line {
-            RoundLine::TooLong => return self.too_long_reply(alloc),
+            RoundLine::TooLong => return made(self.too_long_reply(alloc)),
             RoundLine::Bytes(bytes) => bytes.as_slice(),
         };
         match self.line_here(alloc, bytes) {
-            Ok(Line::Read { request, .. }) => self.read(alloc, &request),
+            Ok(Line::Read { request, .. }) => made(self.read(alloc, &request)),
             Ok(Line::Write { request, .. }) => self.write(alloc, clock, &request, bytes.len()),
-            Err(fault) => self.fault_reply(alloc, fault),
+            Err(fault) => made(self.fault_reply(alloc, fault)),
         }
     }
 
@@ -283,12 +301,14 @@ impl<D: Disk> Serving<D> {
         }
     }
 
-    /// The reply to a line for which no memory is found.
-    fn memory_reply(&self, alloc: Global) -> Result<Vec<u8>, Memory>
-        requires { self.now.progress.lines < 2 ^ 63 }
-        ensures { IfOk result (λ reply. reply.items ≡ memory_line_of self.now.progress.lines) }
+    /// The reply that tells a failure at the next line.
+    fn failed(&self, failure: Failure) -> Reply
+        ensures text { reply_text result ≡ failure_line failure self.now.progress.lines }
     {
-        memory_line(alloc, self.lines)
+        Reply::Failed {
+            failure,
+            line: self.lines,
+        }
     }
 
     /// The reply to a line that has too many bytes.
@@ -377,7 +397,7 @@ impl<D: Disk> Serving<D> {
         clock: &mut C,
         request: &WriteRequest,
         bytes: usize,
-    ) -> Result<Vec<u8>, Memory>
+    ) -> Result<Reply, Memory>
         requires lines { self.old.progress.lines < 2 ^ 63 }
         requires says { says_name_of (prims_of self.old.progress.batches) ≡ true }
         requires bytes { bytes ≤ 262_144 }
@@ -388,7 +408,7 @@ impl<D: Disk> Serving<D> {
     {
         match self.end_doubt() {
             Ok(()) => self.change(alloc, clock, request, bytes),
-            Err(JournalFault::DiskFault) => self.untried_reply(alloc),
+            Err(JournalFault::DiskFault) => Ok(self.failed(Failure::NotStored)),
             Err(_) => Err(Memory),
         }
     }
@@ -419,7 +439,7 @@ impl<D: Disk> Serving<D> {
         clock: &mut C,
         request: &WriteRequest,
         bytes: usize,
-    ) -> Result<Vec<u8>, Memory>
+    ) -> Result<Reply, Memory>
         requires lines { self.old.progress.lines < 2 ^ 63 }
         requires no_doubt { self.old.progress.doubt ≡ None }
         requires says { says_name_of (prims_of self.old.progress.batches) ≡ true }
@@ -431,22 +451,96 @@ impl<D: Disk> Serving<D> {
             (self.new.progress ≡ self.old.progress) result }
     {
         let moment = moment(clock);
-        let (batch, answer) = match self.evaluate(alloc, request, moment) {
-            Ok(done) => done,
-            Err(fault) => return self.change_reply(alloc, fault),
-        };
-        let kept = bytes as u64 + text_len(alloc, &answer)?;
+        match self.judge(alloc, request, moment, bytes)? {
+            Verdict::Refused(reply) => Ok(Reply::Line(reply)),
+            Verdict::Storable(next) => self.store_next(alloc, next),
+        }
+    }
+
+    /// What a write comes to over the store as it is, at a moment. `bytes` is the length of its line.
+    fn judge(
+        &self,
+        alloc: Global,
+        request: &WriteRequest,
+        moment: u64,
+        bytes: usize,
+    ) -> Result<Verdict, Memory>
+        requires lines { self.now.progress.lines < 2 ^ 63 }
+        requires says { says_name_of (prims_of self.now.progress.batches) ≡ true }
+        requires moment { moment ≤ LAST_MOMENT }
+        requires bytes { bytes ≤ 262_144 }
+        ensures { IfOk result (IsJudged self.now.progress bytes
+            (create_request request.now.asks_guid request.now.name) moment) }
+    {
+        match self.evaluate(alloc, request, moment) {
+            Ok((batch, answer)) => self.judge_done(alloc, batch, &answer, bytes),
+            Err(fault) => Ok(Verdict::Refused(self.change_reply(alloc, fault)?)),
+        }
+    }
+
+    /// What a write comes to whose batch and result these are: it may be stored, or the history would grow too long.
+    fn judge_done(
+        &self,
+        alloc: Global,
+        batch: Batch,
+        answer: &Json,
+        bytes: usize,
+    ) -> Result<Verdict, Memory>
+        requires lines { self.now.progress.lines < 2 ^ 63 }
+        requires bytes { bytes ≤ 262_144 }
+        requires may { MayAppend self.now.progress.batches (batch ∷ []) }
+        requires says { says_name_of (prims_of (self.now.progress.batches ++ batch ∷ []))
+            ≡ says_name_of (prims_of self.now.progress.batches) }
+        ensures { (w : WriteRequestOf) (moment : ℕ) → says_name_of (prims_of self.now.progress.batches) ≡ true
+            → exec_now self.now.progress w moment ≡ Ok (batch, view answer.now)
+            → IfOk result (IsJudged self.now.progress bytes w moment) }
+    {
+        let (stored, kept) = self.stored_line(alloc, answer, bytes)?;
         let count = self.count_with(kept);
         if count > HISTORY_LIMIT {
-            return self.full_reply(alloc, count);
+            return Ok(Verdict::Refused(self.full_reply(alloc, count)?));
         }
+        Ok(Verdict::Storable(Storable {
+            write: Pending { batch, kept },
+            stored,
+        }))
+    }
 
-        // After the append no memory may be wanting.
-        let stored = self.stored_reply(alloc, answer)?;
-        let in_doubt = self.maybe_reply(alloc)?;
-        match self.append(alloc, Pending { batch, kept }) {
-            Ok(()) => Ok(stored),
-            Err(JournalFault::DiskFault) => Ok(in_doubt),
+    /// The reply line of a write that is stored next, and how many bytes its line and its result have.
+    fn stored_line(
+        &self,
+        alloc: Global,
+        answer: &Json,
+        bytes: usize,
+    ) -> Result<(Vec<u8>, u64), Memory>
+        requires { bytes ≤ 262_144 }
+        ensures line { IfOk result (λ made. made.0.items ≡ ok_line_of (length self.now.progress.batches + 1)
+            self.now.progress.lines (view answer.now)) }
+        ensures kept { IfOk result (λ made. made.1 ≡ bytes + length (compact (view answer.now))) }
+        ensures bound { IfOk result (λ made. made.1 < 2 ^ 62) }
+    {
+        let line = ok_line(alloc, self.store().requests() + 1, self.lines, answer)?;
+        let kept = bytes_with(bytes, line.outcome)?;
+        Ok((line.bytes, kept))
+    }
+
+    /// Stores a write that may be stored, and gives its reply. No memory is needed once it is on the disk. `Memory`:
+    /// nothing was stored.
+    fn store_next(&mut self, alloc: Global, next: Storable) -> Result<Reply, Memory>
+        requires storable { (bytes : ℕ) × (w : WriteRequestOf) × (moment : ℕ)
+            × IsStorable self.old.progress bytes w moment next }
+        requires says { says_name_of (prims_of self.old.progress.batches) ≡ true }
+        requires no_doubt { self.old.progress.doubt ≡ None }
+        ensures comes { IfOk result (λ reply. ComesAs self.old.progress next self.new.progress (reply_text reply)) }
+        ensures err { OnErr result (self.new.progress ≡ self.old.progress) }
+        ensures line { self.new.progress.lines ≡ self.old.progress.lines }
+        ensures backs { Backs D.content D.moment D.images D.images_since D.faults self.old self.new }
+        ensures fault { IfOk result (λ reply. tells_fault self.old.progress.lines (reply_text reply) ≡ true
+            → Rose (D.faults self.old.log.disk) (D.faults self.new.log.disk)) }
+    {
+        match self.append(alloc, next.write) {
+            Ok(()) => Ok(Reply::Line(next.stored)),
+            Err(JournalFault::DiskFault) => Ok(self.failed(Failure::MaybeStored)),
             Err(_) => Err(Memory),
         }
     }
@@ -480,29 +574,6 @@ impl<D: Disk> Serving<D> {
         ensures small { result < 2 ^ 63 }
     {
         self.kept + kept
-    }
-
-    /// The reply to a write that is stored next, with its result.
-    fn stored_reply(&self, alloc: Global, answer: Json) -> Result<Vec<u8>, Memory>
-        requires { self.now.progress.lines < 2 ^ 63 }
-        ensures { IfOk result (λ reply. reply.items ≡ ok_line_of (length self.now.progress.batches + 1)
-            self.now.progress.lines (view answer)) }
-    {
-        ok_line(alloc, self.store().requests() + 1, self.lines, answer)
-    }
-
-    /// The reply to a write at which the disk failed, and which may be stored.
-    fn maybe_reply(&self, alloc: Global) -> Result<Vec<u8>, Memory>
-        ensures { IfOk result (λ reply. reply.items ≡ disk_line_of self.now.progress.lines (codes "maybe")) }
-    {
-        maybe_stored(alloc, self.lines)
-    }
-
-    /// The reply to a write that is not tried, since the disk failed before.
-    fn untried_reply(&self, alloc: Global) -> Result<Vec<u8>, Memory>
-        ensures { IfOk result (λ reply. reply.items ≡ disk_line_of self.now.progress.lines (codes "no")) }
-    {
-        not_stored(alloc, self.lines)
     }
 
     /// Stores a write. `DiskFault`: the disk failed, and the write is in doubt. Any other error: nothing was stored.

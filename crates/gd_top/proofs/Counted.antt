@@ -3,9 +3,9 @@ use Rattle.std.proofs.Common.{◌≡◌, ℕ, ◌+◌, ◌≤◌, Bool, true, fa
 use Rattle.std.proofs.lemmas.Grind.{flat_map-append}
 use Rattle.gd_base.specs.Counts.{Rose}
 use Rattle.gd_runs.specs.Explained.{memory_line, tells_fault, fault_count}
-use Rattle.gd_serving.specs.Served.{Progress}
-use Rattle.gd_serving.proofs.Steps.{next}
-use Rattle.gd_serving.proofs.Going.{memory_lines, after}
+use Rattle.gd_served_laws.specs.Served.{Progress}
+use Rattle.gd_served_laws.proofs.Steps.{next}
+use Rattle.gd_served_laws.proofs.Going.{memory_lines, after}
 use Rattle.gd_top.specs.Held.{RoseBy, SameStore}
 use Rattle.gd_top.specs.Serves.{printed}
 

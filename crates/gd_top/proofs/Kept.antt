@@ -6,13 +6,13 @@ use Rattle.gd_prim.specs.declared.Batch.{Batch}
 use Rattle.gd_bytes.specs.Disk.{HoldsSame}
 use Rattle.gd_bytes.specs.File.{Meaning, not_store, damaged, groups, meaning, StandsFor}
 use Rattle.gd_runs.proofs.Rounds.{some_same}
-use Rattle.gd_serving.specs.Served.{Progress, Doubt, Grows}
+use Rattle.gd_served_laws.specs.Served.{Progress, Doubt, Grows}
 use Rattle.gd_serving.specs.Running.{Running, StandsForRun, IsBacked}
 use Rattle.gd_journal.specs.State.{Journaled}
 use Rattle.gd_log.specs.State.{IsHeld}
 use Rattle.gd_log.specs.Opening.{IsReadSame, IsKept}
 use Rattle.gd_top.proofs.Settled.{backed, backed_first, told}
-use Rattle.gd_top.specs.Kept.{IsLeft, KeepsFile, Keeps}
+use Rattle.gd_top.specs.Kept.{IsLeft, Keeps}
 
 some_told : (now : Option (List ℕ)) (file : List ℕ) → now ≡ Some file → IsSome now
 some_told now file is = subst (λ (o : Option (List ℕ)). IsSome o) (sym is) refl

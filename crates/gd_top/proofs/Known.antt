@@ -8,7 +8,7 @@ use Rattle.gd_input.specs.declared.round.Round.{Round}
 use Rattle.gd_input.specs.Held.{Held, IsBounded}
 use Rattle.gd_input.specs.Pieces.{Known, Advances}
 use Rattle.gd_input.specs.Rounds.{AreKept, TakesRound}
-use Rattle.gd_serving.specs.Served.{Progress}
+use Rattle.gd_served_laws.specs.Served.{Progress}
 use Rattle.gd_input.specs.declared.fault.InputFault.{InputFault}
 use Rattle.gd_input.specs.declared.fault.InputFault.TheVariants as input
 use Rattle.gd_top.specs.declared.stop.Stop.{Stop}

@@ -1,5 +1,5 @@
 -- Fronts of what is printed.
-use Rattle.std.proofs.Common.{ℕ, List, ◌++◌, take, drop, Option, Result, Ok, Err, OnErr, sym, ap, ◌∙◌, append_assoc}
+use Rattle.std.proofs.Common.{◌≡◌, ℕ, List, [], ◌∷◌, ◌++◌, take, drop, Option, Result, Ok, Err, OnErr, sym, ap, ◌∙◌, append_assoc}
 use Rattle.std.proofs.lemmas.List.{take-append-drop}
 use Rattle.std.proofs.KnownBytes.{Appends-trans}
 use Rattle.std.specs.Io.KnownBytes.{Appends}
@@ -25,3 +25,7 @@ front_second old mid new xs ys first front = record {
   parts = append_assoc xs front.piece front.rest ∙ ap (λ (zs : List ℕ). xs ++ zs) front.parts;
   gained = Appends-trans old mid new xs front.piece first front.gained;
 }
+
+-- a line in pieces, and its newline
+pub pieces_line : (xs ys line : List ℕ) → xs ++ ys ++ 125 ∷ [] ≡ line → xs ++ (ys ++ 125 ∷ [] ++ 10 ∷ []) ≡ line ++ 10 ∷ []
+pieces_line xs ys line is = sym (append_assoc xs (ys ++ 125 ∷ []) (10 ∷ [])) ∙ ap (λ (zs : List ℕ). zs ++ 10 ∷ []) (sym (append_assoc xs ys (125 ∷ [])) ∙ is)

@@ -15,9 +15,9 @@ use Rattle.gd_input.specs.declared.line.RoundLine.{RoundLine}
 use Rattle.gd_input.specs.declared.round.Round.{Round}
 use Rattle.gd_input.specs.Line.{IsKept}
 use Rattle.gd_input.specs.Rounds.{AreKept, in_round, TakesRound}
-use Rattle.gd_serving.specs.Served.{Progress, IsServed, AreUpto, GoesOn}
-use Rattle.gd_serving.proofs.Steps.{next}
-use Rattle.gd_serving.proofs.Going.{goes_nowhere, goes_without_memory, goes_further, upto_more, after, memory_lines, goes_unanswered}
+use Rattle.gd_served_laws.specs.Served.{Progress, IsServed, AreUpto, GoesOn}
+use Rattle.gd_served_laws.proofs.Steps.{next}
+use Rattle.gd_served_laws.proofs.Going.{goes_nowhere, goes_without_memory, goes_further, upto_more, after, memory_lines, goes_unanswered}
 use Rattle.gd_top.specs.Held.{HoldsAs, RoseBy, SameStore}
 use Rattle.gd_top.specs.Serves.{printed, Accounts, Serves, ServesFront, ServesRounds, GainsFront, Answers, AnswersFront, ServedUpto}
 use Rattle.gd_top.proofs.Counted.{rose_none, rose_then, rose_once, printed-append, printed-one, fault_count-append, memory_replies, memory_printed, memory_count, memory_many, same_store, same_after, same_then}

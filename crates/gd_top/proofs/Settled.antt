@@ -8,7 +8,7 @@ use Rattle.gd_runs.specs.Legal.{Entry, History, batches, with_entry}
 use Rattle.gd_runs.specs.Built.{is_built}
 use Rattle.gd_runs.specs.Explained.{Numbered, Run, MayBe, Holds, IsLeftInDoubt, IsExplainedBy, IsOldDoubt, IsRoundAfter}
 use Rattle.gd_runs.proofs.Rounds.{some_same, no_some, one_round_more}
-use Rattle.gd_serving.specs.Served.{Progress, Doubt, IsServed, IsDoubted, IsDoubtOf}
+use Rattle.gd_served_laws.specs.Served.{Progress, Doubt, IsServed, IsDoubted, IsDoubtOf}
 use Rattle.gd_serving.specs.Running.{Running, doubted_groups, StandsForRun, HoldsRun, IsBacked}
 use Rattle.gd_journal.specs.State.{Journaled}
 use Rattle.gd_log.specs.State.{IsHeld}

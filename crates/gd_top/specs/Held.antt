@@ -5,7 +5,7 @@ use Rattle.gd_prim.specs.declared.Batch.{Batch}
 use Rattle.gd_bytes.specs.File.{Meaning, meaning, StandsFor}
 use Rattle.gd_runs.specs.Legal.{History}
 use Rattle.gd_runs.specs.Explained.{Run, Holds}
-use Rattle.gd_serving.specs.Served.{Progress, IsServed}
+use Rattle.gd_served_laws.specs.Served.{Progress, IsServed}
 use Rattle.gd_serving.specs.Running.{StandsForRun}
 
 -- ---- one file, whose content is told or not

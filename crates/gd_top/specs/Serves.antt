@@ -5,7 +5,7 @@ use Rattle.gd_prim.specs.declared.Batch.{Batch}
 use Rattle.gd_runs.specs.Legal.{History}
 use Rattle.gd_runs.specs.Built.{is_built}
 use Rattle.gd_runs.specs.Explained.{Numbered, Run, pieces, numbered, lines_of, lines_within, IsExplainedBy, fault_count, faults_told}
-use Rattle.gd_serving.specs.Served.{Progress, IsServed, GoesOn}
+use Rattle.gd_served_laws.specs.Served.{Progress, IsServed, GoesOn}
 use Rattle.gd_top.specs.Held.{RoseBy, SameStore}
 
 -- One legal history explains this output for these lines. It begins with a list that the run may begin with, its moments are such as the clock may give, what it leaves in the file stands for it, and the count of faults rose by the lines that tell one.

@@ -3,7 +3,7 @@ ghost use Rattle.std.specs.Prelude.{◌≡◌, ◌≢◌, ◌≤◌, ◌^◌, �
 ghost use Rattle.gd_base.specs.Counts.{Rose};
 ghost use Rattle.gd_bytes.specs.Disk.{HoldsSame};
 ghost use Rattle.gd_top.specs.Ends.{IsIdle, Prints, Causes};
-ghost use Rattle.gd_serving.specs.Served.{Grows};
+ghost use Rattle.gd_served_laws.specs.Served.{Grows};
 ghost use Rattle.gd_serving.specs.Running.{IsBacked};
 ghost use Rattle.gd_top.specs.Kept.{Keeps};
 ghost use Rattle.gd_top.specs.Held.{Loads, Leaves, MayMean, DoesMean, RoseBy, HoldsAs, IsAtStart};

@@ -1,11 +1,14 @@
-//! Whole writes.
-ghost use Rattle.std.specs.Prelude.{◌≡◌, ◌≤◌, ◌∷◌, ◌++◌, [], ℕ, take, OnOk, OnErr};
+//! Whole writes, and replies as they are printed.
+ghost use Rattle.std.specs.Prelude.{◌≡◌, ◌≤◌, ◌∷◌, ◌++◌, [], ℕ, take, codes, decimal, OnOk, OnErr};
 ghost use Rattle.std.specs.Io.KnownBytes.{Appends};
 ghost use Rattle.gd_base.specs.Counts.{Rose};
+ghost use Rattle.gd_reply.specs.Replies.{failure_line, reply_text};
 ghost use Rattle.gd_top.specs.Serves.{GainsFront};
 
 use gd_outside::Failed;
 use gd_outside::sink::Sink;
+use gd_reply::reply::{Failure, Reply};
+use itoa::Buffer;
 
 /// Writes all bytes.
 fn write_all<K: Sink>(sink: &mut K, bytes: &[u8]) -> Result<(), Failed>
@@ -25,14 +28,51 @@ fn write_all<K: Sink>(sink: &mut K, bytes: &[u8]) -> Result<(), Failed>
     Ok(())
 }
 
-/// Prints a reply and its newline. `Failed`: the sink did, and a front of them is printed.
-pub fn print_line<K: Sink>(sink: &mut K, reply: &[u8]) -> Result<(), Failed>
-    ensures all { OnOk result (Appends (K.held sink.old) (K.held sink.new) (reply.now ++ 10 ∷ [])) }
-    ensures front { OnErr result (GainsFront (K.held sink.old) (K.held sink.new) (reply.now ++ 10 ∷ [])) }
+/// Prints a line and its newline.
+fn print_line<K: Sink>(sink: &mut K, line: &[u8]) -> Result<(), Failed>
+    ensures all { OnOk result (Appends (K.held sink.old) (K.held sink.new) (line.now ++ 10 ∷ [])) }
+    ensures front { OnErr result (GainsFront (K.held sink.old) (K.held sink.new) (line.now ++ 10 ∷ [])) }
     ensures failed { OnErr result (Rose (K.faults sink.old) (K.faults sink.new)) }
     ensures later { K.faults sink.old ≤ K.faults sink.new }
 {
-    write_all(sink, reply)?;
+    write_all(sink, line)?;
     write_all(sink, b"\n")?;
     Ok(())
+}
+
+/// Prints a number in decimal digits, and behind it the end of an object and its newline.
+fn print_last_number<K: Sink>(sink: &mut K, n: u64) -> Result<(), Failed>
+    ensures all { OnOk result (Appends (K.held sink.old) (K.held sink.new) (decimal n ++ codes "}" ++ 10 ∷ [])) }
+    ensures front { OnErr result (GainsFront (K.held sink.old) (K.held sink.new) (decimal n ++ codes "}" ++ 10 ∷ [])) }
+    ensures failed { OnErr result (Rose (K.faults sink.old) (K.faults sink.new)) }
+    ensures later { K.faults sink.old ≤ K.faults sink.new }
+{
+    write_all(sink, Buffer::new().format(n).as_bytes())?;
+    print_line(sink, b"}")?;
+    Ok(())
+}
+
+/// Prints the line that tells a failure, and its newline. It takes no memory.
+fn print_failure<K: Sink>(sink: &mut K, failure: Failure, line: u64) -> Result<(), Failed>
+    ensures all { OnOk result (Appends (K.held sink.old) (K.held sink.new) (failure_line failure line ++ 10 ∷ [])) }
+    ensures front { OnErr result (GainsFront (K.held sink.old) (K.held sink.new) (failure_line failure line ++ 10 ∷ [])) }
+    ensures failed { OnErr result (Rose (K.faults sink.old) (K.faults sink.new)) }
+    ensures later { K.faults sink.old ≤ K.faults sink.new }
+{
+    write_all(sink, failure.front().as_bytes())?;
+    print_last_number(sink, line)?;
+    Ok(())
+}
+
+/// Prints a reply and its newline. `Failed`: the sink did, and a front of them is printed.
+pub fn print_reply<K: Sink>(sink: &mut K, reply: &Reply) -> Result<(), Failed>
+    ensures all { OnOk result (Appends (K.held sink.old) (K.held sink.new) (reply_text reply.now ++ 10 ∷ [])) }
+    ensures front { OnErr result (GainsFront (K.held sink.old) (K.held sink.new) (reply_text reply.now ++ 10 ∷ [])) }
+    ensures failed { OnErr result (Rose (K.faults sink.old) (K.faults sink.new)) }
+    ensures later { K.faults sink.old ≤ K.faults sink.new }
+{
+    match reply {
+        Reply::Line(line) => print_line(sink, line),
+        Reply::Failed { failure, line } => print_failure(sink, *failure, *line),
+    }
 }

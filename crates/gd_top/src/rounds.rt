@@ -4,51 +4,51 @@ ghost use Rattle.std.specs.List.{All};
 ghost use Rattle.std.specs.Io.KnownBytes.{IsAtEnd};
 ghost use Rattle.gd_base.specs.Counts.{Rose};
 ghost use Rattle.gd_input.specs.Line.{IsShort};
-ghost use Rattle.gd_serving.specs.Served.{Grows};
+ghost use Rattle.gd_served_laws.specs.Served.{Grows};
 ghost use Rattle.gd_serving.specs.Running.{IsBacked};
 ghost use Rattle.gd_top.specs.Held.{HoldsAs, IsAtStart, RoseBy};
 ghost use Rattle.gd_top.specs.Lines.{AnswersLines};
 ghost use Rattle.gd_top.specs.Serves.{Serves, ServesFront, ServesRounds};
 
-use crate::printing::print_line;
+use crate::printing::print_reply;
 use crate::stop::Stop;
 use gd_disk::disk::Disk;
 use gd_input::line::RoundLine;
 use gd_input::reader::Reader;
+use gd_outside::Failed;
 use gd_outside::clock::Clock;
 use gd_outside::sink::Sink;
 use gd_outside::source::Source;
 use gd_serving::serving::Serving;
 use std::alloc::Global;
 
-/// Answers the next line and prints what it comes to. `SinkFault`: a front of that is printed. `Memory`: the line
-/// was not answered.
+/// Answers the next line and prints what it comes to. `Failed`: a front of that is printed.
 fn answer_line<D: Disk, K: Sink, C: Clock>(
     alloc: Global,
     serving: &mut Serving<D>,
     clock: &mut C,
     line: &RoundLine,
     sink: &mut K,
-) -> Result<(), Stop>
+) -> Result<(), Failed>
     requires lines { serving.old.progress.lines < 2 ^ 63 }
     requires short { IsShort line.now }
     ensures { AnswersLines D.content D.images D.faults (line.now ∷ []) serving.old serving.new (C.may clock.old) (C.may clock.new)
         (K.held sink.old) (K.held sink.new) (K.faults sink.old) (K.faults sink.new) result }
 {
-    let reply = serving.answer(alloc, clock, line)?;
-    print_line(sink, &reply)?;
+    let reply = serving.answer(alloc, clock, line);
+    print_reply(sink, &reply)?;
     Ok(())
 }
 
-/// Answers the lines of a round, one after another, and prints what each comes to. `SinkFault`: a front of that is
-/// printed. `Memory`: a line was not answered, nor those after it.
+/// Answers the lines of a round, one after another, and prints what each comes to. `Failed`: a front of that is
+/// printed.
 fn answer_lines<D: Disk, K: Sink, C: Clock>(
     alloc: Global,
     serving: &mut Serving<D>,
     clock: &mut C,
     lines: &[RoundLine],
     sink: &mut K,
-) -> Result<(), Stop>
+) -> Result<(), Failed>
     requires lines { serving.old.progress.lines + length lines.now < 2 ^ 63 }
     requires short { All IsShort lines.now }
     ensures { AnswersLines D.content D.images D.faults lines.now serving.old serving.new (C.may clock.old) (C.may clock.new)
@@ -67,7 +67,7 @@ fn answer_round<D: Disk, K: Sink, C: Clock>(
     clock: &mut C,
     lines: &[RoundLine],
     sink: &mut K,
-) -> Result<(), Stop>
+) -> Result<(), Failed>
     requires lines { serving.old.progress.lines + length lines.now < 2 ^ 63 }
     requires short { All IsShort lines.now }
     ensures { AnswersLines D.content D.images D.faults lines.now serving.old serving.new (C.may clock.old) (C.may clock.new)

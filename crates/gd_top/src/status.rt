@@ -24,8 +24,7 @@ pub enum Status {
     NotStore,
     /// The first damaged record of the file has its gate at this offset. Nothing was read or printed.
     Damaged { offset: u64 },
-    /// There was no memory to open the store, to read a round, or even for the reply that says so. What was printed is
-    /// a front of what was due.
+    /// There was no memory to open the store or to read a round. What was printed is a front of what was due.
     Memory,
     /// 2^40 bytes of input were taken. The lines of whole rounds before that were answered, and no other.
     TooMuch,
@@ -80,21 +79,29 @@ impl Status {
             Status::TooMuch => 10,
         }
     }
+
+    /// What the program says of it; behind that of a damaged file stands an offset.
+    fn text(self) -> &'static str {
+        match self {
+            Status::Done => "done",
+            Status::Usage => "usage: graphd VERB [--NAME VALUE]",
+            Status::ReadFault => "input failed",
+            Status::SinkFault => "output failed",
+            Status::DiskFault => "disk failed",
+            Status::NotStore => "not a store",
+            Status::Damaged { offset: _ } => "damaged",
+            Status::Memory => "out of memory",
+            Status::TooMuch => "too much input",
+        }
+    }
 }
 
 /// What the program says of it, without its name.
 impl fmt::Display for Status {
     fn fmt<W: fmt::Write>(&self, f: &mut fmt::Formatter<W>) -> fmt::Result {
         match self {
-            Status::Done => write!(f, "done"),
-            Status::Usage => write!(f, "usage: graphd VERB [--NAME VALUE]"),
-            Status::ReadFault => write!(f, "input failed"),
-            Status::SinkFault => write!(f, "output failed"),
-            Status::DiskFault => write!(f, "disk failed"),
-            Status::NotStore => write!(f, "not a store"),
             Status::Damaged { offset } => write!(f, "damaged at {offset}"),
-            Status::Memory => write!(f, "out of memory"),
-            Status::TooMuch => write!(f, "too much input"),
+            other => f.write_str(other.text()),
         }
     }
 }

@@ -1,9 +1,8 @@
 //! Why a run stops before the end of its input.
 ghost use Rattle.std.specs.Prelude.{◌≡◌};
 ghost use Rattle.gd_top.specs.Stops.{stop_of};
-ghost use Rattle.gd_top.specs.declared.stop.Stop.TheVariants.{SinkFault as sink_failed, Memory as no_memory};
+ghost use Rattle.gd_top.specs.declared.stop.Stop.TheVariants.{SinkFault as sink_failed};
 
-use gd_base::memory::Memory;
 use gd_input::fault::InputFault;
 use gd_outside::Failed;
 use thiserror::Error;
@@ -17,7 +16,7 @@ pub enum Stop {
     /// The sink failed.
     #[error("the output failed")]
     SinkFault,
-    /// An allocation was refused, so that a round could not be read, or a line not be answered at all.
+    /// An allocation was refused, so that a round could not be read.
     #[error("out of memory")]
     Memory,
     /// 2^40 bytes of the input were taken, and it had not ended.
@@ -42,13 +41,5 @@ impl From<Failed> for Stop {
 
     fn from(_failed: Failed) -> Stop {
         Stop::SinkFault
-    }
-}
-
-impl From<Memory> for Stop {
-    ghost from_gives = { λ _ stop. stop ≡ no_memory };
-
-    fn from(_refused: Memory) -> Stop {
-        Stop::Memory
     }
 }

@@ -5,10 +5,10 @@ use Rattle.gd_top.proofs.printing.print_line.Goals as goal
 pub returns-in_err-write_all-clause-front : goal.returns-in_err-write_all-clause-front
 returns-in_err-write_all-clause-front g c =
     let front = c.in_err-write_all.ensures.front in
-    at_err c.from_residual.result (front_first (g.K.Sink.held c.args.sink.now) (g.K.Sink.held c.write_all.new.sink) c.args.reply.now (10 ∷ []) (front_of _ _ c.args.reply.now front.0 front.1))
+    at_err c.from_residual.result (front_first (g.K.Sink.held c.args.sink.now) (g.K.Sink.held c.write_all.new.sink) c.args.line.now (10 ∷ []) (front_of _ _ c.args.line.now front.0 front.1))
 
 pub returns-in_err-write_all-2-clause-front : goal.returns-in_err-write_all-2-clause-front
 returns-in_err-write_all-2-clause-front g c =
     let front = c.in_err-write_all-2.ensures.front in
-    at_err c.from_residual-in_err-write_all-2.result (front_second (g.K.Sink.held c.args.sink.now) (g.K.Sink.held c.write_all.new.sink) (g.K.Sink.held c.write_all-2.new.sink) c.args.reply.now (10 ∷ [])
+    at_err c.from_residual-in_err-write_all-2.result (front_second (g.K.Sink.held c.args.sink.now) (g.K.Sink.held c.write_all.new.sink) (g.K.Sink.held c.write_all-2.new.sink) c.args.line.now (10 ∷ [])
     c.in_ok-write_all.ensures.all (front_of _ _ (10 ∷ []) front.0 front.1))

@@ -1,6 +1,6 @@
 use Rattle.std.proofs.Common.{[], ◌∷◌, refl, ◌∙◌, rules, arith}
 use Rattle.std.proofs.lemmas.Grind.{common_steps}
-use Rattle.gd_serving.proofs.Growing.{grows_none, grows_then}
+use Rattle.gd_served_laws.proofs.Growing.{grows_none, grows_then}
 use Rattle.gd_top.proofs.Printed.{at_err}
 use Rattle.gd_top.proofs.Served.{no_lines, one_more, stopped_at, all_lines, item_is}
 use Rattle.gd_top.proofs.rounds.answer_lines.Goals as goal
@@ -27,9 +27,7 @@ returns-in_err-answer_line g c = record {
   grows = grows_then c.args.serving.now.progress.batches c.loop-line.serving.progress.batches c.answer_line.new.serving.progress.batches c.loop-line.invariant.grows c.answer_line.ensures.grows;
   backed = first_of (search rules, grind (arith, common_steps));
   clock = first_of (search rules, grind (arith, common_steps));
-  read_fault = first_of (search rules, grind (arith, common_steps));
-  too_much = first_of (search rules, grind (arith, common_steps));
-  sink_fault = first_of (search rules, grind (arith, common_steps));
+  failed = first_of (search rules, grind (arith, common_steps));
   later = first_of (search rules, grind (arith, common_steps));
   disk_later = first_of (search rules, grind (arith, common_steps));
 }
@@ -57,9 +55,7 @@ returns g c = record {
   grows = c.loop-line.invariant.grows;
   backed = first_of (search rules, grind (arith, common_steps));
   clock = first_of (search rules, grind (arith, common_steps));
-  read_fault = first_of (search rules, grind (arith, common_steps));
-  too_much = first_of (search rules, grind (arith, common_steps));
-  sink_fault = first_of (search rules, grind (arith, common_steps));
+  failed = first_of (search rules, grind (arith, common_steps));
   later = first_of (search rules, grind (arith, common_steps));
   disk_later = first_of (search rules, grind (arith, common_steps));
 }

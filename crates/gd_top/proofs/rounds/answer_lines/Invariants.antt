@@ -1,6 +1,6 @@
 use Rattle.std.proofs.Common.{◌≡◌, ◌≤◌, ◌+◌, List, ℕ, take}
 use Rattle.gd_input.specs.Rounds.{AreKept}
-use Rattle.gd_serving.specs.Served.{Grows}
+use Rattle.gd_served_laws.specs.Served.{Grows}
 use Rattle.gd_serving.specs.Running.{IsBacked}
 use Rattle.gd_top.specs.Serves.{Answers}
 use Rattle.gd_top.proofs.rounds.answer_lines.Given as goal

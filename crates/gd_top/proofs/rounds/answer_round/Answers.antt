@@ -21,9 +21,7 @@ returns-in_err-answered g c =
       grows = c.answer_lines-answered.ensures.grows;
       backed = c.answer_lines-answered.ensures.backed;
       clock = c.answer_lines-answered.ensures.clock;
-      read_fault = first_of (search rules, grind (arith, common_steps));
-      too_much = first_of (search rules, grind (arith, common_steps));
-      sink_fault = first_of (search rules, grind (arith, common_steps));
+      failed = first_of (search rules, grind (arith, common_steps));
       later = first_of (search rules, grind (arith, common_steps));
       disk_later = first_of (search rules, grind (arith, common_steps));
     }
@@ -45,9 +43,7 @@ returns-in_err-sent g c =
       grows = c.answer_lines-answered.ensures.grows;
       backed = c.answer_lines-answered.ensures.backed;
       clock = c.answer_lines-answered.ensures.clock;
-      read_fault = first_of (search rules, grind (arith, common_steps));
-      too_much = first_of (search rules, grind (arith, common_steps));
-      sink_fault = first_of (search rules, grind (arith, common_steps));
+      failed = first_of (search rules, grind (arith, common_steps));
       later = first_of (search rules, grind (arith, common_steps));
       disk_later = first_of (search rules, grind (arith, common_steps));
     }

@@ -1,6 +1,6 @@
 use Rattle.std.proofs.Common.{◌^◌, ◌∙◌, refl, arith}
 use Rattle.std.specs.Io.KnownBytes.{prepend_known}
-use Rattle.gd_serving.proofs.Growing.{grows_none, grows_then}
+use Rattle.gd_served_laws.proofs.Growing.{grows_none, grows_then}
 use Rattle.gd_top.proofs.Printed.{at_err}
 use Rattle.gd_top.proofs.Known.{more_known, done_known, part_known, rounds_known, front_known, taken_known, counted_on, input_too_much, begun}
 use Rattle.gd_top.proofs.rounds.serve_rounds.Goals as goal

@@ -2,7 +2,7 @@ use Rattle.std.proofs.Common.{◌≡◌, ◌≤◌, ◌+◌, ◌-◌, ◌*◌, �
 use Rattle.std.specs.Io.KnownBytes.{prepend_known}
 use Rattle.gd_input.specs.Held.{IsBounded}
 use Rattle.gd_input.specs.Pieces.{Known, Advances}
-use Rattle.gd_serving.specs.Served.{Grows}
+use Rattle.gd_served_laws.specs.Served.{Grows}
 use Rattle.gd_serving.specs.Running.{IsBacked}
 use Rattle.gd_top.specs.Serves.{ServedUpto}
 use Rattle.gd_top.proofs.rounds.serve_rounds.Given as goal

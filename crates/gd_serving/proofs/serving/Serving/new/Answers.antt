@@ -2,8 +2,8 @@ use Rattle.std.proofs.Common.{List, [], None, sym, ap, subst}
 use Rattle.gd_prim.specs.declared.Batch.{Batch}
 use Rattle.gd_prim.specs.History.{is_history}
 use Rattle.gd_log.specs.Stored.{Stored}
-use Rattle.gd_serving.specs.Served.{IsServed}
-use Rattle.gd_serving.proofs.Going.{served_at_first}
+use Rattle.gd_served_laws.specs.Served.{IsServed}
+use Rattle.gd_served_laws.proofs.Going.{served_at_first}
 use Rattle.gd_serving.proofs.serving.Serving.new.Goals as goal
 
 pub returns-clause-served : goal.returns-clause-served

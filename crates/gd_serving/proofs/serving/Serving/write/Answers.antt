@@ -1,9 +1,10 @@
-use Rattle.std.proofs.Common.{ℕ, Vec, Global, ◌∙◌, rules, arith}
+use Rattle.std.proofs.Common.{◌∙◌, rules, arith}
 use Rattle.std.proofs.lemmas.Grind.{common_steps}
 use Rattle.std.proofs.lemmas.Result.{on_err_weaker}
+use Rattle.gd_reply.specs.Replies.{reply_text}
 use Rattle.gd_runs.specs.Built.{create_request}
 use Rattle.gd_serving.proofs.Backed.{backs_then, settled_stands}
-use Rattle.gd_serving.proofs.Steps.{settles_lines}
+use Rattle.gd_served_laws.proofs.Steps.{settles_lines}
 use Rattle.gd_serving.proofs.Written.{may_settle, not_tried_comes}
 use Rattle.gd_serving.proofs.serving.Serving.write.Goals as goal
 
@@ -27,8 +28,8 @@ pub returns-in-Err-DiskFault : goal.returns-in-Err-DiskFault
 returns-in-Err-DiskFault g c =
     let p = c.args.self.now.progress in
     record {
-      comes = λ line (session, long, asks). not_tried_comes (λ (v : Vec ℕ Global). v.items) (g.C.Clock.may c.args.clock.now) p c.end_doubt.new.self.progress line session
-          (create_request c.args.request.now.asks_guid c.args.request.now.name) c.untried_reply.result asks c.requires.says c.in-Err-DiskFault.ensures.err c.untried_reply.ensures;
+      comes = λ line (session, long, asks). not_tried_comes (g.C.Clock.may c.args.clock.now) p c.end_doubt.new.self.progress line session
+          (create_request c.args.request.now.asks_guid c.args.request.now.name) (reply_text c.failed.result) asks c.requires.says c.in-Err-DiskFault.ensures.err c.failed.ensures.text;
       err = first_of (search rules, grind (arith, common_steps));
       line = first_of (search rules, grind (arith, common_steps));
       backs = first_of (search rules, grind (arith, common_steps));

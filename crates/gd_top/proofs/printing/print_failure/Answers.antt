@@ -1,0 +1,25 @@
+use Rattle.std.proofs.Common.{[], ◌∷◌, ◌++◌, List, ℕ, take, decimal, subst}
+use Rattle.std.specs.Io.KnownBytes.{Appends}
+use Rattle.gd_reply.specs.Replies.{failure_line}
+use Rattle.gd_top.specs.Serves.{GainsFront}
+use Rattle.gd_top.proofs.Printed.{at_err, front_of, front_first, front_second, pieces_line}
+use Rattle.gd_top.proofs.printing.print_failure.Goals as goal
+
+pub returns-in_err-write_all-clause-front : goal.returns-in_err-write_all-clause-front
+returns-in_err-write_all-clause-front g c =
+    let old = g.K.Sink.held c.args.sink.now in
+    let new = g.K.Sink.held c.write_all.new.sink in
+    let begun = c.front.result.now in
+    let front = c.in_err-write_all.ensures.front in
+    at_err c.from_residual.result (subst (GainsFront old new) (pieces_line begun (decimal c.args.line) (failure_line c.args.failure c.args.line) (c.front.ensures c.args.line))
+    (front_first old new begun (decimal c.args.line ++ 125 ∷ [] ++ 10 ∷ [])
+    (front_of old new begun front.0 (subst (λ (bytes : List ℕ). Appends old new (take front.0 bytes)) c.as_bytes.ensures.value front.1))))
+
+pub returns-in_err-print_last_number-clause-front : goal.returns-in_err-print_last_number-clause-front
+returns-in_err-print_last_number-clause-front g c =
+    let old = g.K.Sink.held c.args.sink.now in
+    let mid = g.K.Sink.held c.write_all.new.sink in
+    let new = g.K.Sink.held c.print_last_number.new.sink in
+    let begun = c.front.result.now in
+    at_err c.from_residual-in_err-print_last_number.result (subst (GainsFront old new) (pieces_line begun (decimal c.args.line) (failure_line c.args.failure c.args.line) (c.front.ensures c.args.line))
+    (front_second old mid new begun (decimal c.args.line ++ 125 ∷ [] ++ 10 ∷ []) (subst (Appends old mid) c.as_bytes.ensures.value c.in_ok-write_all.ensures.all) c.in_err-print_last_number.ensures.front))
