@@ -10,7 +10,7 @@ use Rattle.gd_journal.specs.State.{IsSettled, IsInDoubt}
 use Rattle.gd_journal.proofs.Gates.{at_rest_closed, closed_doubtful, closed_torn, closed_cut, gate_torn}
 use Rattle.gd_journal.proofs.Means.{held_short, closed_stands, doubtful_stands}
 
-module _ {D : Type 0} (moment : D → ℕ) (images : D → List ℕ → Type 0) (images_since : D → ℕ → List ℕ → Type 0) where
+module _ {D : Type 0} {moment : D → ℕ} {images : D → List ℕ → Type 0} {images_since : D → ℕ → List ℕ → Type 0} where
   -- a write behind the gate
   pub closed_write : (old mid new : D) (ps : List (List ℕ)) (at n : ℕ) → LeavesOnly moment images images_since old mid (IsClosed ps) → length (front ps) + 1 ≤ at → Follows (Torn at n) (images mid) (images new)
       → Elapses (moment mid) (moment new) (images_since mid) (images_since new) (images new) → LeavesOnly moment images images_since old new (IsClosed ps)
@@ -41,10 +41,10 @@ module _ {D : Type 0} (moment : D → ℕ) (images : D → List ℕ → Type 0) 
   settle_leaves old new co gate next ps p s run = leaves_weaken moment images images_since old new (IsDoubtful ps p) (MayStandFor ps p) (λ c there. doubtful_stands ps p c s.each s.last there) run
 
   -- where one file is left, and nothing is changed
-  pub open_untouched : (content : D → Option (List ℕ)) (old new : D) (file : List ℕ) → ((c : List ℕ) → images_since old (moment old) c → images old c) → Only file (images old) → IsUntouched content moment images images_since old new
+  pub open_untouched : {content : D → Option (List ℕ)} (old new : D) (file : List ℕ) → ((c : List ℕ) → images_since old (moment old) c → images old c) → Only file (images old) → IsUntouched content moment images images_since old new
       → LeavesOnly moment images images_since old new (λ c. held_by c ≡ held_by file)
-  open_untouched content old new file only_now only untouched =
-      leaves_untouched content moment images images_since old old new (λ c. held_by c ≡ held_by file) (leaves_start moment images images_since old (λ c. held_by c ≡ held_by file) only_now (λ c now. ap held_by (only c now))) untouched
+  open_untouched old new file only_now only untouched =
+      leaves_untouched _ moment images images_since old old new (λ c. held_by c ≡ held_by file) (leaves_start moment images images_since old (λ c. held_by c ≡ held_by file) only_now (λ c now. ap held_by (only c now))) untouched
 
   pub open_created : (old new : D) (file : List ℕ) → length file ≤ 9 → LeavesOnly moment images images_since old new (λ c. length c ≤ 9) → LeavesOnly moment images images_since old new (λ c. held_by c ≡ held_by file)
   open_created old new file short run = leaves_weaken moment images images_since old new (λ c. length c ≤ 9) (λ c. held_by c ≡ held_by file) (λ c less. held_short c less ∙ sym (held_short file short)) run
@@ -56,15 +56,15 @@ module _ {D : Type 0} (moment : D → ℕ) (images : D → List ℕ → Type 0) 
       (leaves_weaken moment images images_since mid new (IsClosed ps) (λ c. held_by c ≡ held_by file) (λ c closed. closed_stands ps c each closed ∙ sym (closed_stands ps file each there)) second)
 
   -- nothing was changed, and then one of the files that were left was opened
-  pub open_begun : (content : D → Option (List ℕ)) (old mid new : D) (file : List ℕ) → ((c : List ℕ) → images_since old (moment old) c → images old c) → images old file → IsUntouched content moment images images_since old mid
+  pub open_begun : {content : D → Option (List ℕ)} (old mid new : D) (file : List ℕ) → ((c : List ℕ) → images_since old (moment old) c → images old c) → images old file → IsUntouched content moment images images_since old mid
       → LeavesOnly moment images images_since mid new (λ c. held_by c ≡ held_by file) → LeavesOnly moment images images_since old new (MeansOneOf (images old))
-  open_begun content old mid new file only_now there untouched run =
+  open_begun old mid new file only_now there untouched run =
       let P : List ℕ → Type 0 = MeansOneOf (images old) in
       leaves_join moment images images_since old mid new P
-      (leaves_untouched content moment images images_since old old mid P (leaves_start moment images images_since old P only_now (λ c now. (c, now, refl))) untouched)
+      (leaves_untouched _ moment images images_since old old mid P (leaves_start moment images images_since old P only_now (λ c now. (c, now, refl))) untouched)
       (leaves_weaken moment images images_since mid new (λ c. held_by c ≡ held_by file) P (λ c same. (file, there, same)) run)
 
-  pub open_none : (content : D → Option (List ℕ)) (old new : D) → ((c : List ℕ) → images_since old (moment old) c → images old c) → IsUntouched content moment images images_since old new → LeavesOnly moment images images_since old new (MeansOneOf (images old))
-  open_none content old new only_now untouched =
+  pub open_none : {content : D → Option (List ℕ)} (old new : D) → ((c : List ℕ) → images_since old (moment old) c → images old c) → IsUntouched content moment images images_since old new → LeavesOnly moment images images_since old new (MeansOneOf (images old))
+  open_none old new only_now untouched =
       let P : List ℕ → Type 0 = MeansOneOf (images old) in
-      leaves_untouched content moment images images_since old old new P (leaves_start moment images images_since old P only_now (λ c now. (c, now, refl))) untouched
+      leaves_untouched _ moment images images_since old old new P (leaves_start moment images images_since old P only_now (λ c now. (c, now, refl))) untouched

@@ -9,7 +9,7 @@ use Rattle.gd_journal.specs.State.{AtGate}
 use Rattle.gd_journal.proofs.Told.{content_of, gate_shut}
 use Rattle.gd_journal.proofs.Gates.{closed_doubtful, closed_if}
 
-module _ {D : Type 0} (content : D → Option (List ℕ)) (moment : D → ℕ) (images : D → List ℕ → Type 0) (images_since : D → ℕ → List ℕ → Type 0) where
+module _ {D : Type 0} {content : D → Option (List ℕ)} {moment : D → ℕ} {images : D → List ℕ → Type 0} {images_since : D → ℕ → List ℕ → Type 0} where
   -- the gate was read, and is not open
   pub shut_there : (was mid : D) (gate : ℕ) (open_there : Bool) (ps : List (List ℕ)) (p : List ℕ) → IsUntouched content moment images images_since was mid → ForSome (content mid) (λ file. Only file (images mid))
       → ForSome (content mid) (λ file. open_there ≡ (get_or file gate 0 == 1)) → open_there ≡ false → AtGate (content was) (images was) gate ps (IsDoubtful ps p) → AtGate (content mid) (images mid) gate ps (IsClosed ps)

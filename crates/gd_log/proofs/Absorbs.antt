@@ -58,7 +58,7 @@ pub holds_held : (co : Option (List ℕ)) (im : List ℕ → Type 0) (gate : ℕ
 holds_held co im gate None bs held = held
 holds_held co im gate (Some next) bs held = absurd held
 
-module _ {D : Type 0} (content : D → Option (List ℕ)) (moment : D → ℕ) (images : D → List ℕ → Type 0) (images_since : D → ℕ → List ℕ → Type 0) where
+module _ {D : Type 0} {moment : D → ℕ} {images : D → List ℕ → Type 0} {images_since : D → ℕ → List ℕ → Type 0} where
   -- of one that succeeds
   pub added_moments : (old new : D) (bs after more : List Batch) → after ≡ bs ++ more → LeavesOnly moment images images_since old new (MayStandFor bs (more ∷ []))
       → LeavesOnly moment images images_since old new (λ file. StandsFor file bs ⊎ StandsFor file after)
@@ -66,7 +66,7 @@ module _ {D : Type 0} (content : D → Option (List ℕ)) (moment : D → ℕ) (
       leaves_weaken moment images images_since old new (MayStandFor bs (more ∷ [])) (λ file. StandsFor file bs ⊎ StandsFor file after) (λ c. ⊎_elim (λ p. inl p) (λ p. inr (subst (StandsFor c) (sym is) p))) run
 
   -- of one that does not
-  pub failed_moments : (old new : D) (bs after more : List Batch) (before now : ℕ) (fault : JournalFault) → ((c : List ℕ) → images_since old (moment old) c → images old c) → after ≡ bs → HasReason before now fault → ((c : List ℕ) → images old c → StandsFor c bs)
+  pub failed_moments : {content : D → Option (List ℕ)} (old new : D) (bs after more : List Batch) (before now : ℕ) (fault : JournalFault) → ((c : List ℕ) → images_since old (moment old) c → images old c) → after ≡ bs → HasReason before now fault → ((c : List ℕ) → images old c → StandsFor c bs)
       → LeavesOnly moment images images_since old new (MayStandFor bs (more ∷ [])) → (fault ≡ Memory → IsUntouched content moment images images_since old new)
       → LeavesOnly moment images images_since old new (λ file. StandsFor file bs ⊎ MayStandFor after (groups_in_doubt (doubt_after (Err fault) more)) file)
   failed_moments old new bs after more before now DiskFault only is reason means run untouched =
@@ -74,6 +74,6 @@ module _ {D : Type 0} (content : D → Option (List ℕ)) (moment : D → ℕ) (
       (λ c p. inr (subst (λ (cs : List Batch). MayStandFor cs (more ∷ []) c) (sym is) p)) run
   failed_moments old new bs after more before now Memory only is reason means run untouched =
       let P : List ℕ → Type 0 = λ file. StandsFor file bs ⊎ StandsFor file after in
-      leaves_untouched content moment images images_since old old new P (leaves_start moment images images_since old P only (λ c now. inl (means c now))) (untouched refl)
+      leaves_untouched _ moment images images_since old old new P (leaves_start moment images images_since old P only (λ c now. inl (means c now))) (untouched refl)
   failed_moments old new bs after more before now NotStore only is reason means run untouched = absurd reason
   failed_moments old new bs after more before now (Damaged offset) only is reason means run untouched = absurd reason

@@ -32,15 +32,15 @@ pub doubt : (co : Option (List ℕ)) (im : List ℕ → Type 0) (gate next : ℕ
 doubt co im gate next ps p bs more are n s = record { payloads = ps; last = p; groups = are; next_group = n; doubt = s; means = λ c now. may_stand c ps p bs more (s.means c now) are n }
 
 -- what leaves payloads leaves their batches
-pub leaves : {D : Type 0} (moment : D → ℕ) (images : D → List ℕ → Type 0) (images_since : D → ℕ → List ℕ → Type 0) (old new : D) (ps : List (List ℕ)) (p : List ℕ) (bs more : List Batch) → AreGroups [] ps bs → IsNext bs p more
+pub leaves : {D : Type 0} {moment : D → ℕ} {images : D → List ℕ → Type 0} {images_since : D → ℕ → List ℕ → Type 0} (old new : D) (ps : List (List ℕ)) (p : List ℕ) (bs more : List Batch) → AreGroups [] ps bs → IsNext bs p more
     → LeavesOnly moment images images_since old new (journal.MayStandFor ps p) → LeavesOnly moment images images_since old new (MayStandFor bs (more ∷ []))
-leaves moment images images_since old new ps p bs more are n run =
-    leaves_weaken moment images images_since old new (journal.MayStandFor ps p) (MayStandFor bs (more ∷ [])) (λ c may. may_stand c ps p bs more may are n) run
+leaves old new ps p bs more are n run =
+    leaves_weaken _ _ _ old new (journal.MayStandFor ps p) (MayStandFor bs (more ∷ [])) (λ c may. may_stand c ps p bs more may are n) run
 
 -- where nothing was changed the same payloads are there
-pub settled_untouched : {D : Type 0} (content : D → Option (List ℕ)) (moment : D → ℕ) (images : D → List ℕ → Type 0) (images_since : D → ℕ → List ℕ → Type 0) (old new : D) (gate : ℕ) (ps : List (List ℕ)) → IsUntouched content moment images images_since old new
+pub settled_untouched : {D : Type 0} {content : D → Option (List ℕ)} {moment : D → ℕ} {images : D → List ℕ → Type 0} {images_since : D → ℕ → List ℕ → Type 0} (old new : D) (gate : ℕ) (ps : List (List ℕ)) → IsUntouched content moment images images_since old new
     → IsSettled (content old) (images old) gate ps → IsSettled (content new) (images new) gate ps
-settled_untouched content moment images images_since old new gate ps u s = record {
+settled_untouched old new gate ps u s = record {
   each = s.each;
   rests = record { told = ap is_some u.same ∙ s.rests.told; place = s.rests.place; left = λ c now. s.rests.left c (u.now c now) };
   means = λ c now. s.means c (u.now c now);

@@ -53,7 +53,7 @@ reason_rose NotStore before mid now le reason e = absurd reason
 reason_rose (Damaged offset) before mid now le reason e = absurd reason
 reason_rose Memory before mid now le reason e = cc
 
-module _ {D : Type 0} (content : D → Option (List ℕ)) (moment : D → ℕ) (images : D → List ℕ → Type 0) (images_since : D → ℕ → List ℕ → Type 0) where
+module _ {D : Type 0} {content : D → Option (List ℕ)} {moment : D → ℕ} {images : D → List ℕ → Type 0} {images_since : D → ℕ → List ℕ → Type 0} where
   -- nothing was changed
   pub untouched_means : (old new : D) → ((c : List ℕ) → images_since old (moment old) c → images old c) → IsUntouched content moment images images_since old new → LeavesOnly moment images images_since old new (MeansOneOf (images old))
   untouched_means old new only_now u =

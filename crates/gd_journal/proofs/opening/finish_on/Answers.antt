@@ -17,7 +17,7 @@ pub returns-in_err-reserve-clause-means : goal.returns-in_err-reserve-clause-mea
 returns-in_err-reserve-clause-means g c = λ f is.
     let d = g.D.Disk in
     let was = c.args.disk.now in
-    open_untouched d.moment d.images d.images_since d.content was c.reserve.new.self f (g.met.D.Disk.only_now was) (c.requires.seen f is).0
+    open_untouched was c.reserve.new.self f (g.met.D.Disk.only_now was) (c.requires.seen f is).0
     (untouched_call d.content d.moment d.images d.images_since was c.reserve.new.self (g.met.D.Disk.counts_now was) c.reserve.ensures.stays c.reserve.ensures.time)
 
 pub returns-in_err-mend-clause-means : goal.returns-in_err-mend-clause-means
@@ -25,7 +25,7 @@ returns-in_err-mend-clause-means g c = λ f is.
     let d = g.D.Disk in
     let was = c.args.disk.now in
     leaves_join d.moment d.images d.images_since was c.reserve.new.self c.mend.new.disk (λ b. held_by b ≡ held_by f)
-    (open_untouched d.moment d.images d.images_since d.content was c.reserve.new.self f (g.met.D.Disk.only_now was) (c.requires.seen f is).0
+    (open_untouched was c.reserve.new.self f (g.met.D.Disk.only_now was) (c.requires.seen f is).0
     (untouched_call d.content d.moment d.images d.images_since was c.reserve.new.self (g.met.D.Disk.counts_now was) c.reserve.ensures.stays c.reserve.ensures.time))
     (c.mend.ensures.means f (c.reserve.ensures.stays.content ∙ is))
 
@@ -34,7 +34,7 @@ returns-clause-means g c = λ f is.
     let d = g.D.Disk in
     let was = c.args.disk.now in
     leaves_join d.moment d.images d.images_since was c.reserve.new.self c.mend.new.disk (λ b. held_by b ≡ held_by f)
-    (open_untouched d.moment d.images d.images_since d.content was c.reserve.new.self f (g.met.D.Disk.only_now was) (c.requires.seen f is).0
+    (open_untouched was c.reserve.new.self f (g.met.D.Disk.only_now was) (c.requires.seen f is).0
     (untouched_call d.content d.moment d.images d.images_since was c.reserve.new.self (g.met.D.Disk.counts_now was) c.reserve.ensures.stays c.reserve.ensures.time))
     (c.mend.ensures.means f (c.reserve.ensures.stays.content ∙ is))
 
@@ -43,7 +43,7 @@ returns-clause-ends g c = λ f is.
     let d = g.D.Disk in
     let was = c.args.disk.now in
     opened_then c.args.end.damaged f _ _ _
-    (untouched_then d.content d.moment d.images d.images_since was c.reserve.new.self c.mend.new.disk
+    (untouched_then
     (untouched_call d.content d.moment d.images d.images_since was c.reserve.new.self (g.met.D.Disk.counts_now was) c.reserve.ensures.stays c.reserve.ensures.time))
     (c.in_ok-mend.ensures.ends f (c.reserve.ensures.stays.content ∙ is))
 

@@ -24,14 +24,14 @@ returns-in_err-create-clause-means g c = λ f is.
     let d = g.D.Disk in
     let s = c.requires.seen f is in
     let short : length f ≤ 9 = omega (arith, s.1.size) in
-    open_created d.moment d.images d.images_since c.args.disk.now c.create.new.disk f short (c.create.ensures.short (λ e now. omega (arith, short, ap length (s.0 e now))))
+    open_created c.args.disk.now c.create.new.disk f short (c.create.ensures.short (λ e now. omega (arith, short, ap length (s.0 e now))))
 
 pub returns-then-len-le-UNFINISHED-clause-means : goal.returns-then-len-le-UNFINISHED-clause-means
 returns-then-len-le-UNFINISHED-clause-means g c = λ f is.
     let d = g.D.Disk in
     let s = c.requires.seen f is in
     let short : length f ≤ 9 = omega (arith, s.1.size) in
-    open_created d.moment d.images d.images_since c.args.disk.now c.create.new.disk f short (c.create.ensures.short (λ e now. omega (arith, short, ap length (s.0 e now))))
+    open_created c.args.disk.now c.create.new.disk f short (c.create.ensures.short (λ e now. omega (arith, short, ap length (s.0 e now))))
 
 pub returns-then-len-le-UNFINISHED-clause-ends : goal.returns-then-len-le-UNFINISHED-clause-ends
 returns-then-len-le-UNFINISHED-clause-ends g c = λ f is.
@@ -46,12 +46,12 @@ pub returns-then-is_some-clause-means : goal.returns-then-is_some-clause-means
 returns-then-is_some-clause-means g c = λ f is.
     let d = g.D.Disk in
     let was = c.args.disk.now in
-    open_untouched d.moment d.images d.images_since d.content was was f (g.met.D.Disk.only_now was) (c.requires.seen f is).0 (untouched_none d.content d.moment d.images d.images_since was)
+    open_untouched was was f (g.met.D.Disk.only_now was) (c.requires.seen f is).0 (untouched_none {content = d.content} was)
 
 pub returns-then-is_some-clause-ends : goal.returns-then-is_some-clause-ends
 returns-then-is_some-clause-ends g c = λ f is.
     let d = g.D.Disk in
-    end_torn f c.args.len c.args.end.gate c.args.end.damaged _ _ (c.requires.seen f is).1 (omega arith) (sym c.is_some.ensures ∙ c.if-is_some.true) (untouched_none d.content d.moment d.images d.images_since c.args.disk.now)
+    end_torn f c.args.len c.args.end.gate c.args.end.damaged _ _ (c.requires.seen f is).1 (omega arith) (sym c.is_some.ensures ∙ c.if-is_some.true) (untouched_none c.args.disk.now)
 
 pub returns-in_err-clear-clause-means : goal.returns-in_err-clear-clause-means
 returns-in_err-clear-clause-means g c = λ f is.
@@ -60,7 +60,7 @@ returns-in_err-clear-clause-means g c = λ f is.
     let s = c.requires.seen f is in
     let e = end_closed f c.args.len c.args.end.gate c.args.end.damaged s.1 (omega arith) (sym c.is_some.ensures ∙ c.if-is_some.false) in
     let there : AtGate (d.content was) (d.images was) c.args.end.gate e.0 (IsClosed e.0) = record { told = ap is_some is; place = e.2; left = λ b now. subst (IsClosed e.0) (sym (s.0 b now)) e.3 } in
-    open_cleared d.moment d.images d.images_since was was c.clear.new.disk e.0 f e.1 e.3 (open_untouched d.moment d.images d.images_since d.content was was f (g.met.D.Disk.only_now was) s.0 (untouched_none d.content d.moment d.images d.images_since was)) (c.clear.ensures.closed e.0 there)
+    open_cleared was was c.clear.new.disk e.0 f e.1 e.3 (open_untouched was was f (g.met.D.Disk.only_now was) s.0 (untouched_none {content = d.content} was)) (c.clear.ensures.closed e.0 there)
 
 pub returns-clause-means : goal.returns-clause-means
 returns-clause-means g c = λ f is.
@@ -69,7 +69,7 @@ returns-clause-means g c = λ f is.
     let s = c.requires.seen f is in
     let e = end_closed f c.args.len c.args.end.gate c.args.end.damaged s.1 (omega arith) (sym c.is_some.ensures ∙ c.if-is_some.false) in
     let there : AtGate (d.content was) (d.images was) c.args.end.gate e.0 (IsClosed e.0) = record { told = ap is_some is; place = e.2; left = λ b now. subst (IsClosed e.0) (sym (s.0 b now)) e.3 } in
-    open_cleared d.moment d.images d.images_since was was c.clear.new.disk e.0 f e.1 e.3 (open_untouched d.moment d.images d.images_since d.content was was f (g.met.D.Disk.only_now was) s.0 (untouched_none d.content d.moment d.images d.images_since was)) (c.clear.ensures.closed e.0 there)
+    open_cleared was was c.clear.new.disk e.0 f e.1 e.3 (open_untouched was was f (g.met.D.Disk.only_now was) s.0 (untouched_none {content = d.content} was)) (c.clear.ensures.closed e.0 there)
 
 pub returns-clause-ends : goal.returns-clause-ends
 returns-clause-ends g c = λ f is.

@@ -10,7 +10,7 @@ loop-window-init g c = record {
   walked = λ f is. ([], walked_none f (c.requires.header f is));
   shows = c.none-window.ensures.shows (g.D.Disk.content c.args.disk.now) c.requires.len;
   len = c.none-window.ensures.len;
-  untouched = untouched_none g.D.Disk.content g.D.Disk.moment g.D.Disk.images g.D.Disk.images_since c.args.disk.now;
+  untouched = untouched_none c.args.disk.now;
   faults = omega arith;
 }
 
@@ -29,6 +29,6 @@ loop-window-preserved g c =
           (w.0 ++ there.0 ∷ [], walked_more w.0 c.loop-window.at c.from.result f there.0 w.1 (there.1 ∙ sym c.from.ensures) there.2);
       shows = c.head_at.ensures.shows;
       len = c.head_at.ensures.len ∙ i.len;
-      untouched = untouched_then d.content d.moment d.images d.images_since c.args.disk.now c.loop-window.disk c.head_at.new.disk i.untouched c.head_at.ensures.untouched;
+      untouched = untouched_then i.untouched c.head_at.ensures.untouched;
       faults = omega (arith, c.head_at.ensures.later);
     }

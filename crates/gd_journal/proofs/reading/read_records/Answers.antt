@@ -10,7 +10,7 @@ pub loop-records-init : goal.loop-records-init
 loop-records-init g c = record {
   ready = c.none-records.ensures.ready (g.D.Disk.content c.args.disk.now) c.requires.len;
   read = λ f is. subst (λ (n : ℕ). IsRead (seen c.new-list.result.items) n f) (sym c.none-records.ensures.at) (subst (λ (l : List Payload). IsRead (seen l) 8 f) (sym c.new-list.ensures.items) (read_none f (λ _. c.requires.header f is)));
-  untouched = untouched_none g.D.Disk.content g.D.Disk.moment g.D.Disk.images g.D.Disk.images_since c.args.disk.now;
+  untouched = untouched_none c.args.disk.now;
   faults = omega arith;
 }
 
@@ -46,6 +46,6 @@ loop-records-preserved g c =
           let comes = subst (ComesNext l.records.at c.next.new.self.at f) c.in-Record.is (c.in_ok-next.ensures.comes f (i.untouched.same ∙ is)) in
           subst (λ (r : List (ℕ × List ℕ)). IsRead r c.next.new.self.at f) (sym (seen_push l.list.items c.push.new.self.items p c.in_ok-push-in-Record.ensures.items))
           (read_more (seen l.list.items) l.records.at c.next.new.self.at f p (omega (arith, c.requires.len f is)) (i.read f is) comes moves.1);
-      untouched = untouched_then d.content d.moment d.images d.images_since c.args.disk.now l.disk c.next.new.disk i.untouched c.next.ensures.untouched;
+      untouched = untouched_then i.untouched c.next.ensures.untouched;
       faults = omega (arith, c.next.ensures.later);
     }

@@ -18,16 +18,16 @@ pub returns-in_err-clear-clause-doubtful : goal.returns-in_err-clear-clause-doub
 returns-in_err-clear-clause-doubtful g c = λ ps p s.
     let d = g.D.Disk in
     let e = c.in_ok-is_open.ensures in
-    shut_leaves d.content d.moment d.images d.images_since c.args.disk.now c.is_open.new.disk c.clear.new.disk c.args.gate _ ps p (g.met.D.Disk.only_now c.args.disk.now) c.is_open.ensures.untouched e.only e.value c.if-branch.false c.clear.ensures.closed s
+    shut_leaves c.args.disk.now c.is_open.new.disk c.clear.new.disk c.args.gate _ ps p (g.met.D.Disk.only_now c.args.disk.now) c.is_open.ensures.untouched e.only e.value c.if-branch.false c.clear.ensures.closed s
 
 pub returns-clause-doubtful : goal.returns-clause-doubtful
 returns-clause-doubtful g c = λ ps p s.
     let d = g.D.Disk in
     let e = c.in_ok-is_open.ensures in
-    shut_leaves d.content d.moment d.images d.images_since c.args.disk.now c.is_open.new.disk c.clear.new.disk c.args.gate _ ps p (g.met.D.Disk.only_now c.args.disk.now) c.is_open.ensures.untouched e.only e.value c.if-branch.false c.clear.ensures.closed s
+    shut_leaves c.args.disk.now c.is_open.new.disk c.clear.new.disk c.args.gate _ ps p (g.met.D.Disk.only_now c.args.disk.now) c.is_open.ensures.untouched e.only e.value c.if-branch.false c.clear.ensures.closed s
 
 pub returns-clause-settled : goal.returns-clause-settled
 returns-clause-settled g c = λ ps p s.
     let d = g.D.Disk in
     let e = c.in_ok-is_open.ensures in
-    c.in_ok-clear.ensures.rests ps (shut_there d.content d.moment d.images d.images_since c.args.disk.now c.is_open.new.disk c.args.gate _ ps p c.is_open.ensures.untouched e.only e.value c.if-branch.false s)
+    c.in_ok-clear.ensures.rests ps (shut_there c.args.disk.now c.is_open.new.disk c.args.gate _ ps p c.is_open.ensures.untouched e.only e.value c.if-branch.false s)

@@ -12,7 +12,7 @@ returns-in_err-write_at-clause-closed g c = λ ps s.
     let was = c.args.disk.now in
     let near = let f = content_of (d.content was) s.told in c.requires.near f.0 f.1 in
     let begun = leaves_start d.moment d.images d.images_since was (IsClosed ps) (g.met.D.Disk.only_now was) s.left in
-    closed_write d.moment d.images d.images_since was was c.write_at.new.self ps _ _ begun (omega (arith, near, s.place)) c.write_at.ensures.images c.write_at.ensures.time
+    closed_write was was c.write_at.new.self ps _ _ begun (omega (arith, near, s.place)) c.write_at.ensures.images c.write_at.ensures.time
 
 pub returns-in_err-sync-clause-closed : goal.returns-in_err-sync-clause-closed
 returns-in_err-sync-clause-closed g c = λ ps s.
@@ -20,7 +20,7 @@ returns-in_err-sync-clause-closed g c = λ ps s.
     let was = c.args.disk.now in
     let near = let f = content_of (d.content was) s.told in c.requires.near f.0 f.1 in
     let begun = leaves_start d.moment d.images d.images_since was (IsClosed ps) (g.met.D.Disk.only_now was) s.left in
-    let one = closed_write d.moment d.images d.images_since was was c.write_at.new.self ps _ _ begun (omega (arith, near, s.place)) c.write_at.ensures.images c.write_at.ensures.time in
+    let one = closed_write was was c.write_at.new.self ps _ _ begun (omega (arith, near, s.place)) c.write_at.ensures.images c.write_at.ensures.time in
     leaves_stays d.moment d.images d.images_since was c.write_at.new.self c.sync.new.self (IsClosed ps) one c.sync.ensures.stays c.sync.ensures.time
 
 pub returns-clause-closed : goal.returns-clause-closed
@@ -29,7 +29,7 @@ returns-clause-closed g c = λ ps s.
     let was = c.args.disk.now in
     let near = let f = content_of (d.content was) s.told in c.requires.near f.0 f.1 in
     let begun = leaves_start d.moment d.images d.images_since was (IsClosed ps) (g.met.D.Disk.only_now was) s.left in
-    let one = closed_write d.moment d.images d.images_since was was c.write_at.new.self ps _ _ begun (omega (arith, near, s.place)) c.write_at.ensures.images c.write_at.ensures.time in
+    let one = closed_write was was c.write_at.new.self ps _ _ begun (omega (arith, near, s.place)) c.write_at.ensures.images c.write_at.ensures.time in
     leaves_stays d.moment d.images d.images_since was c.write_at.new.self c.sync.new.self (IsClosed ps) one c.sync.ensures.stays c.sync.ensures.time
 
 pub returns-clause-staged : goal.returns-clause-staged

@@ -37,6 +37,6 @@ loop-opening-preserved g c =
           let r = l.invariant.read f is in
           let more = subst (ReadsOn r.0 f o.damaged o.next) c.in-Some.is (c.in_ok-next_payload.ensures.next f (l.invariant.untouched.same ∙ is) r.0 r.1) in
           (r.0 ++ (p.offset, p.bytes) ∷ [], more.0, record_taken r.0 (p.offset, p.bytes) l.store now r.2 (subst (λ (b : List ℕ). IsTaken l.store b now) c.as_slice.ensures taken));
-      untouched = untouched_then d.content d.moment d.images d.images_since c.args.opening.now.disk l.opening.disk o.disk l.invariant.untouched c.next_payload.ensures.untouched;
+      untouched = untouched_then l.invariant.untouched c.next_payload.ensures.untouched;
       faults = omega (arith, c.next_payload.ensures.later);
     }

@@ -77,7 +77,7 @@ returns-in_err-write_record-clause-moments g c = rw (← c.self.view_is) (λ ps 
     let spells = c.as_slice.ensures.value ∙ c.in_ok-spell.ensures in
     let mid = c.reserve.new.self in
     let fits : IsPayload p = record { some = omega arith; short = omega arith } in
-    append_leaves d.moment d.images d.images_since i.disk mid c.write_record.new.disk (d.content i.disk) i.gate ps p (g.met.D.Disk.only_now i.disk) c.reserve.ensures.stays c.reserve.ensures.time s fits
+    append_leaves i.disk mid c.write_record.new.disk (d.content i.disk) i.gate ps p (g.met.D.Disk.only_now i.disk) c.reserve.ensures.stays c.reserve.ensures.time s fits
     (c.write_record.ensures.doubtful ps p spells (at_gate_stays (d.content i.disk) (d.content mid) (d.images i.disk) (d.images mid) i.gate ps (IsAtRest ps) c.reserve.ensures.stays s.rests)))
 
 pub invariant_of-self-2 : goal.invariant_of-self-2
@@ -120,5 +120,5 @@ returns-clause-moments g c = rw (← c.self.view_is) (λ ps s.
     let spells = c.as_slice.ensures.value ∙ c.in_ok-spell.ensures in
     let mid = c.reserve.new.self in
     let fits : IsPayload p = record { some = omega arith; short = omega arith } in
-    append_leaves d.moment d.images d.images_since i.disk mid c.write_record.new.disk (d.content i.disk) i.gate ps p (g.met.D.Disk.only_now i.disk) c.reserve.ensures.stays c.reserve.ensures.time s fits
+    append_leaves i.disk mid c.write_record.new.disk (d.content i.disk) i.gate ps p (g.met.D.Disk.only_now i.disk) c.reserve.ensures.stays c.reserve.ensures.time s fits
     (c.write_record.ensures.doubtful ps p spells (at_gate_stays (d.content i.disk) (d.content mid) (d.images i.disk) (d.images mid) i.gate ps (IsAtRest ps) c.reserve.ensures.stays s.rests)))

@@ -36,19 +36,19 @@ pub returns-in_err-settle_record-clause-moments : goal.returns-in_err-settle_rec
 returns-in_err-settle_record-clause-moments g c = rw (← c.self.view_is) (λ next ps p is s.
     let d = g.D.Disk in
     let i = c.self.inside in
-    settle_leaves d.moment d.images d.images_since i.disk c.settle_record.new.disk (d.content i.disk) i.gate next ps p s (c.settle_record.ensures.doubtful ps p s.rests))
+    settle_leaves i.disk c.settle_record.new.disk (d.content i.disk) i.gate next ps p s (c.settle_record.ensures.doubtful ps p s.rests))
 
 pub returns-then-branch-clause-moments : goal.returns-then-branch-clause-moments
 returns-then-branch-clause-moments g c = rw (← c.self.view_is) (λ next ps p is s.
     let d = g.D.Disk in
     let i = c.self.inside in
-    settle_leaves d.moment d.images d.images_since i.disk c.settle_record.new.disk (d.content i.disk) i.gate next ps p s (c.settle_record.ensures.doubtful ps p s.rests))
+    settle_leaves i.disk c.settle_record.new.disk (d.content i.disk) i.gate next ps p s (c.settle_record.ensures.doubtful ps p s.rests))
 
 pub returns-clause-moments : goal.returns-clause-moments
 returns-clause-moments g c = rw (← c.self.view_is) (λ next ps p is s.
     let d = g.D.Disk in
     let i = c.self.inside in
-    settle_leaves d.moment d.images d.images_since i.disk c.settle_record.new.disk (d.content i.disk) i.gate next ps p s (c.settle_record.ensures.doubtful ps p s.rests))
+    settle_leaves i.disk c.settle_record.new.disk (d.content i.disk) i.gate next ps p s (c.settle_record.ensures.doubtful ps p s.rests))
 
 -- there is one next gate
 one_next : (o : Option ℕ) (m n : ℕ) → o ≡ Some m → o ≡ Some n → m ≡ n

@@ -50,4 +50,4 @@ returns-clause-moments g c = rw (← c.self.view_is) (λ bs before.
     let next = held_next (d.content j.disk) (d.images j.disk) j.gate bs more p before is meant in
     let h = before.held in
     let after = c.append.new.self in
-    leaves d.moment d.images d.images_since j.disk after.disk h.payloads p bs more h.groups next (c.append.ensures.moments h.payloads h.settled))
+    leaves j.disk after.disk h.payloads p bs more h.groups next (c.append.ensures.moments h.payloads h.settled))

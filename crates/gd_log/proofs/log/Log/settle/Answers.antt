@@ -28,4 +28,4 @@ returns-clause-unsure g c = rw (← c.self.view_is) (λ failed next bs more is s
 pub returns-clause-moments : goal.returns-clause-moments
 returns-clause-moments g c = rw (← c.self.view_is) (λ next bs more is s.
     let d = g.D.Disk in
-    leaves d.moment d.images d.images_since c.self.inside.journal.disk c.settle.new.self.disk s.payloads s.last bs more s.groups s.next_group (c.settle.ensures.moments next s.payloads s.last is s.doubt))
+    leaves c.self.inside.journal.disk c.settle.new.self.disk s.payloads s.last bs more s.groups s.next_group (c.settle.ensures.moments next s.payloads s.last is s.doubt))

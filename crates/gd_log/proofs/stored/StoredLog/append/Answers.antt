@@ -20,7 +20,7 @@ returns-in-Ok-clause-moments g c = rw (← c.self.view_is) (λ held.
     let more = c.args.batches.now in
     let follow = ap (λ (v : Stored _). all_follow (prims_of v.batches) (length v.batches) more) c.self.view_is ∙ c.requires.may.follow in
     let before : HoldsBefore (d.content i.log.disk) (d.images i.log.disk) i.log.gate i.store more = record { held = holds_held (d.content i.log.disk) (d.images i.log.disk) i.log.gate i.log.doubt i.store held; follow = follow } in
-    added_moments d.content d.moment d.images d.images_since i.log.disk c.append.new.self.disk i.store c.absorb_group.new.store more c.in_ok-absorb_group.ensures.taken (c.in-Ok.ensures.moments i.store before))
+    added_moments i.log.disk c.append.new.self.disk i.store c.absorb_group.new.store more c.in_ok-absorb_group.ensures.taken (c.in-Ok.ensures.moments i.store before))
 
 pub returns-in-Err-clause-moments : goal.returns-in-Err-clause-moments
 returns-in-Err-clause-moments g c = rw (← c.self.view_is) (λ held.
@@ -31,5 +31,5 @@ returns-in-Err-clause-moments g c = rw (← c.self.view_is) (λ held.
     let is_held = holds_held (d.content i.log.disk) (d.images i.log.disk) i.log.gate i.log.doubt i.store held in
     let before : HoldsBefore (d.content i.log.disk) (d.images i.log.disk) i.log.gate i.store more = record { held = is_held; follow = follow } in
     let back = taken_back i.store c.absorb_group.new.store c.withdraw.new.store more (length more) refl c.in_ok-absorb_group.ensures.taken c.withdraw.ensures in
-    failed_moments d.content d.moment d.images d.images_since i.log.disk c.append.new.self.disk i.store c.withdraw.new.store more (d.faults i.log.disk) (d.faults c.append.new.self.disk) c.in-Err.fault (g.met.D.Disk.only_now i.log.disk) back c.in-Err.ensures.cause is_held.means
+    failed_moments i.log.disk c.append.new.self.disk i.store c.withdraw.new.store more (d.faults i.log.disk) (d.faults c.append.new.self.disk) c.in-Err.fault (g.met.D.Disk.only_now i.log.disk) back c.in-Err.ensures.cause is_held.means
     (c.in-Err.ensures.moments i.store before) (λ is. (c.in-Err.ensures.memory (ap Err is)).1))
