@@ -13,6 +13,19 @@ module _ {D : Type 0} (moment : D → ℕ) (images : D → List ℕ → Type 0) 
     before = λ t c le since. inl since;
   }
 
+module _ {D : Type 0} (content : D → Option (List ℕ)) (moment : D → ℕ) (images : D → List ℕ → Type 0) (images_since : D → ℕ → List ℕ → Type 0) where
+  -- one call that changes nothing
+  pub untouched_call : (old new : D) → ((t : ℕ) (c : List ℕ) → t ≤ moment old → images old c → images_since old t c) → Stays (content old) (content new) (images old) (images new)
+      → Elapses (moment old) (moment new) (images_since old) (images_since new) (images new) → IsUntouched content moment images images_since old new
+  untouched_call old new counts stays time = record {
+    same = stays.content;
+    now = stays.images;
+    later = time.later;
+    since = λ t c le since. ⊎_elim (λ p. p) (λ now. counts t c le (stays.images c now)) (time.nothing_else t c le since);
+  }
+
+-- the functions of the disk are those of the facts
+module _ {D : Type 0} {moment : D → ℕ} {images : D → List ℕ → Type 0} {images_since : D → ℕ → List ℕ → Type 0} where
   -- one call more, after which each image has P
   pub leaves_on : (old mid new : D) (P : List ℕ → Type 0) → LeavesOnly moment images images_since old mid P → Elapses (moment mid) (moment new) (images_since mid) (images_since new) (images new) → ((c : List ℕ) → images new c → P c)
       → LeavesOnly moment images images_since old new P
@@ -50,27 +63,6 @@ module _ {D : Type 0} (moment : D → ℕ) (images : D → List ℕ → Type 0) 
     before = λ t c le since. ⊎_elim (λ p. inl p) (λ p. inr (to c p)) (run.before t c le since);
   }
 
-module _ {D : Type 0} (content : D → Option (List ℕ)) (moment : D → ℕ) (images : D → List ℕ → Type 0) (images_since : D → ℕ → List ℕ → Type 0) where
-  -- one call that changes nothing
-  pub untouched_call : (old new : D) → ((t : ℕ) (c : List ℕ) → t ≤ moment old → images old c → images_since old t c) → Stays (content old) (content new) (images old) (images new)
-      → Elapses (moment old) (moment new) (images_since old) (images_since new) (images new) → IsUntouched content moment images images_since old new
-  untouched_call old new counts stays time = record {
-    same = stays.content;
-    now = stays.images;
-    later = time.later;
-    since = λ t c le since. ⊎_elim (λ p. p) (λ now. counts t c le (stays.images c now)) (time.nothing_else t c le since);
-  }
-
-  -- behind what leaves P, and before it
-  pub leaves_untouched : (old mid new : D) (P : List ℕ → Type 0) → LeavesOnly moment images images_since old mid P → IsUntouched content moment images images_since mid new → LeavesOnly moment images images_since old new P
-  leaves_untouched old mid new P run rest = record {
-    later = omega (arith, run.later, rest.later);
-    now = λ c now. run.now c (rest.now c now);
-    each = λ c since. run.each c (rest.since (moment old) c run.later since);
-    before = λ t c le since. run.before t c le (rest.since t c (omega (arith, le, run.later)) since);
-  }
-
--- the functions of the disk are those of the facts
 module _ {D : Type 0} {content : D → Option (List ℕ)} {moment : D → ℕ} {images : D → List ℕ → Type 0} {images_since : D → ℕ → List ℕ → Type 0} where
   -- no call
   pub untouched_none : (old : D) → IsUntouched content moment images images_since old old
@@ -83,4 +75,13 @@ module _ {D : Type 0} {content : D → Option (List ℕ)} {moment : D → ℕ} {
     now = λ c now. first.now c (second.now c now);
     later = omega (arith, first.later, second.later);
     since = λ t c le since. first.since t c le (second.since t c (omega (arith, le, first.later)) since);
+  }
+
+  -- behind what leaves P, and before it
+  pub leaves_untouched : (old mid new : D) (P : List ℕ → Type 0) → LeavesOnly moment images images_since old mid P → IsUntouched content moment images images_since mid new → LeavesOnly moment images images_since old new P
+  leaves_untouched old mid new P run rest = record {
+    later = omega (arith, run.later, rest.later);
+    now = λ c now. run.now c (rest.now c now);
+    each = λ c since. run.each c (rest.since (moment old) c run.later since);
+    before = λ t c le since. run.before t c le (rest.since t c (omega (arith, le, run.later)) since);
   }

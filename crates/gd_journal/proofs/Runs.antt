@@ -14,18 +14,18 @@ module _ {D : Type 0} {moment : D → ℕ} {images : D → List ℕ → Type 0} 
   -- a write behind the gate
   pub closed_write : (old mid new : D) (ps : List (List ℕ)) (at n : ℕ) → LeavesOnly moment images images_since old mid (IsClosed ps) → length (front ps) + 1 ≤ at → Follows (Torn at n) (images mid) (images new)
       → Elapses (moment mid) (moment new) (images_since mid) (images_since new) (images new) → LeavesOnly moment images images_since old new (IsClosed ps)
-  closed_write old mid new ps at n run le follows time = leaves_step moment images images_since old mid new (IsClosed ps) (Torn at n) run follows time (λ d c. closed_torn ps at n d c le)
+  closed_write old mid new ps at n run le follows time = leaves_step old mid new (IsClosed ps) (Torn at n) run follows time (λ d c. closed_torn ps at n d c le)
 
   -- a cut behind the gate
   pub closed_short : (old mid new : D) (ps : List (List ℕ)) (n : ℕ) → LeavesOnly moment images images_since old mid (IsClosed ps) → n ≡ length (front ps) + 1 → Follows (Cut n) (images mid) (images new)
       → Elapses (moment mid) (moment new) (images_since mid) (images_since new) (images new) → LeavesOnly moment images images_since old new (IsClosed ps)
-  closed_short old mid new ps n run is follows time = leaves_step moment images images_since old mid new (IsClosed ps) (Cut n) run follows time (λ d c. closed_cut ps n d c is)
+  closed_short old mid new ps n run is follows time = leaves_step old mid new (IsClosed ps) (Cut n) run follows time (λ d c. closed_cut ps n d c is)
 
   -- a write of the gate
   pub doubtful_write : (old mid new : D) (ps : List (List ℕ)) (p : List ℕ) (gate : ℕ) → LeavesOnly moment images images_since old mid (IsDoubtful ps p) → ((c : List ℕ) → images mid c → IsStaged ps p c) → gate ≡ length (front ps)
       → Follows (Torn gate 1) (images mid) (images new) → Elapses (moment mid) (moment new) (images_since mid) (images_since new) (images new) → LeavesOnly moment images images_since old new (IsDoubtful ps p)
   doubtful_write old mid new ps p gate run has place follows time =
-      leaves_on moment images images_since old mid new (IsDoubtful ps p) run time (λ c now. let from = follows c now in gate_torn ps p from.0 c gate place (has from.0 from.1) from.2)
+      leaves_on old mid new (IsDoubtful ps p) run time (λ c now. let from = follows c now in gate_torn ps p from.0 c gate place (has from.0 from.1) from.2)
 
   -- room is made, and then a record is written
   pub append_leaves : (old mid new : D) (co : Option (List ℕ)) (gate : ℕ) (ps : List (List ℕ)) (p : List ℕ) {a b : Option (List ℕ)} → ((c : List ℕ) → images_since old (moment old) c → images old c) → Stays a b (images old) (images mid)
@@ -33,38 +33,38 @@ module _ {D : Type 0} {moment : D → ℕ} {images : D → List ℕ → Type 0} 
       → LeavesOnly moment images images_since old new (MayStandFor ps p)
   append_leaves old mid new co gate ps p only stays time s fits run =
       let begun = leaves_start moment images images_since old (IsDoubtful ps p) only (λ c now. closed_doubtful ps p c (at_rest_closed ps c (s.rests.left c now))) in
-      let roomy = leaves_stays moment images images_since old old mid (IsDoubtful ps p) begun stays time in
-      leaves_weaken moment images images_since old new (IsDoubtful ps p) (MayStandFor ps p) (λ c there. doubtful_stands ps p c s.each fits there) (leaves_join moment images images_since old mid new (IsDoubtful ps p) roomy run)
+      let roomy = leaves_stays old old mid (IsDoubtful ps p) begun stays time in
+      leaves_weaken old new (IsDoubtful ps p) (MayStandFor ps p) (λ c there. doubtful_stands ps p c s.each fits there) (leaves_join old mid new (IsDoubtful ps p) roomy run)
 
   pub settle_leaves : (old new : D) (co : Option (List ℕ)) (gate next : ℕ) (ps : List (List ℕ)) (p : List ℕ) → IsInDoubt co (images old) gate next ps p → LeavesOnly moment images images_since old new (IsDoubtful ps p)
       → LeavesOnly moment images images_since old new (MayStandFor ps p)
-  settle_leaves old new co gate next ps p s run = leaves_weaken moment images images_since old new (IsDoubtful ps p) (MayStandFor ps p) (λ c there. doubtful_stands ps p c s.each s.last there) run
+  settle_leaves old new co gate next ps p s run = leaves_weaken old new (IsDoubtful ps p) (MayStandFor ps p) (λ c there. doubtful_stands ps p c s.each s.last there) run
 
   -- where one file is left, and nothing is changed
   pub open_untouched : {content : D → Option (List ℕ)} (old new : D) (file : List ℕ) → ((c : List ℕ) → images_since old (moment old) c → images old c) → Only file (images old) → IsUntouched content moment images images_since old new
       → LeavesOnly moment images images_since old new (λ c. held_by c ≡ held_by file)
   open_untouched old new file only_now only untouched =
-      leaves_untouched _ moment images images_since old old new (λ c. held_by c ≡ held_by file) (leaves_start moment images images_since old (λ c. held_by c ≡ held_by file) only_now (λ c now. ap held_by (only c now))) untouched
+      leaves_untouched old old new (λ c. held_by c ≡ held_by file) (leaves_start moment images images_since old (λ c. held_by c ≡ held_by file) only_now (λ c now. ap held_by (only c now))) untouched
 
   pub open_created : (old new : D) (file : List ℕ) → length file ≤ 9 → LeavesOnly moment images images_since old new (λ c. length c ≤ 9) → LeavesOnly moment images images_since old new (λ c. held_by c ≡ held_by file)
-  open_created old new file short run = leaves_weaken moment images images_since old new (λ c. length c ≤ 9) (λ c. held_by c ≡ held_by file) (λ c less. held_short c less ∙ sym (held_short file short)) run
+  open_created old new file short run = leaves_weaken old new (λ c. length c ≤ 9) (λ c. held_by c ≡ held_by file) (λ c less. held_short c less ∙ sym (held_short file short)) run
 
   pub open_cleared : (old mid new : D) (ps : List (List ℕ)) (file : List ℕ) → AllByRecursion IsPayload ps → IsClosed ps file → LeavesOnly moment images images_since old mid (λ c. held_by c ≡ held_by file) → LeavesOnly moment images images_since mid new (IsClosed ps)
       → LeavesOnly moment images images_since old new (λ c. held_by c ≡ held_by file)
   open_cleared old mid new ps file each there first second =
-      leaves_join moment images images_since old mid new (λ c. held_by c ≡ held_by file) first
-      (leaves_weaken moment images images_since mid new (IsClosed ps) (λ c. held_by c ≡ held_by file) (λ c closed. closed_stands ps c each closed ∙ sym (closed_stands ps file each there)) second)
+      leaves_join old mid new (λ c. held_by c ≡ held_by file) first
+      (leaves_weaken mid new (IsClosed ps) (λ c. held_by c ≡ held_by file) (λ c closed. closed_stands ps c each closed ∙ sym (closed_stands ps file each there)) second)
 
   -- nothing was changed, and then one of the files that were left was opened
   pub open_begun : {content : D → Option (List ℕ)} (old mid new : D) (file : List ℕ) → ((c : List ℕ) → images_since old (moment old) c → images old c) → images old file → IsUntouched content moment images images_since old mid
       → LeavesOnly moment images images_since mid new (λ c. held_by c ≡ held_by file) → LeavesOnly moment images images_since old new (MeansOneOf (images old))
   open_begun old mid new file only_now there untouched run =
       let P : List ℕ → Type 0 = MeansOneOf (images old) in
-      leaves_join moment images images_since old mid new P
-      (leaves_untouched _ moment images images_since old old mid P (leaves_start moment images images_since old P only_now (λ c now. (c, now, refl))) untouched)
-      (leaves_weaken moment images images_since mid new (λ c. held_by c ≡ held_by file) P (λ c same. (file, there, same)) run)
+      leaves_join old mid new P
+      (leaves_untouched old old mid P (leaves_start moment images images_since old P only_now (λ c now. (c, now, refl))) untouched)
+      (leaves_weaken mid new (λ c. held_by c ≡ held_by file) P (λ c same. (file, there, same)) run)
 
   pub open_none : {content : D → Option (List ℕ)} (old new : D) → ((c : List ℕ) → images_since old (moment old) c → images old c) → IsUntouched content moment images images_since old new → LeavesOnly moment images images_since old new (MeansOneOf (images old))
   open_none old new only_now untouched =
       let P : List ℕ → Type 0 = MeansOneOf (images old) in
-      leaves_untouched _ moment images images_since old old new P (leaves_start moment images images_since old P only_now (λ c now. (c, now, refl))) untouched
+      leaves_untouched old old new P (leaves_start moment images images_since old P only_now (λ c now. (c, now, refl))) untouched

@@ -29,6 +29,6 @@ module _ {D : Type 0} {content : D → Option (List ℕ)} {moment : D → ℕ} {
       → AtGate (content was) (images was) gate ps (IsDoubtful ps p) → LeavesOnly moment images images_since was new (IsDoubtful ps p)
   shut_leaves was mid new gate open_there ps p only_now u only value closed clears s =
       let begun = leaves_start moment images images_since was (IsDoubtful ps p) only_now s.left in
-      let read = leaves_untouched content moment images images_since was was mid (IsDoubtful ps p) begun u in
-      leaves_join moment images images_since was mid new (IsDoubtful ps p) read
-      (leaves_weaken moment images images_since mid new (IsClosed ps) (IsDoubtful ps p) (closed_doubtful ps p) (clears ps (shut_there was mid gate open_there ps p u only value closed s)))
+      let read = leaves_untouched was was mid (IsDoubtful ps p) begun u in
+      leaves_join was mid new (IsDoubtful ps p) read
+      (leaves_weaken mid new (IsClosed ps) (IsDoubtful ps p) (closed_doubtful ps p) (clears ps (shut_there was mid gate open_there ps p u only value closed s)))

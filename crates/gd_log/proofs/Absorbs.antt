@@ -63,17 +63,17 @@ module _ {D : Type 0} {moment : D → ℕ} {images : D → List ℕ → Type 0} 
   pub added_moments : (old new : D) (bs after more : List Batch) → after ≡ bs ++ more → LeavesOnly moment images images_since old new (MayStandFor bs (more ∷ []))
       → LeavesOnly moment images images_since old new (λ file. StandsFor file bs ⊎ StandsFor file after)
   added_moments old new bs after more is run =
-      leaves_weaken moment images images_since old new (MayStandFor bs (more ∷ [])) (λ file. StandsFor file bs ⊎ StandsFor file after) (λ c. ⊎_elim (λ p. inl p) (λ p. inr (subst (StandsFor c) (sym is) p))) run
+      leaves_weaken old new (MayStandFor bs (more ∷ [])) (λ file. StandsFor file bs ⊎ StandsFor file after) (λ c. ⊎_elim (λ p. inl p) (λ p. inr (subst (StandsFor c) (sym is) p))) run
 
   -- of one that does not
   pub failed_moments : {content : D → Option (List ℕ)} (old new : D) (bs after more : List Batch) (before now : ℕ) (fault : JournalFault) → ((c : List ℕ) → images_since old (moment old) c → images old c) → after ≡ bs → HasReason before now fault → ((c : List ℕ) → images old c → StandsFor c bs)
       → LeavesOnly moment images images_since old new (MayStandFor bs (more ∷ [])) → (fault ≡ Memory → IsUntouched content moment images images_since old new)
       → LeavesOnly moment images images_since old new (λ file. StandsFor file bs ⊎ MayStandFor after (groups_in_doubt (doubt_after (Err fault) more)) file)
   failed_moments old new bs after more before now DiskFault only is reason means run untouched =
-      leaves_weaken moment images images_since old new (MayStandFor bs (more ∷ [])) (λ file. StandsFor file bs ⊎ MayStandFor after (more ∷ []) file)
+      leaves_weaken old new (MayStandFor bs (more ∷ [])) (λ file. StandsFor file bs ⊎ MayStandFor after (more ∷ []) file)
       (λ c p. inr (subst (λ (cs : List Batch). MayStandFor cs (more ∷ []) c) (sym is) p)) run
   failed_moments old new bs after more before now Memory only is reason means run untouched =
       let P : List ℕ → Type 0 = λ file. StandsFor file bs ⊎ StandsFor file after in
-      leaves_untouched _ moment images images_since old old new P (leaves_start moment images images_since old P only (λ c now. inl (means c now))) (untouched refl)
+      leaves_untouched old old new P (leaves_start moment images images_since old P only (λ c now. inl (means c now))) (untouched refl)
   failed_moments old new bs after more before now NotStore only is reason means run untouched = absurd reason
   failed_moments old new bs after more before now (Damaged offset) only is reason means run untouched = absurd reason

@@ -35,7 +35,7 @@ doubt co im gate next ps p bs more are n s = record { payloads = ps; last = p; g
 pub leaves : {D : Type 0} {moment : D → ℕ} {images : D → List ℕ → Type 0} {images_since : D → ℕ → List ℕ → Type 0} (old new : D) (ps : List (List ℕ)) (p : List ℕ) (bs more : List Batch) → AreGroups [] ps bs → IsNext bs p more
     → LeavesOnly moment images images_since old new (journal.MayStandFor ps p) → LeavesOnly moment images images_since old new (MayStandFor bs (more ∷ []))
 leaves old new ps p bs more are n run =
-    leaves_weaken _ _ _ old new (journal.MayStandFor ps p) (MayStandFor bs (more ∷ [])) (λ c may. may_stand c ps p bs more may are n) run
+    leaves_weaken old new (journal.MayStandFor ps p) (MayStandFor bs (more ∷ [])) (λ c may. may_stand c ps p bs more may are n) run
 
 -- where nothing was changed the same payloads are there
 pub settled_untouched : {D : Type 0} {content : D → Option (List ℕ)} {moment : D → ℕ} {images : D → List ℕ → Type 0} {images_since : D → ℕ → List ℕ → Type 0} (old new : D) (gate : ℕ) (ps : List (List ℕ)) → IsUntouched content moment images images_since old new

@@ -58,7 +58,7 @@ module _ {D : Type 0} {content : D → Option (List ℕ)} {moment : D → ℕ} {
   pub untouched_means : (old new : D) → ((c : List ℕ) → images_since old (moment old) c → images old c) → IsUntouched content moment images images_since old new → LeavesOnly moment images images_since old new (MeansOneOf (images old))
   untouched_means old new only_now u =
       let P : List ℕ → Type 0 = MeansOneOf (images old) in
-      leaves_untouched content moment images images_since old old new P (leaves_start moment images images_since old P only_now (λ c now. (c, now, refl))) u
+      leaves_untouched old old new P (leaves_start moment images images_since old P only_now (λ c now. (c, now, refl))) u
 
   pub kept_untouched : (old new : D) (file : List ℕ) → content old ≡ Some file → IsUntouched content moment images images_since old new → IsKept content moment images images_since file old new
   kept_untouched old new file is u = record {
@@ -73,8 +73,8 @@ module _ {D : Type 0} {content : D → Option (List ℕ)} {moment : D → ℕ} {
       → LeavesOnly moment images images_since mid new (λ c. journal.held_by c ≡ journal.held_by file) → LeavesOnly moment images images_since old new (MeansOneOf (images old))
   finished_means old mid new file only_now there u run =
       let P : List ℕ → Type 0 = MeansOneOf (images old) in
-      leaves_join moment images images_since old mid new P (untouched_means old mid only_now u)
-      (leaves_weaken moment images images_since mid new (λ c. journal.held_by c ≡ journal.held_by file) P (λ c same. (file, there, same_meaning c file same)) run)
+      leaves_join old mid new P (untouched_means old mid only_now u)
+      (leaves_weaken mid new (λ c. journal.held_by c ≡ journal.held_by file) P (λ c same. (file, there, same_meaning c file same)) run)
 
   pub kept_finished : (old mid new : D) (file : List ℕ) (bs : List Batch) → ((f : List ℕ) → content new ≡ Some f → images new f) → images old file → content old ≡ Some file → IsUntouched content moment images images_since old mid → StandsFor file bs
       → LeavesOnly moment images images_since mid new (λ c. journal.held_by c ≡ journal.held_by file) → is_some (content new) ≡ is_some (content mid) → IsKept content moment images images_since file old new

@@ -95,14 +95,14 @@ module _ {D : Type 0} (content : D → Option (List ℕ)) (moment : D → ℕ) (
         → Keeps (record { progress = record { batches = bs; lines = lines; kept = kept; doubt = o }; log = log }) (record { progress = record { batches = cs; lines = lines; kept = count; doubt = m }; log = after })
     backs_end log after bs cs lines kept count o m p n was is holds moments later =
         backs_by log after bs cs lines kept count o m p n was is holds
-        (λ held. leaves_weaken moment images images_since log.disk after.disk (MayStandFor bs (groups_in_doubt p)) (λ file. MayStandFor bs (groups_in_doubt p) file ⊎ MayStandFor cs (groups_in_doubt n) file) (λ c now. inl now) (moments held)) later
+        (λ held. leaves_weaken log.disk after.disk (MayStandFor bs (groups_in_doubt p)) (λ file. MayStandFor bs (groups_in_doubt p) file ⊎ MayStandFor cs (groups_in_doubt n) file) (λ c now. inl now) (moments held)) later
 
     -- two steps, of which the first ends a doubt
     pub backs_then : (p m q : Running D) → ((c : List ℕ) → StandsForRun m.progress c → StandsForRun p.progress c) → Keeps p m → Keeps m q → Keeps p q
     backs_then p m q to first second = record {
       backed = λ held. second.backed (first.backed held);
-      moments = λ held. leaves_join moment images images_since p.log.disk m.log.disk q.log.disk (StandsForEither p.progress q.progress)
-          (leaves_weaken moment images images_since p.log.disk m.log.disk (StandsForEither p.progress m.progress) (StandsForEither p.progress q.progress) (λ c. ⊎_elim (λ a. inl a) (λ b. inl (to c b))) (first.moments held))
-          (leaves_weaken moment images images_since m.log.disk q.log.disk (StandsForEither m.progress q.progress) (StandsForEither p.progress q.progress) (λ c. ⊎_elim (λ b. inl (to c b)) (λ d. inr d)) (second.moments (first.backed held)));
+      moments = λ held. leaves_join p.log.disk m.log.disk q.log.disk (StandsForEither p.progress q.progress)
+          (leaves_weaken p.log.disk m.log.disk (StandsForEither p.progress m.progress) (StandsForEither p.progress q.progress) (λ c. ⊎_elim (λ a. inl a) (λ b. inl (to c b))) (first.moments held))
+          (leaves_weaken m.log.disk q.log.disk (StandsForEither m.progress q.progress) (StandsForEither p.progress q.progress) (λ c. ⊎_elim (λ b. inl (to c b)) (λ d. inr d)) (second.moments (first.backed held)));
       later = omega (arith, first.later, second.later);
     }

@@ -24,7 +24,7 @@ pub returns-in_err-mend-clause-means : goal.returns-in_err-mend-clause-means
 returns-in_err-mend-clause-means g c = λ f is.
     let d = g.D.Disk in
     let was = c.args.disk.now in
-    leaves_join d.moment d.images d.images_since was c.reserve.new.self c.mend.new.disk (λ b. held_by b ≡ held_by f)
+    leaves_join was c.reserve.new.self c.mend.new.disk (λ b. held_by b ≡ held_by f)
     (open_untouched was c.reserve.new.self f (g.met.D.Disk.only_now was) (c.requires.seen f is).0
     (untouched_call d.content d.moment d.images d.images_since was c.reserve.new.self (g.met.D.Disk.counts_now was) c.reserve.ensures.stays c.reserve.ensures.time))
     (c.mend.ensures.means f (c.reserve.ensures.stays.content ∙ is))
@@ -33,7 +33,7 @@ pub returns-clause-means : goal.returns-clause-means
 returns-clause-means g c = λ f is.
     let d = g.D.Disk in
     let was = c.args.disk.now in
-    leaves_join d.moment d.images d.images_since was c.reserve.new.self c.mend.new.disk (λ b. held_by b ≡ held_by f)
+    leaves_join was c.reserve.new.self c.mend.new.disk (λ b. held_by b ≡ held_by f)
     (open_untouched was c.reserve.new.self f (g.met.D.Disk.only_now was) (c.requires.seen f is).0
     (untouched_call d.content d.moment d.images d.images_since was c.reserve.new.self (g.met.D.Disk.counts_now was) c.reserve.ensures.stays c.reserve.ensures.time))
     (c.mend.ensures.means f (c.reserve.ensures.stays.content ∙ is))

@@ -19,7 +19,7 @@ returns-in_err-sync-clause-doubtful g c = λ ps p s.
     let was = c.args.disk.now in
     let begun = leaves_start d.moment d.images d.images_since was (IsDoubtful ps p) (g.met.D.Disk.only_now was) (λ f now. staged_doubtful ps p f (s.left f now)) in
     let one = doubtful_write was was c.write_at.new.self ps p c.args.gate begun s.left s.place c.write_at.ensures.images c.write_at.ensures.time in
-    leaves_stays d.moment d.images d.images_since was c.write_at.new.self c.sync.new.self (IsDoubtful ps p) one c.sync.ensures.stays c.sync.ensures.time
+    leaves_stays was c.write_at.new.self c.sync.new.self (IsDoubtful ps p) one c.sync.ensures.stays c.sync.ensures.time
 
 pub returns-clause-doubtful : goal.returns-clause-doubtful
 returns-clause-doubtful g c = λ ps p s.
@@ -27,7 +27,7 @@ returns-clause-doubtful g c = λ ps p s.
     let was = c.args.disk.now in
     let begun = leaves_start d.moment d.images d.images_since was (IsDoubtful ps p) (g.met.D.Disk.only_now was) (λ f now. staged_doubtful ps p f (s.left f now)) in
     let one = doubtful_write was was c.write_at.new.self ps p c.args.gate begun s.left s.place c.write_at.ensures.images c.write_at.ensures.time in
-    leaves_stays d.moment d.images d.images_since was c.write_at.new.self c.sync.new.self (IsDoubtful ps p) one c.sync.ensures.stays c.sync.ensures.time
+    leaves_stays was c.write_at.new.self c.sync.new.self (IsDoubtful ps p) one c.sync.ensures.stays c.sync.ensures.time
 
 pub returns-clause-opened : goal.returns-clause-opened
 returns-clause-opened g c = λ ps p s f now.

@@ -21,7 +21,7 @@ returns-in_err-sync-clause-closed g c = λ ps s.
     let near = let f = content_of (d.content was) s.told in c.requires.near f.0 f.1 in
     let begun = leaves_start d.moment d.images d.images_since was (IsClosed ps) (g.met.D.Disk.only_now was) s.left in
     let one = closed_write was was c.write_at.new.self ps _ _ begun (omega (arith, near, s.place)) c.write_at.ensures.images c.write_at.ensures.time in
-    leaves_stays d.moment d.images d.images_since was c.write_at.new.self c.sync.new.self (IsClosed ps) one c.sync.ensures.stays c.sync.ensures.time
+    leaves_stays was c.write_at.new.self c.sync.new.self (IsClosed ps) one c.sync.ensures.stays c.sync.ensures.time
 
 pub returns-clause-closed : goal.returns-clause-closed
 returns-clause-closed g c = λ ps s.
@@ -30,7 +30,7 @@ returns-clause-closed g c = λ ps s.
     let near = let f = content_of (d.content was) s.told in c.requires.near f.0 f.1 in
     let begun = leaves_start d.moment d.images d.images_since was (IsClosed ps) (g.met.D.Disk.only_now was) s.left in
     let one = closed_write was was c.write_at.new.self ps _ _ begun (omega (arith, near, s.place)) c.write_at.ensures.images c.write_at.ensures.time in
-    leaves_stays d.moment d.images d.images_since was c.write_at.new.self c.sync.new.self (IsClosed ps) one c.sync.ensures.stays c.sync.ensures.time
+    leaves_stays was c.write_at.new.self c.sync.new.self (IsClosed ps) one c.sync.ensures.stays c.sync.ensures.time
 
 pub returns-clause-staged : goal.returns-clause-staged
 returns-clause-staged g c = λ ps p spells s f now.

@@ -11,8 +11,8 @@ returns-in_err-open_gate-clause-doubtful g c = λ ps p spells s.
     let was = c.args.disk.now in
     let behind = c.stage.ensures.closed ps (record { told = s.told; place = s.place; left = λ f now. at_rest_closed ps f (s.left f now) }) in
     let there : AtGate (d.content c.stage.new.disk) (d.images c.stage.new.disk) c.args.gate ps (IsStaged ps p) = record { told = c.stage.ensures.told ∙ s.told; place = s.place; left = c.in_ok-stage.ensures.staged ps p spells s } in
-    leaves_join d.moment d.images d.images_since was c.stage.new.disk c.open_gate.new.disk (IsDoubtful ps p)
-    (leaves_weaken d.moment d.images d.images_since was c.stage.new.disk (IsClosed ps) (IsDoubtful ps p) (closed_doubtful ps p) behind) (c.open_gate.ensures.doubtful ps p there)
+    leaves_join was c.stage.new.disk c.open_gate.new.disk (IsDoubtful ps p)
+    (leaves_weaken was c.stage.new.disk (IsClosed ps) (IsDoubtful ps p) (closed_doubtful ps p) behind) (c.open_gate.ensures.doubtful ps p there)
 
 pub returns-clause-doubtful : goal.returns-clause-doubtful
 returns-clause-doubtful g c = λ ps p spells s.
@@ -20,5 +20,5 @@ returns-clause-doubtful g c = λ ps p spells s.
     let was = c.args.disk.now in
     let behind = c.stage.ensures.closed ps (record { told = s.told; place = s.place; left = λ f now. at_rest_closed ps f (s.left f now) }) in
     let there : AtGate (d.content c.stage.new.disk) (d.images c.stage.new.disk) c.args.gate ps (IsStaged ps p) = record { told = c.stage.ensures.told ∙ s.told; place = s.place; left = c.in_ok-stage.ensures.staged ps p spells s } in
-    leaves_join d.moment d.images d.images_since was c.stage.new.disk c.open_gate.new.disk (IsDoubtful ps p)
-    (leaves_weaken d.moment d.images d.images_since was c.stage.new.disk (IsClosed ps) (IsDoubtful ps p) (closed_doubtful ps p) behind) (c.open_gate.ensures.doubtful ps p there)
+    leaves_join was c.stage.new.disk c.open_gate.new.disk (IsDoubtful ps p)
+    (leaves_weaken was c.stage.new.disk (IsClosed ps) (IsDoubtful ps p) (closed_doubtful ps p) behind) (c.open_gate.ensures.doubtful ps p there)
