@@ -1,0 +1,4 @@
+pub mod KeysStep
+pub mod Insertion
+pub mod Seen
+pub mod Defined

@@ -1,0 +1,103 @@
+//! The first rows behind a row.
+ghost use Rattle.std.specs.Prelude.{◌≡◌, ◌+◌, ◌≤◌, [], ◌∷◌, ◌++◌, List, length, take, nat_lt, IfOk, OnOk, OnErr};
+ghost use Rattle.gd_window.specs.declared.row.Row.{Row};
+ghost use Rattle.gd_window.specs.Kept.{is_behind, rows_behind, HasSeen};
+
+use crate::compare::row_order;
+use crate::order::Order;
+use crate::place::{place_of, put};
+use crate::row::{Row, Rows};
+use gd_base::memory::Memory;
+use std::alloc::Global;
+use std::marker::Model;
+
+/// How many rows a window has room for at first.
+const FIRST_ROOM: u32 = 16;
+
+/// The first rows behind a row, of those that were offered so far, and one more. Contracts see the directions of the
+/// keys, the limit, the row behind which rows come, and the rows that are kept.
+#[derive(Drop)]
+pub struct Window {
+    order: Order,
+    limit: u32,
+    after: Option<Row>,
+    kept: Vec<Row>,
+}
+
+impl Model for Window {
+    ghost use Rattle.std.specs.Prelude.{◌+◌, ◌≤◌, length};
+    ghost use Rattle.gd_window.specs.Rows.{row_cmp, IsUp};
+    ghost use Rattle.gd_window.specs.Kept.{Kept};
+
+    ghost Value = { Kept };
+
+    ghost view = { λ window. record { order = window.order; limit = window.limit; after = window.after; rows = window.kept.items } };
+
+    ghost invariant = { λ window. (length window.kept.items ≤ window.limit + 1) × IsUp (row_cmp window.order) window.kept.items };
+}
+
+/// Whether a row comes strictly behind another one, if there is one.
+fn comes_behind(order: &Order, after: &Option<Row>, row: &Row) -> bool
+    ensures { result ≡ is_behind order.now after.now row.now }
+{
+    match after {
+        None => true,
+        Some(after) => row_order(order, after, row).is_lt(),
+    }
+}
+
+impl Window {
+    /// A window that is to give at most `limit` rows in this order, those strictly behind `after` if there is such a row.
+    /// No row was offered yet. It reserves room for few rows, however great the limit is.
+    pub fn new(
+        alloc: Global,
+        order: Order,
+        limit: u32,
+        after: Option<Row>,
+    ) -> Result<Window, Memory>
+        ensures made { IfOk result (λ window. window ≡ record { order = order; limit = limit; after = after; rows = [] }) }
+        ensures seen { IfOk result (λ window. HasSeen window []) }
+    {
+        let kept = Vec::with_capacity(alloc, limit.min(FIRST_ROOM) as usize)?;
+        Ok(Window {
+            order,
+            limit,
+            after,
+            kept,
+        })
+    }
+
+    /// Offers a row. Rows may be offered in any order; of rows that tie each counts, and the one that was offered first
+    /// comes first. At most one row more than the limit is kept. `Memory` leaves the window as it was, so the row does
+    /// not count as offered.
+    pub fn offer(&mut self, row: Row) -> Result<(), Memory>
+        ensures seen { OnOk result ((offered : List Row) → HasSeen self.old offered → HasSeen self.new (offered ++ row ∷ [])) }
+        ensures stays { self.new ≡ record self.old { rows = self.new.rows } }
+        ensures few { length self.new.rows ≤ self.old.limit + 1 }
+        ensures same { OnErr result (self.new ≡ self.old) }
+    {
+        if !comes_behind(&self.order, &self.after, &row) {
+            return Ok(());
+        }
+        let place = place_of(&self.order, self.kept.as_slice(), &row);
+        put(&mut self.kept, self.limit as usize + 1, place, row)
+    }
+
+    /// The first rows behind `after` of all that were offered, in their order and up to the limit, and whether there are
+    /// more of them. Afterwards no row counts as offered. It takes no memory.
+    pub fn take_all(&mut self) -> (Rows, bool)
+        ensures rows { (offered : List Row) → HasSeen self.old offered
+            → result.0 ≡ take self.old.limit (rows_behind self.old.order self.old.after offered) }
+        ensures more { (offered : List Row) → HasSeen self.old offered
+            → result.1 ≡ nat_lt self.old.limit (length (rows_behind self.old.order self.old.after offered)) }
+        ensures anew { self.new ≡ record self.old { rows = [] } }
+        ensures again { HasSeen self.new [] }
+    {
+        let limit = self.limit as usize;
+        let more = limit < self.kept.len();
+        self.kept.truncate(limit);
+        let none = Vec::new(*self.kept.allocator());
+        let rows = std::mem::replace(&mut self.kept, none);
+        (Rows::from_vec(rows), more)
+    }
+}
