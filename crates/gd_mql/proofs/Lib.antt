@@ -5,3 +5,5 @@ pub mod Sessions
 pub mod Bytes
 pub mod Keys
 pub mod Guids
+pub mod Spelling
+pub mod Literals

@@ -1,2 +1,5 @@
 pub mod Fault
 pub mod Line
+pub mod Names
+pub mod FormFault
+pub mod Directives

@@ -1,8 +1,12 @@
 //! What a line of input asks.
 #![tactic(auto)]
 
+pub mod directive;
 pub mod fault;
+mod form_fault;
 pub mod forms;
 pub mod ids;
 pub mod line;
+pub mod name;
+mod operand;
 pub mod parts;
