@@ -1,5 +1,5 @@
 -- The first fault of steps that follow one another.
-use Rattle.std.proofs.Common.{◌≡◌, Bool, true, false, Option, Some, None, Result, Ok, Err, refl, ap}
+use Rattle.std.proofs.Common.{◌≡◌, Bool, true, false, not, Option, Some, None, Result, Ok, Err, refl, sym, ap}
 use Rattle.std.specs.Prelude.{if◌then◌else◌, option_map}
 use Rattle.std.specs.Option.{option_or}
 use Rattle.std.specs.Result.{result_err}
@@ -67,3 +67,12 @@ given (Err e) none = elim (differ e none) [ ]
 
 pub ok-none : {A E : Type 0} (r : Result A E) (x : A) → r ≡ Ok x → result_err r ≡ None
 ok-none r x is = ap result_err is
+
+-- what is negated to false is true, and the other way round
+pub untrue : (b : Bool) → not b ≡ false → b ≡ true
+untrue true is = refl
+untrue false is = sym is
+
+pub unfalse : (b : Bool) → not b ≡ true → b ≡ false
+unfalse true is = sym is
+unfalse false is = refl

@@ -7,3 +7,4 @@ pub mod Keys
 pub mod Guids
 pub mod Spelling
 pub mod Literals
+pub mod Walked

@@ -1,5 +1,5 @@
 -- Faults of form, with the names that lead to them.
-use Rattle.std.specs.Prelude.{◌≡◌, ℕ, List, ◌∷◌, Option, Some, None, Result, MatchResult, reverse}
+use Rattle.std.specs.Prelude.{◌≡◌, ℕ, List, Option, Some, None, Result, MatchResult, reverse}
 use Rattle.gd_defs.specs.Query.{Fault}
 use Rattle.gd_mql.specs.Fault.{code_view}
 use Rattle.gd_mql.specs.declared.fault.Code.{Code}
@@ -9,10 +9,6 @@ use Rattle.gd_mql.specs.declared.form_fault.FormFault.TheVariants.{Bad, Memory}
 -- a code at the member to which names lead, the innermost first
 abbrev pub fault_under : Code → List (List ℕ) → Fault
 fault_under code names = record { code = code_view code; path = reverse names }
-
--- a fault as it is seen from above the member of this name
-abbrev pub below : List ℕ → Fault → Fault
-below name f = record { code = f.code; path = name ∷ f.path }
 
 -- the fault is the one that is expected, or memory was wanting
 abbrev pub Refuses : Option Fault → FormFault → Type 0

@@ -3,3 +3,4 @@ pub mod Line
 pub mod Names
 pub mod FormFault
 pub mod Directives
+pub mod QueryForm

@@ -2,7 +2,8 @@
 ghost use Rattle.std.specs.Prelude.{◌≡◌, ◌∷◌, ◌++◌, [], Some, Option, option_map, IfOk, OnOk};
 ghost use Rattle.gd_defs.specs.Query.{Fault};
 ghost use Rattle.gd_mql.specs.Fault.{code_view};
-ghost use Rattle.gd_mql.specs.FormFault.{Refuses, below as seen_below};
+ghost use Rattle.gd_form_laws.specs.Faults.{below as seen_below};
+ghost use Rattle.gd_mql.specs.FormFault.{Refuses};
 
 use crate::fault::Code;
 use gd_base::memory::Memory;
@@ -31,6 +32,16 @@ pub fn fault_at(alloc: Global, code: Code, name: &str) -> FormFault
     match push_name(alloc, &mut names, name) {
         Ok(()) => FormFault::Bad { code, names },
         Err(_) => FormFault::Memory,
+    }
+}
+
+/// The fault of this code at the root.
+pub fn root_fault(alloc: Global, code: Code) -> FormFault
+    ensures { Refuses (Some (record { code = code_view code; path = [] })) result }
+{
+    FormFault::Bad {
+        code,
+        names: Vec::new(alloc),
     }
 }
 

@@ -10,3 +10,4 @@ pub mod line;
 pub mod name;
 mod operand;
 pub mod parts;
+mod query_form;
