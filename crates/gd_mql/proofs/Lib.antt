@@ -8,3 +8,4 @@ pub mod Guids
 pub mod Spelling
 pub mod Literals
 pub mod Walked
+pub mod Written

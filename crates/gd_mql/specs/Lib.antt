@@ -4,3 +4,4 @@ pub mod Names
 pub mod FormFault
 pub mod Directives
 pub mod QueryForm
+pub mod Changes

@@ -72,7 +72,8 @@ fn is_other(items: &[Json]) -> bool
     }
 }
 
-fn is_object(value: &Json) -> bool
+/// Whether the value is an object.
+pub fn is_object(value: &Json) -> bool
     ensures { result ≡ is_some (members_in (view value.now)) }
 {
     value.as_object().is_some()
