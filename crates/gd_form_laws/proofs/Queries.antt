@@ -74,7 +74,7 @@ placed_name root k n name is stands = let there : ((n.reversed && is_computed n.
 -- ---- forms
 
 -- whether a value stands for an operand: behind an operator, and at a computed word or `link`, unless it is null or a list that is none
-abbrev operand_there : Name → Json → Bool
+abbrev pub operand_there : Name → Json → Bool
 operand_there n j = has_operator n || (not (not (is_computed n.word || is_link n.word)) && (not (is_null j) && not (is_other_list j)))
 
 err-fits : (b : Bool) (j : Form) (f : Fault) → result_err {T = Form} (if b then Ok j else Err f) ≡ (if b then None else Some f)
