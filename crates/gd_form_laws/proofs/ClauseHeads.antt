@@ -1,6 +1,6 @@
 -- The directives of a clause, which its members spell.
-use Rattle.std.proofs.Common.{◌≡◌, ℕ, List, [], ◌∷◌, Bool, true, false, ◌||◌, Option, Some, None, Result, Ok, Err, codes, refl, sym, ap, ◌∙◌, subst}
-use Rattle.std.specs.Prelude.{if◌then◌else◌, option_and_then, is_some, bytes_eq, ◌&&◌}
+use Rattle.std.proofs.Common.{◌≡◌, ℕ, List, [], ◌∷◌, Bool, true, false, Option, Some, None, Result, Ok, Err, codes, refl, sym, ap, ◌∙◌, subst}
+use Rattle.std.specs.Prelude.{if◌then◌else◌, bytes_eq, ◌&&◌}
 use Rattle.std.specs.Option.{ok_or}
 use Rattle.std.specs.Result.{result_err}
 use Rattle.std.proofs.lemmas.Slice.Eq.{bytes_eq-Decides}
@@ -12,7 +12,7 @@ use Rattle.gd_defs.specs.Query as query
 use Rattle.gd_defs.specs.Query.{Fault, Form, Name, Clause, Directives, Mode, SortWord, no_directives, with_directive, with_member, member_name, form_or_operand, form_of, clause_of, clause_or_default, or_fault, bad_directive, is_directive, mode_of, limit_of, sort_of, is_count, optional}
 use Rattle.gd_form_laws.specs.Faults.{clause_fault}
 use Rattle.gd_form_laws.specs.Spelled.{clause_or, spelled_clause, spelled_directives}
-use Rattle.gd_form_laws.proofs.First.{Given, given}
+use Rattle.gd_form_laws.proofs.First.{given}
 use Rattle.gd_form_laws.proofs.Clauses.{rest-given}
 
 abbrev head : Result Clause Fault → Directives

@@ -1,17 +1,13 @@
 -- What a clause without a fault of form spells, member by member.
-use Rattle.std.proofs.Common.{◌≡◌, ◌≤◌, ℕ, ◌+◌, List, [], ◌∷◌, Bool, true, false, not, ◌||◌, Option, Some, None, Result, Ok, Err, codes, refl, sym, ap, ◌∙◌, subst, arith}
-use Rattle.std.specs.Prelude.{if◌then◌else◌, option_map, option_and_then, is_some, bytes_eq, ◌&&◌, max}
-use Rattle.std.specs.Option.{option_or, ok_or}
+use Rattle.std.proofs.Common.{◌≡◌, ℕ, List, Bool, true, false, not, ◌||◌, Option, Some, None, Result, Ok, Err, codes, refl, sym, ap, ◌∙◌}
+use Rattle.std.specs.Prelude.{if◌then◌else◌, option_map, bytes_eq, ◌&&◌}
 use Rattle.std.specs.Result.{result_err}
-use Rattle.gd_grammar.specs.Chain.{◌>>=◌, map_err}
-use Rattle.gd_grammar.proofs.Steps.{Step, steps, ok_same}
-use Rattle.gd_tree.specs.Json.{Json, null, boolean, number, text, list, object, Items, no_items, item, Members as JsonMembers, no_members as no_json_members, member as json_member}
-use Rattle.gd_tree.specs.Look.{is_null, members_in, items_in, get}
-use Rattle.gd_tree.specs.Bounds.{json_depth, items_depth, members_depth}
+use Rattle.gd_tree.specs.Json.{Json, list, object, no_items, item, Members as JsonMembers, no_members as no_json_members, member as json_member}
+use Rattle.gd_tree.specs.Look.{is_null}
 use Rattle.gd_defs.specs.Query as query
 use Rattle.gd_defs.specs.Query.{Fault, Clause, Form, Name, Members, no_members, member, sort_by, SortWord, no_directives, with_directive, with_member, member_name, form_or_operand, form_of, clause_of, clause_or_default, default_members, as_one, as_many, within, or_fault, bad_directive, is_directive, mode_of, limit_of, sort_of, is_count, query_of, root_query, has_operator, is_computed, is_link, is_literal, is_other_list, operand_fits}
 use Rattle.gd_form_laws.specs.Faults.{clause_fault, member_fault, form_fault, value_fault, query_fault, below}
-use Rattle.gd_form_laws.specs.Spelled.{clause_or, query_or, spelled_members, spelled_clause, spelled_query, defaults_left, form_depth, forms_depth}
+use Rattle.gd_form_laws.specs.Spelled.{clause_or, query_or, spelled_members, spelled_clause, spelled_query}
 use Rattle.gd_form_laws.proofs.First.{Given, given, or-first, or-second}
 use Rattle.gd_form_laws.proofs.Queries.{no_clause, clause-first, operand_there, object-fault, sole_object-fault}
 

@@ -1,14 +1,14 @@
 -- Forms nest no deeper than the JSON that spells them.
-use Rattle.std.proofs.Common.{◌≡◌, ◌≤◌, ℕ, ◌+◌, List, [], ◌∷◌, Bool, true, false, not, ◌||◌, Option, Some, None, Result, Ok, Err, codes, refl, sym, ap, ◌∙◌, subst, arith}
+use Rattle.std.proofs.Common.{◌≡◌, ◌≤◌, ℕ, ◌+◌, List, Bool, true, false, not, ◌||◌, Some, None, Result, Ok, Err, codes, refl, sym, subst, arith}
 use Rattle.std.specs.Prelude.{if◌then◌else◌, max, bytes_eq, ◌&&◌}
 use Rattle.gd_grammar.specs.Chain.{◌>>=◌}
-use Rattle.gd_grammar.proofs.Steps.{Step, steps, ok_same, not_ok, either}
+use Rattle.gd_grammar.proofs.Steps.{steps, ok_same, not_ok}
 use Rattle.gd_tree.specs.Json.{Json, null, boolean, number, text, list, object, Items, no_items, item, Members as JsonMembers, no_members as no_json_members, member as json_member}
 use Rattle.gd_tree.specs.Look.{is_null}
 use Rattle.gd_tree.specs.Bounds.{json_depth, items_depth, members_depth}
 use Rattle.gd_defs.specs.Query as query
 use Rattle.gd_defs.specs.Query.{Fault, Clause, Form, Name, Members, no_directives, with_directive, with_member, member_name, form_or_operand, form_of, clause_of, clause_or_default, default_members, as_one, as_many, within, fault, or_fault, bad_directive, bad_operand, list_form, is_directive, mode_of, limit_of, sort_of, is_count, has_operator, is_computed, is_link, is_other_list, operand_fits, query_of, root_query}
-use Rattle.gd_form_laws.specs.Spelled.{form_depth, forms_depth, clause_or, query_or, spelled_clause, spelled_members, spelled_query}
+use Rattle.gd_form_laws.specs.Spelled.{form_depth, forms_depth, clause_or, query_or, spelled_clause, spelled_query}
 
 -- what an outcome gives is at most so deep
 abbrev ClauseWithin : ℕ → Result Clause Fault → Type 0

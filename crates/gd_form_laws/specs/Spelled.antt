@@ -1,8 +1,8 @@
 -- What members spell that have no fault of form, and how deep forms nest.
-use Rattle.std.specs.Prelude.{ℕ, ◌+◌, max, List, Bool, false, Option, Some, None, is_some, option_and_then, Result, Ok, Err, if◌then◌else◌, ◌==◌, codes}
+use Rattle.std.specs.Prelude.{ℕ, ◌+◌, max, List, Bool, false, is_some, option_and_then, Result, Ok, Err, if◌then◌else◌, ◌==◌, codes}
 use Rattle.gd_tree.specs.Json.{Json, Members as JsonMembers}
 use Rattle.gd_tree.specs.Look.{get}
-use Rattle.gd_defs.specs.Query.{Fault, Clause, Directives, mode_of, limit_of, Form, ask, ask_all, literal, operand, one, many, Members, no_members, member, sort_by, no_directives, SortWord, Query, clause_of, clause_or_default, default_members, query_of, Name, no_operator}
+use Rattle.gd_defs.specs.Query.{Fault, Clause, Directives, mode_of, limit_of, Form, ask, ask_all, literal, operand, one, many, Members, no_members, member, sort_by, no_directives, Query, clause_of, clause_or_default, query_of, Name, no_operator}
 
 -- the clause, or an empty one where there is a fault
 abbrev pub clause_or : Result Clause Fault → Clause

@@ -9,3 +9,4 @@ pub mod Spelling
 pub mod Literals
 pub mod Walked
 pub mod Written
+pub mod Shown

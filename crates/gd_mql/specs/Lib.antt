@@ -5,3 +5,4 @@ pub mod FormFault
 pub mod Directives
 pub mod QueryForm
 pub mod Changes
+pub mod Clauses

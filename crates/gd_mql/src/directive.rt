@@ -34,6 +34,14 @@ pub struct SortWord<'a> {
     pub word: &'a str,
 }
 
+/// The directives of a clause but for `sort`. The mode is absent where `optional` does not stand in it.
+#[derive(Clone, Copy)]
+pub struct Directives {
+    pub mode: Option<Mode>,
+    pub limit: Option<u32>,
+    pub count: bool,
+}
+
 /// Whether the name is that of a directive.
 pub fn is_directive(name: &str) -> bool
     ensures { result ≡ names_directive name.now }

@@ -2,6 +2,7 @@
 #![tactic(auto)]
 
 mod change_form;
+pub mod clause;
 pub mod directive;
 pub mod fault;
 mod form_fault;
