@@ -10,3 +10,5 @@ pub mod Literals
 pub mod Walked
 pub mod Written
 pub mod Shown
+pub mod Envelopes
+pub mod Refused

@@ -3,6 +3,8 @@ use Rattle.std.specs.Prelude.{◌≡◌, ℕ, List, Option, Some, None, Result, 
 use Rattle.gd_defs.specs.Query.{Fault}
 use Rattle.gd_mql.specs.Fault.{code_view}
 use Rattle.gd_mql.specs.declared.fault.Code.{Code}
+use Rattle.gd_mql.specs.declared.fault.LineFault.{LineFault}
+use Rattle.gd_mql.specs.declared.fault.LineFault.TheVariants as line
 use Rattle.gd_mql.specs.declared.form_fault.FormFault.{FormFault}
 use Rattle.gd_mql.specs.declared.form_fault.FormFault.TheVariants.{Bad, Memory}
 
@@ -18,3 +20,8 @@ Refuses expected Memory = Unit {0}
 -- the check fails exactly where a fault is expected, and with that one, or for want of memory
 abbrev pub Checks : Option Fault → Result (Unit {0}) FormFault → Type 0
 Checks expected result = MatchResult result (λ _. expected ≡ None) (λ f. Refuses expected f)
+
+-- the fault of a line that this is, its names turned
+abbrev pub line_fault : FormFault → LineFault
+line_fault (Bad code names) = line.BadQuery code (reverse names.items)
+line_fault Memory = line.Memory

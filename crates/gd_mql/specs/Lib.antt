@@ -6,3 +6,5 @@ pub mod Directives
 pub mod QueryForm
 pub mod Changes
 pub mod Clauses
+pub mod Envelopes
+pub mod Requests

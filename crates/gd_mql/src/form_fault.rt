@@ -5,7 +5,7 @@ ghost use Rattle.gd_mql.specs.Fault.{code_view};
 ghost use Rattle.gd_form_laws.specs.Faults.{below as seen_below};
 ghost use Rattle.gd_mql.specs.FormFault.{Refuses};
 
-use crate::fault::Code;
+use crate::fault::{Code, LineFault, Path};
 use gd_base::memory::Memory;
 use gd_json::value::JsonText;
 use std::alloc::Global;
@@ -15,6 +15,25 @@ use std::alloc::Global;
 pub enum FormFault {
     Bad { code: Code, names: Vec<JsonText> },
     Memory,
+}
+
+impl From<FormFault> for LineFault {
+    ghost use Rattle.gd_mql.specs.FormFault.{line_fault};
+
+    ghost from_gives = { λ given fault. fault ≡ line_fault given };
+
+    fn from(fault: FormFault) -> LineFault {
+        match fault {
+            FormFault::Bad { code, mut names } => {
+                names.as_mut_slice().reverse();
+                LineFault::BadQuery {
+                    code,
+                    path: Path::from(names),
+                }
+            }
+            FormFault::Memory => LineFault::Memory,
+        }
+    }
 }
 
 fn push_name(alloc: Global, names: &mut Vec<JsonText>, name: &str) -> Result<(), Memory>

@@ -4,9 +4,11 @@
 mod change_form;
 pub mod clause;
 pub mod directive;
+mod envelope;
 pub mod fault;
 mod form_fault;
 pub mod forms;
+pub mod from_line;
 pub mod ids;
 pub mod line;
 pub mod name;
@@ -14,4 +16,5 @@ mod object;
 mod operand;
 pub mod parts;
 mod query_form;
+pub mod request;
 pub mod write_parts;
