@@ -1,5 +1,5 @@
 -- Clauses that were read, beside those that their members spell.
-use Rattle.std.proofs.Common.{◌≡◌, ◌≤◌, ◌<◌, ℕ, List, [], ◌∷◌, length, Bool, true, false, Option, Some, None, Ok, Err, refl, sym, ap, ◌∙◌, arith}
+use Rattle.std.proofs.Common.{◌≡◌, ◌≤◌, ◌<◌, ℕ, suc, List, [], ◌∷◌, length, Bool, true, false, Option, Some, None, Ok, Err, refl, sym, ap, ◌∙◌, arith}
 use Rattle.std.specs.Prelude.{is_none, is_some, unwrap_or, if◌then◌else◌, codes, bytes_eq, not, ◌&&◌}
 use Rattle.std.specs.Result.{result_err}
 use Rattle.std.proofs.lemmas.Slice.Eq.{bytes_eq-Decides}
@@ -10,10 +10,10 @@ use Rattle.gd_json.specs.View.{view, items_view, members_view}
 use Rattle.gd_json.specs.declared.value.Json.{Json}
 use Rattle.gd_defs.specs.Query as query
 use Rattle.gd_defs.specs.Query.{Name, Form, default_members, no_directives, optional, form_of}
-use Rattle.gd_form_laws.specs.Faults.{clause_fault, member_fault, value_fault, form_fault}
-use Rattle.gd_form_laws.specs.Spelled.{spelled_clause, spelled_members, spelled_directives}
-use Rattle.gd_form_laws.proofs.Queries.{no_clause, sole-fault, more-fault, directive-alone, named-alone, misnamed-alone}
-use Rattle.gd_form_laws.proofs.Clauses.{empty-members, other-members, object-given, object-spelled, sole-given, sole-spelled, sort-part, named-part, first-given, rest-given, directive-part, end-members}
+use Rattle.gd_form_laws.specs.Faults.{clause_fault, member_fault, value_fault, form_fault, query_fault}
+use Rattle.gd_form_laws.specs.Spelled.{spelled_clause, spelled_members, spelled_directives, spelled_query}
+use Rattle.gd_form_laws.proofs.Queries.{no_clause, object-query, sole-query, empty-query, more-query, sole-fault, more-fault, directive-alone, named-alone, misnamed-alone}
+use Rattle.gd_form_laws.proofs.Clauses.{object-query_spelled, sole-query_spelled, empty-members, other-members, object-given, object-spelled, sole-given, sole-spelled, sort-part, named-part, first-given, rest-given, directive-part, end-members}
 use Rattle.gd_form_laws.proofs.ClauseHeads.{other-directives, empty-directives}
 use Rattle.gd_mql.proofs.Walked.{more_view}
 
@@ -181,3 +181,63 @@ split_passed root ms others m s is none same passed =
 pub split_end : (root : Bool) (ms : List (List ℕ × Json)) → length ms ≡ 0 → spelled_members root (members_view ms) ≡ query.no_members
 split_end root [] none = end-members root
 split_end root (m ∷ ms) none = absurd (omega arith)
+
+-- ---- queries
+
+-- the query of an object
+pub root_right : (j : tree.Json) (ms : tree.Members) → Some ms ≡ members_in j → query_fault j ≡ None → clause_fault true ms ≡ None
+root_right j ms is none = sym (object-query ms) ∙ (sym (ap query_fault (object_shape j ms is)) ∙ none)
+
+pub root_shown : (j : tree.Json) (ms : tree.Members) → Some ms ≡ members_in j → query_fault j ≡ None
+    → spelled_query j ≡ record { listed = false; directives = (spelled_clause true ms).0; members = (spelled_clause true ms).1 }
+root_shown j ms is none = ap spelled_query (object_shape j ms is) ∙ object-query_spelled ms (sym (ap query_fault (object_shape j ms is)) ∙ none)
+
+-- of a list of one object
+pub sole_root_right : (j : tree.Json) (ms : tree.Members) → Some ms ≡ members_in j → query_fault (tree.list (tree.item j tree.no_items)) ≡ None → clause_fault true ms ≡ None
+sole_root_right j ms is none = sym (sole-query ms) ∙ (sym (ap (λ j. query_fault (tree.list (tree.item j tree.no_items))) (object_shape j ms is)) ∙ none)
+
+pub sole_root_shown : (j : tree.Json) (ms : tree.Members) → Some ms ≡ members_in j → query_fault (tree.list (tree.item j tree.no_items)) ≡ None
+    → spelled_query (tree.list (tree.item j tree.no_items)) ≡ record { listed = true; directives = (spelled_clause true ms).0; members = (spelled_clause true ms).1 }
+sole_root_shown j ms is none =
+    ap (λ j. spelled_query (tree.list (tree.item j tree.no_items))) (object_shape j ms is)
+    ∙ sole-query_spelled ms (sym (ap (λ j. query_fault (tree.list (tree.item j tree.no_items))) (object_shape j ms is)) ∙ none)
+
+pub sole_root_other : (j : tree.Json) → None ≡ members_in j → query_fault (tree.list (tree.item j tree.no_items)) ≡ None → ⊥
+unfolding query_fault
+sole_root_other tree.null is none = cc
+sole_root_other (tree.boolean b) is none = cc
+sole_root_other (tree.number n) is none = cc
+sole_root_other (tree.text t) is none = cc
+sole_root_other (tree.list js) is none = cc
+sole_root_other (tree.object ms) is none = cc
+
+-- of another list
+pub empty_root_other : (js : List Json) → length js < 1 → query_fault (tree.list (items_view js)) ≡ None → ⊥
+empty_root_other [] len none = let fault = empty-query in cc
+empty_root_other (j ∷ js) len none = past len
+  where
+    past : suc (length js) < 1 → ⊥
+    past e = omega arith
+
+pub more_root_other : (js : List Json) → 2 ≤ length js → query_fault (tree.list (items_view js)) ≡ None → ⊥
+more_root_other js len none =
+    let more = more_view js len in
+    let fault = ap (λ js. query_fault (tree.list js)) more.is ∙ more-query more.one more.two more.others in
+    cc
+
+-- of a list
+pub list_root_right : (j : tree.Json) (js : tree.Items) → Some js ≡ items_in j → query_fault j ≡ None → query_fault (tree.list js) ≡ None
+list_root_right j js is none = sym (ap query_fault (list_shape j js is)) ∙ none
+
+pub list_root_shown : (j : tree.Json) (js : tree.Items) → Some js ≡ items_in j → spelled_query j ≡ spelled_query (tree.list js)
+list_root_shown j js is = ap spelled_query (list_shape j js is)
+
+-- of another value
+pub root_other : (j : tree.Json) → None ≡ members_in j → None ≡ items_in j → query_fault j ≡ None → ⊥
+unfolding query_fault
+root_other tree.null no_object no_list none = cc
+root_other (tree.boolean b) no_object no_list none = cc
+root_other (tree.number n) no_object no_list none = cc
+root_other (tree.text t) no_object no_list none = cc
+root_other (tree.list js) no_object no_list none = cc
+root_other (tree.object ms) no_object no_list none = cc

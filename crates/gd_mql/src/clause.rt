@@ -81,6 +81,18 @@ fn is_no_part(name: &str) -> bool
 
 impl<'a> Clause<'a> {
     ghost use Rattle.gd_mql.specs.Clauses.{clause_view, left};
+    ghost use Rattle.gd_form_laws.specs.Spelled.{spelled_clause};
+
+    /// The root clause of these members, which have no fault of form.
+    pub fn root(members: &'a [(JsonText, Json)]) -> Clause<'a>
+        requires { clause_fault true (members_view members.now) ≡ None }
+        ensures { clause_view result ≡ spelled_clause true (members_view members.entry.now) }
+    {
+        Clause {
+            root: true,
+            members,
+        }
+    }
 
     /// The directives but for `sort`.
     pub fn directives(&self) -> Directives

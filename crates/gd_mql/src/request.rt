@@ -1,8 +1,9 @@
 //! Requests that were read from a line.
 ghost use Rattle.std.specs.Prelude.{◌≡◌, ◌≤◌, ◌+◌, true, None, is_none};
 ghost use Rattle.gd_tree.specs.Bounds.{json_depth};
-ghost use Rattle.gd_json.specs.View.{view};
-ghost use Rattle.gd_form_laws.specs.Faults.{query_fault};
+ghost use Rattle.gd_tree.specs.Json.{list, item, no_items};
+ghost use Rattle.gd_json.specs.View.{view, items_view, members_view};
+ghost use Rattle.gd_form_laws.specs.Faults.{query_fault, clause_fault};
 ghost use Rattle.gd_form_laws.specs.WriteFaults.{change_fault};
 
 use crate::clause::Clause;
@@ -60,6 +61,56 @@ impl ReadRequest {
         ensures { read_view result ≡ record { cursor = cursor_view cursor; query = spelled_query (view query) } }
     {
         ReadRequest { cursor, query }
+    }
+
+    /// The query. At most 14 forms `{..}` lie one within another in it, the root among them.
+    pub fn query(&self) -> Query<'_>
+        ensures shown { query_view result ≡ (read_view self.now).query }
+        ensures depth { 1 + forms_depth (read_view self.now).query.members ≤ 14 }
+    {
+        if let Some(members) = self.query.as_object() {
+            return Query::of_root(false, members);
+        }
+        match self.query.as_list() {
+            Some(items) => Query::of_list(items),
+            None => unreachable!(),
+        }
+    }
+}
+
+impl<'a> Query<'a> {
+    ghost use Rattle.gd_form_laws.specs.Spelled.{spelled_query, spelled_clause};
+    ghost use Rattle.gd_mql.specs.Requests.{query_view};
+
+    fn of_root(listed: bool, members: &'a [(JsonText, Json)]) -> Query<'a>
+        requires { clause_fault true (members_view members.now) ≡ None }
+        ensures { query_view result ≡ record { listed = listed; directives = (spelled_clause true (members_view members.entry.now)).0; members = (spelled_clause true (members_view members.entry.now)).1 } }
+    {
+        Query {
+            listed,
+            root: Clause::root(members),
+        }
+    }
+
+    fn of_list(items: &'a [Json]) -> Query<'a>
+        requires { query_fault (list (items_view items.now)) ≡ None }
+        ensures { query_view result ≡ spelled_query (list (items_view items.entry.now)) }
+    {
+        match items {
+            [] => unreachable!(),
+            [sole] => Query::of_sole(sole),
+            _ => unreachable!(),
+        }
+    }
+
+    fn of_sole(sole: &'a Json) -> Query<'a>
+        requires { query_fault (list (item (view sole.now) no_items)) ≡ None }
+        ensures { query_view result ≡ spelled_query (list (item (view sole.entry.now) no_items)) }
+    {
+        match sole.as_object() {
+            Some(members) => Query::of_root(true, members),
+            None => unreachable!(),
+        }
     }
 }
 
