@@ -6,7 +6,7 @@ use Rattle.gd_tree.specs.Json.{Json}
 use Rattle.gd_json.specs.declared.from.JsonFault.{JsonFault}
 use Rattle.gd_json.specs.Reading.{json_from}
 use Rattle.gd_runs.specs.Request.{Line, LineFault, bad_line, bad_form, line_of}
-use Rattle.gd_runs.specs.Input.{no_json, no_line, not_built, line_at}
+use Rattle.gd_runs.specs.Input.{no_json, no_line, not_built, line_at, line_from, as_line}
 use Rattle.gd_runs.specs.Built.{is_form, is_built, says_name, line_asked}
 
 within : (n : ℕ) → n ≤ 262_144 → nat_lt 262_144 n ≡ false
@@ -39,3 +39,11 @@ built-asked bytes prims says = by (json_from bytes) refl
     by : (r : Result Json JsonFault) → json_from bytes ≡ r → line_at is_built prims bytes ≡ line_asked bytes
     by (Ok j) json = rw (json, says) refl
     by (Err f) json = rw json refl
+
+-- ---- every line
+
+pub line-no_json : (bytes : List ℕ) (f : JsonFault) → length bytes ≤ 262_144 → json_from bytes ≡ Err f → line_from bytes ≡ Err (no_json f)
+line-no_json bytes f short json = let fits : nat_lt 262_144 (length bytes) ≡ false = within (length bytes) short in rw (fits, json) refl
+
+pub line-of : (bytes : List ℕ) (j : Json) → length bytes ≤ 262_144 → json_from bytes ≡ Ok j → line_from bytes ≡ as_line (line_of j)
+line-of bytes j short json = let fits : nat_lt 262_144 (length bytes) ≡ false = within (length bytes) short in rw (fits, json) refl

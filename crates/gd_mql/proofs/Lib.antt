@@ -5,3 +5,10 @@ pub mod Sessions
 pub mod Bytes
 pub mod Keys
 pub mod Guids
+pub mod Spelling
+pub mod Literals
+pub mod Walked
+pub mod Written
+pub mod Shown
+pub mod Envelopes
+pub mod Refused

@@ -1,8 +1,11 @@
 -- Which values are lines.
-use Rattle.std.proofs.Common.{◌≡◌, ℕ, [], ◌∷◌, Bool, true, false, ◌||◌, Option, Some, None, Result, Ok, Err, codes, refl, subst}
+use Rattle.std.proofs.Common.{◌≡◌, ℕ, [], ◌∷◌, Bool, true, false, ◌||◌, Option, Some, None, Result, Ok, Err, codes, refl, sym, ap, subst}
 use Rattle.gd_grammar.specs.Chain.{◌>>=◌, map_err}
 use Rattle.gd_tree.specs.Json.{Json, null, boolean, number, text, list, object, Members}
-use Rattle.gd_tree.specs.Look.{get, only}
+use Rattle.gd_tree.specs.Look.{get, only, member_of}
+use Rattle.gd_grammar.proofs.Steps.{some_same}
+use Rattle.gd_runs.specs.Input.{as_line}
+use Rattle.gd_mql.specs.Envelopes.{read_line_of, write_line_of}
 use Rattle.gd_defs.specs.Query.{Fault}
 use Rattle.gd_runs.specs.Request.{Line, LineFault, bad_line, bad_form, line_of, session_of}
 use Rattle.gd_mql.specs.Line.{line_session}
@@ -40,3 +43,66 @@ session-fits (list js) = refl
 
 pub has_session : (j : Json) (s : ℕ) → line_session j ≡ Some s → line_of j ≡ Err bad_line → ⊥
 has_session j s session bad = let P : Option ℕ → Type 0 = λ o. FitsSession o (line_of j) in subst P session (session-fits j) bad
+
+-- what has no session is no line
+pub no_session : (j : Json) → line_session j ≡ None → line_of j ≡ Err bad_line
+no_session j session = let P : Option ℕ → Type 0 = λ o. FitsSession o (line_of j) in subst P session (session-fits j)
+
+-- ---- the request of a line
+
+by_read : (ms : Members) (names : Bool) (t : Option ℕ) (w : Option Json) (s : ℕ) (r : Json)
+    → (only (codes "read" ∷ codes "sid" ∷ []) ms || only (codes "sid" ∷ codes "write" ∷ []) ms) ≡ names → session_of (get (codes "sid") ms) ≡ t → get (codes "read") ms ≡ Some r → get (codes "write") ms ≡ w
+    → line_session (object ms) ≡ Some s → as_line (line_of (object ms)) ≡ read_line_of s r
+by_read ms false t w s r names sid has_read has_write session = let bad = rw names at session in cc
+by_read ms true t (Some w) s r names sid has_read has_write session = by t sid
+  where
+    by : (t : Option ℕ) → session_of (get (codes "sid") ms) ≡ t → as_line (line_of (object ms)) ≡ read_line_of s r
+    by None sid = let bad = rw (names, sid, has_read, has_write) at session in cc
+    by (Some n) sid = let bad = rw (names, sid, has_read, has_write) at session in cc
+by_read ms true None None s r names sid has_read has_write session = let bad = rw (names, sid, has_read, has_write) at session in cc
+by_read ms true (Some n) None s r names sid has_read has_write session =
+    let same : n ≡ s = some_same n s (rw (names, sid, has_read, has_write) at session) in
+    rw (names, sid, has_read, has_write) (ap (λ n. read_line_of n r) same)
+
+by_write : (ms : Members) (names : Bool) (t : Option ℕ) (s : ℕ) (w : Json)
+    → (only (codes "read" ∷ codes "sid" ∷ []) ms || only (codes "sid" ∷ codes "write" ∷ []) ms) ≡ names → session_of (get (codes "sid") ms) ≡ t → get (codes "read") ms ≡ None → get (codes "write") ms ≡ Some w
+    → line_session (object ms) ≡ Some s → as_line (line_of (object ms)) ≡ write_line_of s w
+by_write ms false t s w names sid has_read has_write session = let bad = rw names at session in cc
+by_write ms true None s w names sid has_read has_write session = let bad = rw (names, sid, has_read, has_write) at session in cc
+by_write ms true (Some n) s w names sid has_read has_write session =
+    let same : n ≡ s = some_same n s (rw (names, sid, has_read, has_write) at session) in
+    rw (names, sid, has_read, has_write) (ap (λ n. write_line_of n w) same)
+
+by_none : (ms : Members) (names : Bool) (t : Option ℕ) (s : ℕ)
+    → (only (codes "read" ∷ codes "sid" ∷ []) ms || only (codes "sid" ∷ codes "write" ∷ []) ms) ≡ names → session_of (get (codes "sid") ms) ≡ t → get (codes "read") ms ≡ None → get (codes "write") ms ≡ None
+    → line_session (object ms) ≡ Some s → ⊥
+by_none ms false t s names sid no_read no_write session = let bad = rw names at session in cc
+by_none ms true None s names sid no_read no_write session = let bad = rw (names, sid, no_read, no_write) at session in cc
+by_none ms true (Some n) s names sid no_read no_write session = let bad = rw (names, sid, no_read, no_write) at session in cc
+
+-- a line with a read
+pub line_read : (j r : Json) (s : ℕ) → line_session j ≡ Some s → Some r ≡ member_of (codes "read") j → as_line (line_of j) ≡ read_line_of s r
+line_read null r s session there = cc
+line_read (boolean b) r s session there = cc
+line_read (number n) r s session there = cc
+line_read (text t) r s session there = cc
+line_read (list js) r s session there = cc
+line_read (object ms) r s session there = by_read ms _ _ _ s r refl refl (sym there) refl session
+
+-- a line with a write
+pub line_write : (j w : Json) (s : ℕ) → line_session j ≡ Some s → None ≡ member_of (codes "read") j → Some w ≡ member_of (codes "write") j → as_line (line_of j) ≡ write_line_of s w
+line_write null w s session none there = cc
+line_write (boolean b) w s session none there = cc
+line_write (number n) w s session none there = cc
+line_write (text t) w s session none there = cc
+line_write (list js) w s session none there = cc
+line_write (object ms) w s session none there = by_write ms _ _ s w refl refl (sym none) (sym there) session
+
+-- it has one of them
+pub line_asks : (j : Json) (s : ℕ) → line_session j ≡ Some s → None ≡ member_of (codes "read") j → None ≡ member_of (codes "write") j → ⊥
+line_asks null s session none none' = cc
+line_asks (boolean b) s session none none' = cc
+line_asks (number n) s session none none' = cc
+line_asks (text t) s session none none' = cc
+line_asks (list js) s session none none' = cc
+line_asks (object ms) s session none none' = by_none ms _ _ s refl refl (sym none) (sym none') session

@@ -1,2 +1,10 @@
 pub mod Fault
 pub mod Line
+pub mod Names
+pub mod FormFault
+pub mod Directives
+pub mod QueryForm
+pub mod Changes
+pub mod Clauses
+pub mod Envelopes
+pub mod Requests

@@ -7,19 +7,63 @@ use gd_base::memory::Memory;
 use gd_json::from::JsonFault;
 use gd_json::value::JsonText;
 use std::alloc::Global;
+use std::error::Error;
+use std::fmt;
 use std::marker::Model;
-use thiserror::Error;
 
 /// What is wrong with the form of a query.
-#[derive(Clone, Copy, Debug, PartialEq, Eq, Error)]
+#[derive(Clone, Copy, Debug, PartialEq, Eq)]
 pub enum Code {
+    /// The envelope of a request has other members than it should, or a member of another form.
+    Envelope,
+    /// A list is neither empty nor of one object.
+    ListForm,
+    /// A name is no name, or its word may not stand there.
+    BadWord,
+    /// The word is one of those that this profile leaves out.
+    LeftOut,
+    /// A directive has another value than it may have, or may not stand there.
+    BadDirective,
+    /// A literal or an operand has not the form that its name asks.
+    BadOperand,
+    /// A member of a write has not the form of one.
+    BadWrite,
+    /// `create` has not the form of one.
+    BadCreate,
+    /// `connect` has not the form of one.
+    BadConnect,
     /// The form is not built.
-    #[error("the form is not built")]
     Unbuilt,
     /// A literal is no value of its property.
-    #[error("the literal is no value of its property")]
     BadValue,
 }
+
+impl Code {
+    /// What is wrong, in words.
+    fn message(self) -> &'static str {
+        match self {
+            Code::Envelope => "the envelope of the request is not one",
+            Code::ListForm => "the list has not the form of one",
+            Code::BadWord => "the name is none",
+            Code::LeftOut => "the word is left out",
+            Code::BadDirective => "the directive has not the form of one",
+            Code::BadOperand => "the operand has not the form that its name asks",
+            Code::BadWrite => "the member of the write has not the form of one",
+            Code::BadCreate => "the create has not the form of one",
+            Code::BadConnect => "the connect has not the form of one",
+            Code::Unbuilt => "the form is not built",
+            Code::BadValue => "the literal is no value of its property",
+        }
+    }
+}
+
+impl fmt::Display for Code {
+    fn fmt<W: fmt::Write>(&self, f: &mut fmt::Formatter<W>) -> fmt::Result {
+        write!(f, "{}", self.message())
+    }
+}
+
+impl Error for Code {}
 
 /// The names of members that lead from the root of a query down to a place in it. Contracts see the list of these
 /// names, each as the list of its bytes.
@@ -78,7 +122,7 @@ impl Path {
 }
 
 /// Why the bytes of a line ask nothing.
-#[derive(Debug, PartialEq, Eq, Drop, Error)]
+#[derive(Debug, PartialEq, Eq, Drop, thiserror::Error)]
 pub enum LineFault {
     /// They are no JSON of this profile.
     #[error("the line is no JSON of this profile: {0:?}")]

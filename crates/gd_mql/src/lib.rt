@@ -1,8 +1,20 @@
 //! What a line of input asks.
 #![tactic(auto)]
 
+mod change_form;
+pub mod clause;
+pub mod directive;
+mod envelope;
 pub mod fault;
+mod form_fault;
 pub mod forms;
+pub mod from_line;
 pub mod ids;
 pub mod line;
+pub mod name;
+mod object;
+mod operand;
 pub mod parts;
+mod query_form;
+pub mod request;
+pub mod write_parts;

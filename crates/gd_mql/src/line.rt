@@ -68,7 +68,7 @@ fn session_number(value: &Json) -> Option<u32>
 }
 
 /// The session, where the value is an object of just `sid`, a number from 0 to 63, and of one of `read` and `write`.
-fn session(line: &Json) -> Option<u32>
+pub fn session(line: &Json) -> Option<u32>
     ensures { result ≡ line_session (view line.now) }
 {
     if !has_only(line, "read", "sid") && !has_only(line, "sid", "write") {

@@ -1,0 +1,47 @@
+-- Requests as the definitions have them.
+use Rattle.std.specs.Prelude.{◌≡◌, ◌≢◌, Result, Ok, Err, MatchResult}
+use Rattle.gd_json.specs.View.{view}
+use Rattle.gd_defs.specs.Query as query
+use Rattle.gd_defs.specs.Write as write
+use Rattle.gd_runs.specs.Request as request
+use Rattle.gd_runs.specs.Input.{InputFault}
+use Rattle.gd_form_laws.specs.Spelled.{spelled_query}
+use Rattle.gd_mql.specs.Clauses.{clause_view}
+use Rattle.gd_mql.specs.Line.{fault_view}
+use Rattle.gd_mql.specs.Envelopes.{spelled_change}
+use Rattle.gd_mql.specs.declared.fault.LineFault.{LineFault}
+use Rattle.gd_mql.specs.declared.fault.LineFault.TheVariants as fault
+use Rattle.gd_mql.specs.declared.request.CursorAsk.{CursorAsk}
+use Rattle.gd_mql.specs.declared.request.CursorAsk.TheVariants as cursor
+use Rattle.gd_mql.specs.declared.request.ReadRequest.{ReadRequest}
+use Rattle.gd_mql.specs.declared.request.WriteRequest.{WriteRequest}
+use Rattle.gd_mql.specs.declared.request.Query.{Query}
+use Rattle.gd_mql.specs.declared.request.Request.{Request}
+use Rattle.gd_mql.specs.declared.request.Request.TheVariants.{Read, Write}
+
+-- the page that this asks for
+abbrev pub cursor_view : CursorAsk → request.CursorAsk
+cursor_view cursor.Absent = request.no_cursor
+cursor_view cursor.First = request.first_page
+cursor_view (cursor.After t) = request.page_after t
+
+-- the read that this is
+abbrev pub read_view : ReadRequest → request.ReadRequest
+read_view r = record { cursor = cursor_view r.cursor; query = spelled_query (view r.query) }
+
+-- the write that this is
+abbrev pub write_view : WriteRequest → write.WriteRequest
+write_view w = record { scope = w.scope; change = spelled_change (view w.query) }
+
+-- the query that this is
+abbrev pub query_view : Query → query.Query
+query_view q = record { listed = q.listed; directives = (clause_view q.root).0; members = (clause_view q.root).1 }
+
+-- the line that this is
+abbrev pub request_view : Request → request.Line
+request_view (Read sid r) = request.read sid (read_view r)
+request_view (Write sid w) = request.write sid (write_view w)
+
+-- the call gives the line or the fault that is expected, or else memory was wanting
+abbrev pub GivesRequest : Result request.Line InputFault → Result Request LineFault → Type 0
+GivesRequest expected result = MatchResult result (λ l. expected ≡ Ok (request_view l)) (λ f. f ≢ fault.Memory → expected ≡ Err (fault_view f))

@@ -1,0 +1,150 @@
+//! From the bytes of a line to the request that they spell.
+ghost use Rattle.std.specs.Prelude.{◌≡◌, ◌≢◌, ◌≤◌, true, length, None, Some, Err, Ok, IfOk, is_some, option_map, unwrap_or};
+ghost use Rattle.gd_tree.specs.Bounds.{json_depth};
+ghost use Rattle.gd_tree.specs.Look.{get, member_of};
+ghost use Rattle.gd_runs.specs.Request.{cursor_ask, no_cursor, scope_ask, read_of, write_of};
+ghost use Rattle.gd_runs.specs.Request.{line_of};
+ghost use Rattle.gd_runs.specs.Input.{line_from, as_line};
+ghost use Rattle.gd_json.specs.View.{view, members_view};
+ghost use Rattle.gd_mql.specs.Envelopes.{read_fault, write_fault, read_line_of, write_line_of};
+ghost use Rattle.gd_mql.specs.Line.{line_session};
+ghost use Rattle.gd_mql.specs.Requests.{cursor_view, read_view, write_view, GivesRequest};
+
+use crate::envelope::{check_read, check_write};
+use crate::fault::LineFault;
+use crate::line::{LINE_LIMIT, session};
+use crate::request::{CursorAsk, ReadRequest, Request, WriteRequest};
+use gd_base::memory::Memory;
+use gd_json::from::{JsonFault, json_from};
+use gd_json::value::{Json, JsonText};
+use std::alloc::Global;
+
+/// The value of the member of this name, taken out of its object.
+fn take(value: Json, name: &str) -> Option<Json>
+    ensures { option_map (λ part. view part) result ≡ member_of name.now (view value) }
+{
+    match value {
+        Json::Object(members) => take_member(members, name),
+        _ => None,
+    }
+}
+
+fn take_member(members: Vec<(JsonText, Json)>, name: &str) -> Option<Json>
+    ensures { option_map (λ part. view part) result ≡ get name.now (members_view members.items) }
+{
+    for (key, value) in members {
+        if name == key.as_str() {
+            return Some(value);
+        }
+    }
+    None
+}
+
+/// The page that the member `cursor` of an envelope asks for.
+fn own_cursor(value: Option<&Json>) -> Result<CursorAsk, Memory>
+    ensures { IfOk result (λ cursor. unwrap_or (cursor_ask (option_map (λ part. view part.now) value.entry)) no_cursor ≡ cursor_view cursor) }
+{
+    let Some(value) = value else {
+        return Ok(CursorAsk::Absent);
+    };
+    match value {
+        Json::Bool(true) => Ok(CursorAsk::First),
+        Json::Text(text) => Ok(CursorAsk::After(text.copy()?)),
+        _ => Ok(CursorAsk::Absent),
+    }
+}
+
+/// The id of the scope that the member `scope` of an envelope names.
+fn own_scope(value: Option<&Json>) -> Result<Option<JsonText>, Memory>
+    ensures { IfOk result (λ scope. is_some (scope_ask (option_map (λ part. view part.now) value.entry)) ≡ true
+        → scope_ask (option_map (λ part. view part.now) value.entry) ≡ Some scope) }
+{
+    let Some(value) = value else {
+        return Ok(None);
+    };
+    match value.as_text() {
+        Some(text) => Ok(Some(text.copy()?)),
+        None => Ok(None),
+    }
+}
+
+/// The read that an envelope without a fault of form spells.
+fn own_read(envelope: Json) -> Result<ReadRequest, Memory>
+    requires right { read_fault (view envelope) ≡ None }
+    requires shallow { json_depth (view envelope) ≤ 15 }
+    ensures { IfOk result (λ request. read_of (view envelope) ≡ Ok (read_view request)) }
+{
+    let cursor = own_cursor(envelope.member("cursor"))?;
+    match take(envelope, "query") {
+        Some(query) => Ok(ReadRequest::new(cursor, query)),
+        None => unreachable!(),
+    }
+}
+
+/// The write that an envelope without a fault of form spells.
+fn own_write(envelope: Json) -> Result<WriteRequest, Memory>
+    requires right { write_fault (view envelope) ≡ None }
+    requires shallow { json_depth (view envelope) ≤ 15 }
+    ensures { IfOk result (λ request. write_of (view envelope) ≡ Ok (write_view request)) }
+{
+    let scope = own_scope(envelope.member("scope"))?;
+    match take(envelope, "query") {
+        Some(query) => Ok(WriteRequest::new(scope, query)),
+        None => unreachable!(),
+    }
+}
+
+/// The read of a session, or its first fault of form.
+fn read_from(alloc: Global, sid: u32, envelope: Json) -> Result<Request, LineFault>
+    requires { json_depth (view envelope) ≤ 15 }
+    ensures { GivesRequest (read_line_of sid (view envelope)) result }
+{
+    check_read(alloc, &envelope)?;
+    let request = own_read(envelope)?;
+    Ok(Request::Read { sid, request })
+}
+
+/// The write of a session, or its first fault of form.
+fn write_from(alloc: Global, sid: u32, envelope: Json) -> Result<Request, LineFault>
+    requires { json_depth (view envelope) ≤ 15 }
+    ensures { GivesRequest (write_line_of sid (view envelope)) result }
+{
+    check_write(alloc, &envelope)?;
+    let request = own_write(envelope)?;
+    Ok(Request::Write { sid, request })
+}
+
+/// The request of a line of a session, or its first fault of form.
+fn request_of(alloc: Global, sid: u32, line: Json) -> Result<Request, LineFault>
+    requires session { line_session (view line) ≡ Some sid }
+    requires shallow { json_depth (view line) ≤ 16 }
+    ensures { GivesRequest (as_line (line_of (view line))) result }
+{
+    if line.member("read").is_some() {
+        match take(line, "read") {
+            Some(envelope) => read_from(alloc, sid, envelope),
+            None => unreachable!(),
+        }
+    } else {
+        match take(line, "write") {
+            Some(envelope) => write_from(alloc, sid, envelope),
+            None => unreachable!(),
+        }
+    }
+}
+
+/// The line that the bytes spell. They are at most `LINE_LIMIT` bytes, without the newline that ended them. First
+/// comes `Json`: the bytes are no JSON of this profile; then `BadLine`: the value is no object of just `sid`, a
+/// number from 0 to 63, and of one of `read` and `write`; then `BadQuery` with the first code of form, in the order of
+/// the walk: a clause itself, then its members in byte order of their names. `Memory`: an allocation was refused.
+pub fn request_from(alloc: Global, bytes: &[u8]) -> Result<Request, LineFault>
+    requires { length bytes.now ≤ LINE_LIMIT }
+    ensures asked { GivesRequest (line_from bytes.now) result }
+    ensures memory { result ≢ Err (LineFault.Json JsonFault.Memory) }
+{
+    let line = json_from(alloc, bytes)?;
+    match session(&line) {
+        Some(sid) => request_of(alloc, sid, line),
+        None => Err(LineFault::BadLine),
+    }
+}
