@@ -2,3 +2,4 @@ pub mod KeysStep
 pub mod Insertion
 pub mod Seen
 pub mod Defined
+pub mod Pages
