@@ -3,3 +3,4 @@ pub mod Insertion
 pub mod Seen
 pub mod Defined
 pub mod Pages
+pub mod Objects

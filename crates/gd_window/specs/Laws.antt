@@ -1,9 +1,11 @@
 -- The order of rows that carry their values is the order of the rows of a query.
-use Rattle.std.specs.Prelude.{◌≡◌, ℕ, List, [], ◌∷◌, Bool, Option, None, Some, option_map, map, take, length, nat_lt}
+use Rattle.std.specs.Prelude.{◌≡◌, ℕ, List, [], ◌∷◌, Bool, Option, None, Some, option_map, filter, map, take, length, nat_lt}
 use Rattle.std.specs.List.Sorted.{IsPermutation}
+use Rattle.std.specs.Ordering.{nat_cmp}
 use Rattle.gd_prim.specs.declared.Primitive.{Primitive}
+use Rattle.gd_prim.specs.Live.{objects}
 use Rattle.gd_defs.specs.Asked.{SortKey, Asked}
-use Rattle.gd_defs.specs.Rows.{key_value, first_key, rows}
+use Rattle.gd_defs.specs.Rows.{key_value, first_key, later_keys, row_of, meets, rows}
 use Rattle.gd_defs.specs.Rows as defs
 use Rattle.gd_defs.specs.Reply.{Mark, mark_row, page, has_more}
 use Rattle.gd_order_laws.specs.Window.{Each, Apart}
@@ -58,3 +60,19 @@ pub record IsPage (prims : List Primitive) (q : Asked) (mark : Option Mark) (aft
 -- A window to which the rows of a query are offered, each once and in any order, gives the page behind the mark at which it begins.
 abbrev pub WindowsGivePages : Type 0
 WindowsGivePages = (prims : List Primitive) (q : Asked) (mark : Option Mark) (after : Option Row) (offered : List Row) → IsMarkRow prims q.sort mark after → AreRowsOf prims q offered → IsPage prims q mark after offered
+
+-- ---- rows with their values
+
+-- keys that stand at these places, one for each sort key, with the values there
+abbrev pub keys_at : List Primitive → List SortKey → List (Option ℕ) → List Key
+keys_at prims [] places = []
+keys_at prims (s ∷ sort) places = record { value = option_map (key_value prims s) (first_key places); place = first_key places } ∷ keys_at prims sort (later_keys places)
+
+-- a row of the definitions with the values of its keys
+abbrev pub with_values : List Primitive → List SortKey → defs.Row → Row
+with_values prims sort r = record { keys = keys_at prims sort r.keys; id = r.object }
+
+-- A window that begins at the row of a mark, and to which the row of each object that meets a query is offered once, in any order, gives the page behind the mark.
+abbrev pub ObjectsGivePages : Type 0
+ObjectsGivePages = (prims : List Primitive) (q : Asked) (mark : Option Mark) (os : List ℕ) → Apart nat_cmp os → IsPermutation os (filter (meets prims q.members 0) (objects prims))
+    → IsPage prims q mark (option_map (λ m. with_values prims q.sort (mark_row prims q.sort m)) mark) (map (λ o. with_values prims q.sort (row_of prims q.sort 0 o)) os)
