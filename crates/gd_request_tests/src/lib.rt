@@ -9,6 +9,8 @@ mod datum;
 #[cfg(test)]
 mod mql;
 #[cfg(test)]
+mod pages;
+#[cfg(test)]
 mod read;
 #[cfg(test)]
 mod reply;

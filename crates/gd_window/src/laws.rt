@@ -1,7 +1,17 @@
 //! Laws: each is the contract of a function that does nothing.
-ghost use Rattle.gd_window.specs.Laws.{RowsAreAsDefined};
+ghost use Rattle.gd_window.specs.Laws.{ObjectsGivePages, RowsAreAsDefined, WindowsGivePages};
 
 /// Rows that carry the values at the places of their keys are ordered as the definitions order rows.
 pub fn rows_are_as_defined()
     ensures { RowsAreAsDefined }
+{}
+
+/// A window to which the rows of a query are offered, each once and in any order, gives the page of the definitions.
+pub fn windows_give_pages()
+    ensures { WindowsGivePages }
+{}
+
+/// A window to which the row of each object that meets a query is offered, with its values, gives the page.
+pub fn objects_give_pages()
+    ensures { ObjectsGivePages }
 {}
