@@ -2,6 +2,7 @@
 mod Family
 mod Forms
 mod Keys
+mod Kinds
 mod Lines
 mod Meanings
 mod Pages
