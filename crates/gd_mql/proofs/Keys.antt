@@ -7,7 +7,7 @@ use Rattle.std.proofs.lemmas.List.{take_all, length-take-le, length-map}
 use Rattle.std.proofs.lemmas.List.Folds.{list_all-map}
 use Rattle.std.proofs.lemmas.Slice.Eq.{bytes_eq-Decides}
 use Rattle.gd_grammar.specs.Maybe.{◌>>=◌}
-use Rattle.gd_defs.specs.Ids.{is_key, is_slash, id_keys}
+use Rattle.gd_defs.specs.Ids.{is_key, is_slash, id_keys, path_keys}
 
 -- of parts that all are keys, at most 16
 abbrev at_most_16 : List (List ℕ) → Option (List (List ℕ))
@@ -75,3 +75,29 @@ is_path-parts text other starts = ap is_some (id_keys-parts text keys other star
     there : (b : Bool) → is_some (if b then Some keys else None) ≡ b
     there true = refl
     there false = refl
+
+-- ---- paths of any number of keys
+
+-- what begins with a slash is a path of keys where the parts behind it are
+pub key_path-parts : (text : List ℕ) → starts_with nat_eq text (codes "/") ≡ true → is_some (path_keys text) ≡ list_all is_key (drop 1 (slice_split is_slash text))
+key_path-parts [] starts = cc
+key_path-parts (c ∷ text) starts = by c (slash_first c text starts)
+  where
+    there : (b : Bool) (keys : List (List ℕ)) → is_some (if b then Some keys else None) ≡ b
+    there true keys = refl
+    there false keys = refl
+
+    by : (c : ℕ) → c ≡ 47 → is_some (path_keys (c ∷ text)) ≡ list_all is_key (drop 1 (slice_split is_slash (c ∷ text)))
+    by c slash = rw slash (there (list_all is_key (slice_split is_slash text)) (slice_split is_slash text))
+
+-- what does not is none
+pub key_path-other : (text : List ℕ) → starts_with nat_eq text (codes "/") ≡ false → is_some (path_keys text) ≡ false
+key_path-other [] starts = refl
+key_path-other (c ∷ text) starts = by (is_slash c) refl
+  where
+    by : (b : Bool) → is_slash c ≡ b → is_some (path_keys (c ∷ text)) ≡ false
+    by true slash = absurd (let is : c ≡ 47 = grind (arith, nat_tests) in other is starts)
+      where
+        other : {c : ℕ} → c ≡ 47 → starts_with nat_eq (c ∷ text) (codes "/") ≡ false → ⊥
+        other is starts = let given = rw is at starts in cc
+    by false slash = rw slash refl

@@ -5,3 +5,7 @@ pub mod Sessions
 pub mod Bytes
 pub mod Keys
 pub mod Guids
+pub mod Spelling
+pub mod Literals
+pub mod Walked
+pub mod Written

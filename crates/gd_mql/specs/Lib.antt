@@ -1,2 +1,7 @@
 pub mod Fault
 pub mod Line
+pub mod Names
+pub mod FormFault
+pub mod Directives
+pub mod QueryForm
+pub mod Changes

@@ -4,7 +4,6 @@ use Rattle.gd_grammar.specs.Maybe.{◌>>=◌}
 use Rattle.gd_tree.specs.Json.{Json, object}
 use Rattle.gd_tree.specs.Look.{get, only}
 use Rattle.gd_json.specs.declared.from.JsonFault.TheVariants as json_fault
-use Rattle.gd_defs.specs.Query as query
 use Rattle.gd_runs.specs.Request as request
 use Rattle.gd_runs.specs.Request.{session_of}
 use Rattle.gd_runs.specs.Input as input
@@ -16,10 +15,9 @@ use Rattle.gd_mql.specs.declared.forms.FormAsked.{FormAsked}
 use Rattle.gd_mql.specs.declared.line.IdAsk.{IdAsk as OwnIdAsk}
 use Rattle.gd_mql.specs.declared.line.IdAsk.TheVariants as own
 use Rattle.gd_mql.specs.declared.line.ReadRequest.{ReadRequest}
-use Rattle.gd_mql.specs.declared.fault.Code.{Code}
-use Rattle.gd_mql.specs.declared.fault.Code.TheVariants.{Unbuilt, BadValue}
 use Rattle.gd_mql.specs.declared.fault.LineFault.{LineFault}
 use Rattle.gd_mql.specs.declared.fault.LineFault.TheVariants as fault
+pub use Rattle.gd_mql.specs.Fault.{code_view}
 use Rattle.gd_mql.specs.declared.line.Line.{Line}
 use Rattle.gd_mql.specs.declared.line.Line.TheVariants.{Read, Write}
 
@@ -46,10 +44,6 @@ read_ask a = record { guid = a.guid; id = id_asked a.id; name = option_map (λ t
 abbrev pub line_view : Line → request.Line
 line_view (Read sid r) = request.read sid (form_request (ask_view r))
 line_view (Write sid w) = request.write sid (create_request w.asks_guid w.name)
-
-abbrev pub code_view : Code → query.Code
-code_view Unbuilt = query.unbuilt
-code_view BadValue = query.bad_value
 
 -- the fault that this is; want of memory stands beside those of JSON
 abbrev pub fault_view : LineFault → InputFault

@@ -13,6 +13,33 @@ use thiserror::Error;
 /// What is wrong with the form of a query.
 #[derive(Clone, Copy, Debug, PartialEq, Eq, Error)]
 pub enum Code {
+    /// The envelope of a request has other members than it should, or a member of another form.
+    #[error("the envelope of the request is not one")]
+    Envelope,
+    /// A list is neither empty nor of one object.
+    #[error("the list has not the form of one")]
+    ListForm,
+    /// A name is no name, or its word may not stand there.
+    #[error("the name is none")]
+    BadWord,
+    /// The word is one of those that this profile leaves out.
+    #[error("the word is left out")]
+    LeftOut,
+    /// A directive has another value than it may have, or may not stand there.
+    #[error("the directive has not the form of one")]
+    BadDirective,
+    /// A literal or an operand has not the form that its name asks.
+    #[error("the operand has not the form that its name asks")]
+    BadOperand,
+    /// A member of a write has not the form of one.
+    #[error("the member of the write has not the form of one")]
+    BadWrite,
+    /// `create` has not the form of one.
+    #[error("the create has not the form of one")]
+    BadCreate,
+    /// `connect` has not the form of one.
+    #[error("the connect has not the form of one")]
+    BadConnect,
     /// The form is not built.
     #[error("the form is not built")]
     Unbuilt,

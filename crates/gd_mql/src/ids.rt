@@ -53,7 +53,8 @@ pub fn guid_place(text: &[u8]) -> Option<u64>
     hex_number(digits)
 }
 
-fn is_key_byte(byte: u8) -> bool
+/// Whether the byte may stand in a key: an ASCII letter, a digit, `_`, `-` or `$`.
+pub fn may_be_in_key(byte: u8) -> bool
     ensures { result ≡ defined.is_key_byte byte }
 {
     byte.is_ascii_alphanumeric() || byte == b'_' || byte == b'-' || byte == b'$'
@@ -62,11 +63,11 @@ fn is_key_byte(byte: u8) -> bool
 fn has_key_bytes(text: &[u8]) -> bool
     ensures { result ≡ list_all defined.is_key_byte text.now }
 {
-    text.iter().all(|byte| is_key_byte(*byte))
+    text.iter().all(|byte| may_be_in_key(*byte))
 }
 
-/// Whether the text is a key.
-fn is_key(text: &str) -> bool
+/// Whether the text is a key: 1 to 64 ASCII letters, digits, `_`, `-` or `$`. It takes no memory.
+pub fn is_key(text: &str) -> bool
     ensures { result ≡ defined.is_key text.now }
 {
     (1..=MAX_KEY).contains(&text.len()) && has_key_bytes(text.as_bytes())
@@ -154,6 +155,23 @@ fn is_path(text: &str) -> bool
         return false;
     }
     has_id_keys(text)
+}
+
+/// Whether the parts of a text behind its first slash, each as far as the next one, are keys.
+fn behind_slash_keys(path: &str) -> bool
+    ensures { result ≡ list_all defined.is_key (drop 1 (slice_split defined.is_slash path.now)) }
+{
+    path.split('/').skip(1).all(|part| is_key(part))
+}
+
+/// Whether the text is a path of keys: one key or more, each behind a slash. It takes no memory.
+pub fn is_key_path(text: &str) -> bool
+    ensures { result ≡ is_some (defined.path_keys text.now) }
+{
+    if !starts_with_slash(text) {
+        return false;
+    }
+    behind_slash_keys(text)
 }
 
 /// Whether the text is an id: `/`, 1 to 16 keys each behind a slash, or a guid. It takes no memory.

@@ -72,6 +72,15 @@ fn code_name(code: Code) -> &'static str
     ensures { result.now ≡ code_text (code_view code) }
 {
     match code {
+        Code::Envelope => "envelope",
+        Code::ListForm => "list_form",
+        Code::BadWord => "bad_word",
+        Code::LeftOut => "left_out",
+        Code::BadDirective => "bad_directive",
+        Code::BadOperand => "bad_operand",
+        Code::BadWrite => "bad_write",
+        Code::BadCreate => "bad_create",
+        Code::BadConnect => "bad_connect",
         Code::Unbuilt => "unbuilt",
         Code::BadValue => "bad_value",
     }

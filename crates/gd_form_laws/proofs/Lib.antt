@@ -1,0 +1,6 @@
+pub mod First
+pub mod Queries
+pub mod Changes
+pub mod Clauses
+pub mod ClauseHeads
+pub mod Nesting

@@ -1,0 +1,8 @@
+use Rattle.std.proofs.Common.{◌≡◌, drop}
+use Rattle.gd_json.specs.View.{items_view}
+use Rattle.gd_defs.specs.Query.Operands.{all_items}
+use Rattle.gd_defs.specs.Change.{is_form}
+use Rattle.gd_mql.proofs.change_form.are_forms.Given as goal
+
+abbrev pub invariant-loop-item : goal.invariant-loop-item
+invariant-loop-item l = all_items is_form (items_view l.items) ≡ all_items is_form (items_view (drop l.item-index l.items))

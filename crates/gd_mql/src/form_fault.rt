@@ -1,0 +1,60 @@
+//! Why a value has not the form of a query or of a write.
+ghost use Rattle.std.specs.Prelude.{◌≡◌, ◌∷◌, ◌++◌, [], Some, Option, option_map, IfOk, OnOk};
+ghost use Rattle.gd_defs.specs.Query.{Fault};
+ghost use Rattle.gd_mql.specs.Fault.{code_view};
+ghost use Rattle.gd_form_laws.specs.Faults.{below as seen_below};
+ghost use Rattle.gd_mql.specs.FormFault.{Refuses};
+
+use crate::fault::Code;
+use gd_base::memory::Memory;
+use gd_json::value::JsonText;
+use std::alloc::Global;
+
+/// A code at the member to which names lead, the innermost first; or want of memory.
+#[derive(Drop)]
+pub enum FormFault {
+    Bad { code: Code, names: Vec<JsonText> },
+    Memory,
+}
+
+fn push_name(alloc: Global, names: &mut Vec<JsonText>, name: &str) -> Result<(), Memory>
+    ensures { OnOk result (names.new.items ≡ names.old.items ++ name.now ∷ []) }
+{
+    names.push(JsonText::from_str(alloc, name)?)?;
+    Ok(())
+}
+
+/// The fault of this code at the member of this name.
+pub fn fault_at(alloc: Global, code: Code, name: &str) -> FormFault
+    ensures { Refuses (Some (record { code = code_view code; path = name.now ∷ [] })) result }
+{
+    let mut names = Vec::new(alloc);
+    match push_name(alloc, &mut names, name) {
+        Ok(()) => FormFault::Bad { code, names },
+        Err(_) => FormFault::Memory,
+    }
+}
+
+/// The fault of this code at the root.
+pub fn root_fault(alloc: Global, code: Code) -> FormFault
+    ensures { Refuses (Some (record { code = code_view code; path = [] })) result }
+{
+    FormFault::Bad {
+        code,
+        names: Vec::new(alloc),
+    }
+}
+
+/// The fault, which was found below the member of this name, as it is seen from above that.
+pub fn below(alloc: Global, name: &str, fault: FormFault) -> FormFault
+    ensures { (expected : Option Fault) → Refuses expected fault
+        → Refuses (option_map (seen_below name.now) expected) result }
+{
+    match fault {
+        FormFault::Memory => FormFault::Memory,
+        FormFault::Bad { code, mut names } => match push_name(alloc, &mut names, name) {
+            Ok(()) => FormFault::Bad { code, names },
+            Err(_) => FormFault::Memory,
+        },
+    }
+}
