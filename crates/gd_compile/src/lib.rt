@@ -3,5 +3,6 @@
 
 pub mod fault;
 pub mod operand;
+pub mod sort;
 pub mod test;
 pub mod words;
