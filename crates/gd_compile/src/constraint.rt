@@ -2,8 +2,7 @@
 ghost use Rattle.std.specs.Prelude.{◌≡◌, ◌++◌, ◌∷◌, [], map, option_map, Some, None, IfOk, OnOk, if◌then◌else◌};
 ghost use Rattle.std.specs.Option.{option_to_list};
 ghost use Rattle.gd_defs.specs.Plan as plan;
-ghost use Rattle.gd_defs.specs.Data.{differs};
-ghost use Rattle.gd_defs.specs.Template.{place_in};
+ghost use Rattle.gd_defs.specs.Data.{equals, differs, is_one_of};
 ghost use Rattle.gd_datum.specs.Values.{kind_of};
 ghost use Rattle.gd_template.specs.Seen.{constraint_of};
 ghost use Rattle.gd_compile.specs.Seen.{expects_view, test_view};
@@ -88,14 +87,20 @@ fn push_some(constraints: &mut Vec<Constraint>, more: Option<Constraint>) -> Res
     }
 }
 
-/// The constraint that a value is of a kind, if it is asked for.
-fn kind_constraint(alloc: Global, kind: Kind, asked: bool) -> Result<Option<Constraint>, Memory>
-    ensures { IfOk result (λ c. option_map constraint_of c ≡ (if asked then Some (plan.of_kind (kind_of kind)) else None)) }
+/// Puts the constraint that a value is of a kind behind others, if it is asked for.
+fn push_kind(
+    alloc: Global,
+    constraints: &mut Vec<Constraint>,
+    kind: Kind,
+    asked: bool,
+) -> Result<(), Memory>
+    ensures { OnOk result (map constraint_of constraints.new.items ≡ map constraint_of constraints.old.items ++ option_to_list (if asked then Some (plan.of_kind (kind_of kind)) else None)) }
 {
     if asked {
-        Ok(Some(of_kind(alloc, kind)?))
+        let of_kind = of_kind(alloc, kind)?;
+        push(constraints, of_kind)
     } else {
-        Ok(None)
+        Ok(())
     }
 }
 
@@ -109,8 +114,7 @@ pub fn push_value_test(
 ) -> Result<(), Memory>
     ensures { OnOk result (map constraint_of constraints.new.items ≡ map constraint_of constraints.old.items ++ plan.value_test (kind_of kind) (test_view test)) }
 {
-    let of_kind = kind_constraint(alloc, kind, asks_kind(&test))?;
-    push_some(constraints, of_kind)?;
+    push_kind(alloc, constraints, kind, asks_kind(&test))?;
     push_some(constraints, value_constraint(test))
 }
 
@@ -178,12 +182,19 @@ fn places_of(alloc: Global, data: &[Datum]) -> Result<Vec<Id>, Memory>
 }
 
 /// The constraint that an object is the one that a datum is; no object is where it is none.
-fn same_place(alloc: Global, datum: &Datum) -> Result<Constraint, Memory>
-    ensures { IfOk result (λ c. constraint_of c ≡ place_in (plan.places_of (datum.now ∷ []))) }
+fn same_place(alloc: Global, datum: &Datum) -> Result<Option<Constraint>, Memory>
+    ensures { IfOk result (λ c. option_to_list (option_map constraint_of c) ≡ plan.object_test (equals datum.now)) }
 {
     let mut places = Vec::new(alloc);
     push_place(&mut places, datum)?;
-    Ok(Constraint::PlaceIn(places))
+    Ok(Some(Constraint::PlaceIn(places)))
+}
+
+/// The constraint that an object is one of those that data are.
+fn among_places(alloc: Global, data: &[Datum]) -> Result<Option<Constraint>, Memory>
+    ensures { IfOk result (λ c. option_to_list (option_map constraint_of c) ≡ plan.object_test (is_one_of «data».now)) }
+{
+    Ok(Some(Constraint::PlaceIn(places_of(alloc, data)?)))
 }
 
 /// What a test asks of an object: of its identity, or of its timestamp; nothing where no object can differ by it. `Memory`: an
@@ -193,9 +204,9 @@ pub fn object_constraint(alloc: Global, test: Test) -> Result<Option<Constraint>
 {
     match test {
         Test::Anything | Test::Matches(_) => Ok(None),
-        Test::Equals(value) => Ok(Some(same_place(alloc, &value)?)),
+        Test::Equals(value) => same_place(alloc, &value),
         Test::Differs(value) => Ok(other_place(&value)),
-        Test::OneOf(values) => Ok(Some(Constraint::PlaceIn(places_of(alloc, values.as_slice())?))),
+        Test::OneOf(values) => among_places(alloc, values.as_slice()),
         Test::Below { value, or_equal } => Ok(Some(Constraint::Below { value, or_equal })),
         Test::Above { value, or_equal } => Ok(Some(Constraint::Above { value, or_equal })),
     }
