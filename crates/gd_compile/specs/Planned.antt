@@ -3,7 +3,8 @@ use Rattle.std.specs.Prelude.{ℕ, Bool, true, false, Option, Some, None}
 use Rattle.gd_base.specs.declared.datum.Datum.{Datum}
 use Rattle.gd_base.specs.declared.datum.Datum.TheVariants as datum
 use Rattle.gd_defs.specs.Data.{Test, anything, equals, differs, is_one_of, is_below, is_above, matches_words}
-use Rattle.gd_defs.specs.Template.{Constraint, value_is, value_not, value_in, below, above, matches}
+use Rattle.gd_template.specs.View.{Parts}
+use Rattle.gd_defs.specs.Template.{Clauses, clause, Constraint, value_is, value_not, value_in, below, above, matches}
 
 -- a test of a value leaves open of which kind that is
 abbrev pub asks_kind : Test → Bool
@@ -25,3 +26,8 @@ value_constraint (matches_words p) = Some (matches p)
 abbrev pub place_of : Datum → Option ℕ
 place_of (datum.Object o) = Some o
 place_of _ = None
+
+-- a clause of these parts in front of others, if there is one
+abbrev pub with_clause : Option Parts → Clauses → Clauses
+with_clause (Some c) rest = clause c.0 c.1 c.2 rest
+with_clause None rest = rest
