@@ -1,5 +1,5 @@
 //! What a property's answers are, and operands as data of that.
-ghost use Rattle.std.specs.Prelude.{◌≡◌, ◌≤◌, ◌+◌, ◌*◌, length, map, option_map, true, OnOk, Some, ◌++◌, ◌∷◌, []};
+ghost use Rattle.std.specs.Prelude.{◌≡◌, ◌≤◌, ◌+◌, ◌*◌, length, map, option_map, OnOk, Some, ◌++◌, ◌∷◌, [], ◌<◌, ◌≢◌, Err, IfSome};
 ghost use Rattle.std.specs.Option.{ok_or};
 ghost use Rattle.gd_prim.specs.History.{prims_of};
 ghost use Rattle.gd_base.specs.declared.datum.Datum.TheVariants as datum;
@@ -7,7 +7,9 @@ ghost use Rattle.gd_defs.specs.Asked.Tests as defs;
 ghost use Rattle.gd_defs.specs.Asked.{bad_query};
 ghost use Rattle.gd_defs.specs.Query.{bad_value};
 ghost use Rattle.gd_defs.specs.Data as kinds;
-ghost use Rattle.gd_defs.specs.Ids.{is_key};
+ghost use Rattle.gd_base.specs.Counts.{Rose};
+ghost use Rattle.gd_defs.specs.Ids.{guid_place, id_keys};
+ghost use Rattle.gd_compile.specs.declared.fault.Unknown.TheVariants as fault;
 ghost use Rattle.gd_defs.specs.Property as property;
 ghost use Rattle.gd_json.specs.View.{view as json_of, items_view};
 ghost use Rattle.gd_tree.specs.Json.{text};
@@ -97,6 +99,10 @@ pub fn place_named<L>(
     ensures place { Finds (λ object. object) (defs.place_named (prims_of view.now) id.now) result }
     ensures work { steps.new ≤ steps.old + 500 }
     ensures later { steps.old ≤ steps.new }
+
+    // A guid of a place below the dateline and a path with a key are looked up.
+    ensures guid_counted { IfSome (guid_place id.now) (λ place. place < length (prims_of view.now) → Rose steps.old steps.new) }
+    ensures path_counted { result ≢ Err fault.Memory → IfSome (id_keys id.now) (λ keys. 0 < length keys → Rose steps.old steps.new) }
 {
     match named_object(alloc, view, id, steps)? {
         Some(object) => Ok(object),
