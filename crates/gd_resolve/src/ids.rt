@@ -120,8 +120,10 @@ fn follow<L>(
     Ok(Some(object))
 }
 
-/// The object that an id text names.
-pub(crate) fn named_object<L>(
+/// The object that an id text names below the dateline, or nothing where it is no id or names none; `object_of` says which
+/// text names what, and is the call for who has to tell that none was there. `Memory`: an allocation was refused. It looks
+/// at no more than 500 things.
+pub fn named_object<L>(
     alloc: Global,
     view: &View<'_>,
     text: &str,

@@ -3,7 +3,7 @@ ghost use Rattle.std.specs.Prelude.{◌≡◌, ◌≤◌, ◌<◌, ◌↔◌, �
 ghost use Rattle.gd_base.specs.Counts.{Rose};
 ghost use Rattle.gd_prim.specs.History.{prims_of};
 ghost use Rattle.gd_prim.specs.Live as live;
-ghost use Rattle.gd_prim.specs.Builtin.{property_place};
+ghost use Rattle.gd_prim.specs.Builtin.{property_place, expected_place};
 ghost use Rattle.gd_defs.specs.Property as defined;
 ghost use Rattle.gd_runs.specs.Built as built;
 ghost use Rattle.gd_runs.specs.Built.{SaysName};
@@ -132,6 +132,16 @@ fn first_right<L>(view: &View<'_>, typ: Id, object: Id, steps: &mut Steps<L>) ->
         Some(link) => right_at(view, link, steps),
         None => None,
     }
+}
+
+/// The type that the property at a place states to expect, in its own direction: what the first live link to an expected
+/// type names, if there is one. It takes no memory.
+pub fn expected_type<L>(view: &View<'_>, place: Id, steps: &mut Steps<L>) -> Option<Id>
+    ensures expected { result ≡ defined.first_right (prims_of view.now) expected_place place }
+    ensures later { steps.old ≤ steps.new }
+    ensures counted { 0 < length (prims_of view.now) → Rose steps.old steps.new }
+{
+    first_right(view, EXPECTED_TYPE, place, steps)
 }
 
 /// Whether a live link gives the object the type.

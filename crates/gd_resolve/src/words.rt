@@ -1,5 +1,5 @@
 //! The properties that words ask for.
-ghost use Rattle.std.specs.Prelude.{◌≡◌, ◌==◌, ◌≤◌, None, [], ◌∷◌, codes, if◌then◌else◌, IfOk, IsOk, IsSome};
+ghost use Rattle.std.specs.Prelude.{◌≡◌, ◌==◌, ◌≤◌, None, [], ◌∷◌, codes, if◌then◌else◌, option_map, IfOk, IsOk, IsSome};
 ghost use Rattle.std.specs.List.{last_or, starts_with};
 ghost use Rattle.gd_base.specs.Answers.{Gives};
 ghost use Rattle.gd_base.specs.Counts.{Rose};
@@ -38,6 +38,13 @@ const KEY: Id = Id(15);
 pub struct Word {
     pub text: JsonText,
     pub reversed: bool,
+}
+
+/// A property that a word names: the object that states it, and what is asked for.
+#[derive(Clone, Copy, Debug, PartialEq, Eq)]
+pub struct Named {
+    pub object: Id,
+    pub property: Property,
 }
 
 fn starts_with_slash(word: &str) -> bool
@@ -172,6 +179,31 @@ fn stated_in<L>(view: &View<'_>, place: Id, reversed: bool, steps: &mut Steps<L>
         turned(&property)
     } else {
         property
+    }
+}
+
+/// The object that a word leads to below the dateline, if it is a property, and what it is asked for then, turned where it
+/// is `reversed`; `property` says which words lead where. A caller that has to tell a refusal knows the path that led to
+/// the word, which is not asked for here. `Memory`: an allocation was refused.
+pub fn named_property<L>(
+    alloc: Global,
+    view: &View<'_>,
+    context: Option<Id>,
+    word: &str,
+    reversed: bool,
+    steps: &mut Steps<L>,
+) -> Result<Option<Named>, Memory>
+    ensures object { IfOk result (λ named. option_map (λ n. n.object) named ≡ defined.property_object (prims_of view.now) context word.now) }
+    ensures property { IfOk result (λ named. option_map (λ n. n.property) named ≡ defined.property (prims_of view.now) context reversed word.now) }
+    ensures later { steps.old ≤ steps.new }
+    ensures counted { IfOk result (λ named. IsSome named → Rose steps.old steps.new) }
+{
+    match property_object(alloc, view, context, word, steps)? {
+        Some(object) => Ok(Some(Named {
+            object,
+            property: stated_in(view, object, reversed, steps),
+        })),
+        None => Ok(None),
     }
 }
 

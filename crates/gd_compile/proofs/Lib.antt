@@ -1,0 +1,3 @@
+pub mod Tests
+pub mod Sorts
+pub mod Planned

@@ -1,0 +1,61 @@
+-- Tests and what properties hold, as the definitions have them.
+use Rattle.std.specs.Prelude.{ℕ, List, Bool, true, false, Result, Ok}
+use Rattle.std.specs.Option.{ok_or}
+use Rattle.gd_base.specs.declared.datum.Datum.{Datum}
+use Rattle.gd_defs.specs.Data as tests
+use Rattle.gd_defs.specs.Property as property
+use Rattle.gd_defs.specs.Query as query
+use Rattle.gd_defs.specs.Asked.Tests.{Unknown, bad_query, operand_datum, pattern_test}
+use Rattle.gd_defs.specs.Query.{bad_value}
+use Rattle.gd_prim.specs.declared.Primitive.{Primitive}
+use Rattle.gd_grammar.specs.Chain.{◌>>=◌}
+use Rattle.gd_tree.specs.Json.{Json}
+use Rattle.gd_datum.specs.Values.{kind_of}
+use Rattle.gd_compile.specs.declared.operand.Expects.{Expects}
+use Rattle.gd_compile.specs.declared.operand.Expects.TheVariants as expects
+use Rattle.gd_compile.specs.declared.test.Test.{Test}
+use Rattle.gd_compile.specs.declared.test.Test.TheVariants as test
+
+-- what the answers of a property are
+abbrev pub expects_view : Expects → property.Expects
+expects_view (expects.Value kind) = property.a_value (kind_of kind)
+expects_view expects.Key = property.a_key
+expects_view expects.SystemObject = property.an_object_of_system
+expects_view expects.PlainObject = property.a_plain_object
+
+-- the test of the definitions
+abbrev pub test_view : Test → tests.Test
+test_view test.Anything = tests.anything
+test_view (test.Equals value) = tests.equals value
+test_view (test.Differs value) = tests.differs value
+test_view (test.OneOf values) = tests.is_one_of values.items
+test_view (test.Below value or_equal) = tests.is_below value or_equal
+test_view (test.Above value or_equal) = tests.is_above value or_equal
+test_view (test.Matches pattern) = tests.matches_words pattern
+
+-- the test that an operator of one datum makes with it; what takes no such datum is not asked for
+abbrev pub compared : query.Operator → Datum → tests.Test
+compared query.differs d = tests.differs d
+compared query.below d = tests.is_below d false
+compared query.at_most d = tests.is_below d true
+compared query.above d = tests.is_above d false
+compared query.at_least d = tests.is_above d true
+compared _ d = tests.equals d
+
+-- the test that an operator of one datum makes with its operand
+abbrev pub compared_with : List Primitive → property.Expects → List (List ℕ) → query.Operator → Json → Result tests.Test Unknown
+compared_with prims e path operator j = operand_datum prims e path j >>= λ d. Ok (compared operator d)
+
+-- the test that `~=` makes with its operand
+abbrev pub words_with : List (List ℕ) → Json → Result tests.Test Unknown
+words_with path j = ok_or (tests.datum_from tests.of_text j) (bad_query bad_value path) >>= λ d. Ok (pattern_test j)
+
+-- the operator takes a list
+abbrev pub is_choice : query.Operator → Bool
+is_choice query.one_of = true
+is_choice _ = false
+
+-- the operator takes a pattern
+abbrev pub is_words : query.Operator → Bool
+is_words query.words = true
+is_words _ = false

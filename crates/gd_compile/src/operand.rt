@@ -1,0 +1,215 @@
+//! What a property's answers are, and operands as data of that.
+ghost use Rattle.std.specs.Prelude.{◌≡◌, ◌≤◌, ◌+◌, ◌*◌, length, map, option_map, OnOk, Some, ◌++◌, ◌∷◌, [], ◌<◌, ◌≢◌, Err, IfSome};
+ghost use Rattle.std.specs.Option.{ok_or};
+ghost use Rattle.gd_prim.specs.History.{prims_of};
+ghost use Rattle.gd_base.specs.declared.datum.Datum.TheVariants as datum;
+ghost use Rattle.gd_defs.specs.Asked.Tests as defs;
+ghost use Rattle.gd_defs.specs.Asked.{bad_query};
+ghost use Rattle.gd_defs.specs.Query.{bad_value};
+ghost use Rattle.gd_defs.specs.Data as kinds;
+ghost use Rattle.gd_base.specs.Counts.{Rose};
+ghost use Rattle.gd_defs.specs.Ids.{guid_place, id_keys};
+ghost use Rattle.gd_compile.specs.declared.fault.Unknown.TheVariants as fault;
+ghost use Rattle.gd_defs.specs.Property as property;
+ghost use Rattle.gd_json.specs.View.{view as json_of, items_view};
+ghost use Rattle.gd_tree.specs.Json.{text};
+ghost use Rattle.gd_datum.specs.Values.{kind_of};
+ghost use Rattle.gd_compile.specs.Fault.{Finds};
+ghost use Rattle.gd_compile.specs.Seen.{expects_view};
+
+use crate::fault::{Code, Unknown, bad, no_id};
+use gd_base::datum::Datum;
+use gd_base::id::Id;
+use gd_base::memory::Memory;
+use gd_base::steps::Steps;
+use gd_base::text::Text;
+use gd_datum::value::{DatumFault, Kind, datum_from};
+use gd_json::value::Json;
+use gd_mql::ids::is_key;
+use gd_resolve::ids::named_object;
+use gd_store::view::View;
+use std::alloc::Global;
+
+/// The first place behind the built-in list.
+const BUILTIN_END: u32 = 70;
+
+/// What the answers of a property are.
+#[derive(Clone, Copy, Debug, PartialEq, Eq)]
+pub enum Expects {
+    /// Values of a kind.
+    Value(Kind),
+    /// Keys, each in a namespace.
+    Key,
+    /// Objects of a type of the built-in list.
+    SystemObject,
+    /// Other objects.
+    PlainObject,
+}
+
+/// What the answers of objects of this type are.
+fn expects_of_type(of: Id) -> Expects
+    ensures { expects_view result ≡ property.expects_of (Some of) }
+{
+    match of.0 {
+        7 => Expects::Value(Kind::Text),
+        8 => Expects::Value(Kind::Int),
+        9 => Expects::Value(Kind::Boolean),
+        10 => Expects::Value(Kind::Datetime),
+        11 => Expects::Key,
+        place => {
+            if place < BUILTIN_END {
+                Expects::SystemObject
+            } else {
+                Expects::PlainObject
+            }
+        }
+    }
+}
+
+/// What the answers of a property are, by the type that it expects at their end, if it states one: the types of the
+/// built-in list for texts, whole numbers, truth values and moments stand for values, the one for keys for keys, and its
+/// other types for objects of the system. It takes no memory.
+pub fn expects_of(expected: Option<Id>) -> Expects
+    ensures { expects_view result ≡ property.expects_of expected }
+{
+    match expected {
+        Some(of) => expects_of_type(of),
+        None => Expects::PlainObject,
+    }
+}
+
+/// Whether the answers are values or keys. It takes no memory.
+pub fn holds_values(expects: Expects) -> bool
+    ensures { result ≡ property.holds_values (expects_view expects) }
+{
+    match expects {
+        Expects::Value(_) | Expects::Key => true,
+        Expects::SystemObject | Expects::PlainObject => false,
+    }
+}
+
+/// The object that the text of an id names below the dateline. `NoSuchId`: the text is no id or names no object; with the
+/// text. `Memory`: an allocation was refused. It looks at no more than 500 things.
+pub fn place_named<L>(
+    alloc: Global,
+    view: &View<'_>,
+    id: &str,
+    steps: &mut Steps<L>,
+) -> Result<Id, Unknown>
+    ensures place { Finds (λ object. object) (defs.place_named (prims_of view.now) id.now) result }
+    ensures work { steps.new ≤ steps.old + 500 }
+    ensures later { steps.old ≤ steps.new }
+
+    // A guid of a place below the dateline and a path with a key are looked up.
+    ensures guid_counted { IfSome (guid_place id.now) (λ place. place < length (prims_of view.now) → Rose steps.old steps.new) }
+    ensures path_counted { result ≢ Err fault.Memory → IfSome (id_keys id.now) (λ keys. 0 < length keys → Rose steps.old steps.new) }
+{
+    match named_object(alloc, view, id, steps)? {
+        Some(object) => Ok(object),
+        None => Err(no_id(alloc, id)),
+    }
+}
+
+/// The datum of a kind that a JSON value spells.
+fn value_datum(alloc: Global, kind: Kind, path: &[&str], json: &Json) -> Result<Datum, Unknown>
+    ensures { Finds (λ datum. datum) (ok_or (kinds.datum_from (kind_of kind) (json_of json.now)) (bad_query bad_value (map (λ name. name.now) path.now))) result }
+{
+    match datum_from(alloc, kind, json) {
+        Ok(datum) => Ok(datum),
+        Err(DatumFault::Memory) => Err(Unknown::Memory),
+        Err(_) => Err(bad(alloc, Code::BadValue, path)),
+    }
+}
+
+/// The datum of a text that is a key.
+fn key_of_text(alloc: Global, path: &[&str], key: &str) -> Result<Datum, Unknown>
+    ensures { Finds (λ datum. datum) (ok_or (option_map datum.Text (kinds.key_from (text key.now))) (bad_query bad_value (map (λ name. name.now) path.now))) result }
+{
+    if is_key(key) {
+        Ok(Datum::Text(Text::of(alloc, key)?))
+    } else {
+        Err(bad(alloc, Code::BadValue, path))
+    }
+}
+
+/// The datum of the key that a JSON value spells.
+fn key_datum(alloc: Global, path: &[&str], json: &Json) -> Result<Datum, Unknown>
+    ensures { Finds (λ datum. datum) (ok_or (option_map datum.Text (kinds.key_from (json_of json.now))) (bad_query bad_value (map (λ name. name.now) path.now))) result }
+{
+    match json {
+        Json::Text(key) => key_of_text(alloc, path, key.as_str()),
+        _ => Err(bad(alloc, Code::BadValue, path)),
+    }
+}
+
+/// The datum of the object whose id a JSON value spells.
+fn object_datum<L>(
+    alloc: Global,
+    view: &View<'_>,
+    path: &[&str],
+    json: &Json,
+    steps: &mut Steps<L>,
+) -> Result<Datum, Unknown>
+    ensures datum { Finds (λ datum. datum) (defs.operand_datum (prims_of view.now) property.a_plain_object (map (λ name. name.now) path.now) (json_of json.now)) result }
+    ensures work { steps.new ≤ steps.old + 500 }
+    ensures later { steps.old ≤ steps.new }
+{
+    match json {
+        Json::Text(id) => Ok(Datum::Object(place_named(alloc, view, id.as_str(), steps)?)),
+        _ => Err(bad(alloc, Code::BadValue, path)),
+    }
+}
+
+/// The datum that an operand is where answers are of this sort: a value of the kind, a key, or the object that an id names
+/// below the dateline. `path` has the names that lead to the operand from the root down. `NoSuchId`: an object is wanted,
+/// and the text is no id or names none. `BadQuery` with `BadValue` and the path: the operand has another form, or is no
+/// value or key. `Memory`: an allocation was refused. It looks at no more than 500 things.
+pub fn operand_datum<L>(
+    alloc: Global,
+    view: &View<'_>,
+    expects: Expects,
+    path: &[&str],
+    json: &Json,
+    steps: &mut Steps<L>,
+) -> Result<Datum, Unknown>
+    ensures datum { Finds (λ datum. datum) (defs.operand_datum (prims_of view.now) (expects_view expects) (map (λ name. name.now) path.now) (json_of json.now)) result }
+    ensures work { steps.new ≤ steps.old + 500 }
+    ensures later { steps.old ≤ steps.new }
+{
+    match expects {
+        Expects::Value(kind) => value_datum(alloc, kind, path, json),
+        Expects::Key => key_datum(alloc, path, json),
+        Expects::SystemObject | Expects::PlainObject => {
+            object_datum(alloc, view, path, json, steps)
+        }
+    }
+}
+
+fn push_datum(read: &mut Vec<Datum>, datum: Datum) -> Result<(), Memory>
+    ensures { OnOk result (read.new.items ≡ read.old.items ++ datum ∷ []) }
+{
+    read.push(datum)?;
+    Ok(())
+}
+
+/// The data that operands are where answers are of this sort, in order; the first that is none is refused as
+/// `operand_datum` says. It looks at no more than 500 things for each.
+pub fn operand_data<L>(
+    alloc: Global,
+    view: &View<'_>,
+    expects: Expects,
+    path: &[&str],
+    operands: &[Json],
+    steps: &mut Steps<L>,
+) -> Result<Vec<Datum>, Unknown>
+    ensures data { Finds (λ read. read.items) (defs.operand_data (prims_of view.now) (expects_view expects) (map (λ name. name.now) path.now) (items_view operands.now)) result }
+    ensures work { steps.new ≤ steps.old + 500 * length operands.now }
+    ensures later { steps.old ≤ steps.new }
+{
+    let mut read = Vec::new(alloc);
+    for json in operands {
+        let datum = operand_datum(alloc, view, expects, path, json, steps)?;
+        push_datum(&mut read, datum)?;
+    }
+    Ok(read)
+}

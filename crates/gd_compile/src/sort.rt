@@ -1,0 +1,129 @@
+//! What rows are sorted by.
+ghost use Rattle.std.specs.Prelude.{◌≡◌, ◌≤◌, ◌++◌, ◌∷◌, [], map, OnOk};
+ghost use Rattle.gd_prim.specs.History.{prims_of};
+ghost use Rattle.gd_defs.specs.Asked as defs;
+ghost use Rattle.gd_mql.specs.Directives.{sort_word_view};
+ghost use Rattle.gd_compile.specs.Fault.{Finds};
+ghost use Rattle.gd_compile.specs.Seen.{expects_view};
+ghost use Rattle.gd_compile.specs.Words.{sort_key_view, value_key, is_value};
+
+use crate::fault::{Code, Unknown, bad, no_property};
+use crate::operand::{Expects, expects_of};
+use crate::words::{is_guid, is_id, is_timestamp};
+use gd_base::id::Id;
+use gd_base::memory::Memory;
+use gd_base::steps::Steps;
+use gd_mql::directive::SortWord;
+use gd_resolve::property::Property;
+use gd_resolve::words::named_property;
+use gd_store::view::View;
+use std::alloc::Global;
+
+/// What rows are sorted by, and the direction: the guid, the timestamp, or the first value of a property.
+#[derive(Drop)]
+pub enum SortKey {
+    Guid {
+        descending: bool,
+    },
+    Timestamp {
+        descending: bool,
+    },
+    Value {
+        property: Property,
+        descending: bool,
+    },
+}
+
+/// Whether the answers are values of a kind.
+fn is_value(expects: Expects) -> bool
+    ensures { result ≡ is_value (expects_view expects) }
+{
+    matches!(expects, Expects::Value(_))
+}
+
+/// The sort key of a property: its links have to be its own and to hold values of a kind.
+fn value_key(
+    alloc: Global,
+    path: &[&str],
+    property: &Property,
+    descending: bool,
+) -> Result<SortKey, Unknown>
+    ensures { Finds sort_key_view (value_key descending (map (λ name. name.now) path.now) property.now) result }
+{
+    if is_value(expects_of(property.expected)) && !property.reversed {
+        Ok(SortKey::Value {
+            property: *property,
+            descending,
+        })
+    } else {
+        Err(bad(alloc, Code::BadSort, path))
+    }
+}
+
+/// The sort key of a sort word in a context, the type of the objects that are sorted, if one is known: the guid, the
+/// timestamp, or a property whose links are its own and hold values of a kind. `path` has the names that lead to the
+/// directive `sort` from the root down, its own among them. `NoSuchProperty` with the path: the word leads to no property.
+/// `BadQuery` with `BadSort` and the path: it is `id` or leads to another property. `Memory`: an allocation was refused.
+#[tactic(auto, using(crate::proofs::Sorts::value_found))]
+pub fn sort_key<L>(
+    alloc: Global,
+    view: &View<'_>,
+    context: Option<Id>,
+    path: &[&str],
+    sort: &SortWord<'_>,
+    steps: &mut Steps<L>,
+) -> Result<SortKey, Unknown>
+    ensures key { Finds sort_key_view (defs.sort_key (prims_of view.now) context (map (λ name. name.now) path.now) (sort_word_view sort.now)) result }
+    ensures later { steps.old ≤ steps.new }
+{
+    let descending = sort.descending;
+    if is_id(sort.word) {
+        return Err(bad(alloc, Code::BadSort, path));
+    }
+    if is_guid(sort.word) {
+        return Ok(SortKey::Guid { descending });
+    }
+    if is_timestamp(sort.word) {
+        return Ok(SortKey::Timestamp { descending });
+    }
+    match named_property(alloc, view, context, sort.word, false, steps)? {
+        Some(named) => value_key(alloc, path, &named.property, descending),
+        None => Err(no_property(alloc, path)),
+    }
+}
+
+fn same(context: &Option<Id>) -> Option<Id>
+    ensures { result ≡ context.now }
+{
+    match context {
+        Some(of) => Some(*of),
+        None => None,
+    }
+}
+
+fn push_key(keys: &mut Vec<SortKey>, key: SortKey) -> Result<(), Memory>
+    ensures { OnOk result (keys.new.items ≡ keys.old.items ++ key ∷ []) }
+{
+    keys.push(key)?;
+    Ok(())
+}
+
+/// The sort keys of the words of a directive `sort`, in order; the first word that is none is refused as `sort_key` says.
+pub fn sort_keys<L>(
+    alloc: Global,
+    view: &View<'_>,
+    context: Option<Id>,
+    path: &[&str],
+    words: &[SortWord<'_>],
+    steps: &mut Steps<L>,
+) -> Result<Vec<SortKey>, Unknown>
+    ensures keys { Finds (λ keys. map sort_key_view keys.items) (defs.sort_keys (prims_of view.now) context (map (λ name. name.now) path.now) (map sort_word_view words.now)) result }
+    ensures later { steps.old ≤ steps.new }
+{
+    let mut keys = Vec::new(alloc);
+    for word in words {
+        let key = sort_key(alloc, view, same(&context), path, word, steps)?;
+        push_key(&mut keys, key)?;
+    }
+    Ok(keys)
+}

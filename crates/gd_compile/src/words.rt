@@ -1,0 +1,209 @@
+//! The words of members: what is computed, and which property is asked for.
+ghost use Rattle.std.specs.Prelude.{◌≡◌, ◌≤◌, ◌+◌, ◌*◌, Ok, IsOk, map, option_map, codes, if◌then◌else◌};
+ghost use Rattle.gd_base.specs.Counts.{Rose};
+ghost use Rattle.gd_prim.specs.History.{prims_of};
+ghost use Rattle.gd_defs.specs.Asked as defs;
+ghost use Rattle.gd_defs.specs.Property as property;
+ghost use Rattle.gd_defs.specs.Query as query;
+ghost use Rattle.gd_json.specs.View.{view as json_of};
+ghost use Rattle.gd_tree.specs.Look.{item_count};
+ghost use Rattle.gd_mql.specs.Names.{operator_view, name_view};
+ghost use Rattle.gd_compile.specs.Fault.{Finds};
+ghost use Rattle.gd_compile.specs.Seen.{expects_view, test_view};
+ghost use Rattle.gd_compile.specs.Words.{own_view};
+
+use crate::fault::{Code, Unknown, bad, no_property};
+use crate::operand::{Expects, expects_of, holds_values, place_named};
+use crate::test::{Test, allows, test_of};
+use gd_base::id::Id;
+use gd_base::steps::Steps;
+use gd_datum::value::Kind;
+use gd_json::value::Json;
+use gd_mql::name::{Name, Operator};
+use gd_resolve::property::{Property, expected_type};
+use gd_resolve::words::{Named, named_property};
+use gd_store::view::View;
+use std::alloc::Global;
+
+/// What a computed member tells: of its object the id, the guid or the timestamp; of the link that led there the guid, the
+/// value or the namespace.
+#[derive(Clone, Copy, Debug, PartialEq, Eq)]
+pub enum Own {
+    Id,
+    Guid,
+    Timestamp,
+    Link,
+    Value,
+    Namespace,
+}
+
+pub(crate) fn is_id(word: &str) -> bool
+    ensures { result ≡ query.is_word (codes "id") word.now }
+{
+    word == "id" || word == "/type/object/id"
+}
+
+pub(crate) fn is_guid(word: &str) -> bool
+    ensures { result ≡ query.is_word (codes "guid") word.now }
+{
+    word == "guid" || word == "/type/object/guid"
+}
+
+pub(crate) fn is_timestamp(word: &str) -> bool
+    ensures { result ≡ query.is_word (codes "timestamp") word.now }
+{
+    word == "timestamp" || word == "/type/object/timestamp"
+}
+
+fn is_link(word: &str) -> bool
+    ensures { result ≡ query.is_link word.now }
+{
+    word == "link"
+}
+
+/// What a word tells by itself, if it is computed: `id`, `guid` and `timestamp`, also as a path below `/type/object`, and
+/// `link`. It takes no memory.
+pub fn own_of(word: &str) -> Option<Own>
+    ensures { option_map own_view result ≡ defs.own_of word.now }
+{
+    if is_id(word) {
+        Some(Own::Id)
+    } else if is_guid(word) {
+        Some(Own::Guid)
+    } else if is_timestamp(word) {
+        Some(Own::Timestamp)
+    } else if is_link(word) {
+        Some(Own::Link)
+    } else {
+        None
+    }
+}
+
+/// What a computed word expects of its operand: a moment, or the id of an object. It takes no memory.
+pub fn own_expects(own: Own) -> Expects
+    ensures { expects_view result ≡ defs.own_expects (own_view own) }
+{
+    match own {
+        Own::Timestamp => Expects::Value(Kind::Datetime),
+        _ => Expects::SystemObject,
+    }
+}
+
+fn timestamp_takes(operator: Operator) -> bool
+    ensures { result ≡ defs.takes defs.its_timestamp (operator_view operator) }
+{
+    matches!(
+        operator,
+        Operator::Below | Operator::AtMost | Operator::Above | Operator::AtLeast
+    )
+}
+
+fn namespace_takes(operator: Operator) -> bool
+    ensures { result ≡ defs.takes defs.its_namespace (operator_view operator) }
+{
+    matches!(operator, Operator::Absent)
+}
+
+/// Whether a computed word takes this operator: `link` none, the namespace of a key no operator at all but an operand
+/// by itself, the timestamp the comparisons, and the others what objects allow. It takes no memory.
+pub fn takes(own: Own, operator: Operator) -> bool
+    ensures { result ≡ defs.takes (own_view own) (operator_view operator) }
+{
+    match own {
+        Own::Link => false,
+        Own::Timestamp => timestamp_takes(operator),
+        Own::Namespace => namespace_takes(operator),
+        Own::Id | Own::Guid | Own::Value => allows(Expects::SystemObject, operator),
+    }
+}
+
+/// The test that an operator makes with its operand on a computed word. `BadQuery` with `BadOperator` and the path: the
+/// word does not take the operator; else what `test_of` says, where objects are named by ids and `timestamp` is compared
+/// with moments. `Memory`: an allocation was refused. It looks at no more than 500 things for each operand.
+pub fn own_test<L>(
+    alloc: Global,
+    view: &View<'_>,
+    path: &[&str],
+    own: Own,
+    operator: Operator,
+    json: &Json,
+    steps: &mut Steps<L>,
+) -> Result<Test, Unknown>
+    ensures test { Finds test_view (defs.own_test (prims_of view.now) (map (λ name. name.now) path.now) (own_view own) (operator_view operator) (json_of json.now)) result }
+    ensures work { steps.new ≤ steps.old + 500 + 500 * item_count (json_of json.now) }
+    ensures later { steps.old ≤ steps.new }
+{
+    if takes(own, operator) {
+        test_of(alloc, view, own_expects(own), path, operator, json, steps)
+    } else {
+        Err(bad(alloc, Code::BadOperator, path))
+    }
+}
+
+/// The context type of a clause: what the text of its member `type` names, if it has one, and else the type that the
+/// property expects that leads to it. `NoSuchId`: the text is no id or names no object; with the text. `Memory`: an
+/// allocation was refused. It looks at no more than 500 things.
+pub fn context_of<L>(
+    alloc: Global,
+    view: &View<'_>,
+    above: Option<Id>,
+    type_text: Option<&str>,
+    steps: &mut Steps<L>,
+) -> Result<Option<Id>, Unknown>
+    ensures context { Finds (λ context. context) (defs.context_of (prims_of view.now) above (option_map (λ text. text.now) type_text.entry)) result }
+    ensures work { steps.new ≤ steps.old + 500 }
+    ensures later { steps.old ≤ steps.new }
+{
+    match type_text {
+        Some(id) => Ok(Some(place_named(alloc, view, id, steps)?)),
+        None => Ok(above),
+    }
+}
+
+/// Whether the object states a property of values, and what is asked for is reversed.
+fn is_reversed_value<L>(view: &View<'_>, named: &Named, steps: &mut Steps<L>) -> bool
+    ensures reversed { result ≡ property.is_reversed_value (prims_of view.now) named.now.object named.now.property }
+    ensures later { steps.old ≤ steps.new }
+{
+    named.property.reversed && holds_values(expects_of(expected_type(view, named.object, steps)))
+}
+
+/// The property that a member asks for in a context, the type of the objects that are asked, if one is known; turned where
+/// `!` stands before its word. `path` has the names that lead to the member from the root down, its own among them.
+/// `NoSuchProperty` with the path: the word leads to no property. `BadQuery` with `ValueReversed` and the path: the
+/// property holds values, and they are asked for backwards. `Memory`: an allocation was refused.
+pub fn member_property<L>(
+    alloc: Global,
+    view: &View<'_>,
+    context: Option<Id>,
+    path: &[&str],
+    name: &Name<'_>,
+    steps: &mut Steps<L>,
+) -> Result<Property, Unknown>
+    ensures property { Finds (λ p. p) (defs.member_property (prims_of view.now) context (map (λ name. name.now) path.now) (name_view name.now)) result }
+    ensures later { steps.old ≤ steps.new }
+    ensures counted { IsOk result → Rose steps.old steps.new }
+{
+    match named_property(alloc, view, context, name.word, name.reversed, steps)? {
+        Some(named) => unless_reversed(alloc, view, path, &named, steps),
+        None => Err(no_property(alloc, path)),
+    }
+}
+
+/// The property of a named one, unless it holds values that are asked for backwards.
+fn unless_reversed<L>(
+    alloc: Global,
+    view: &View<'_>,
+    path: &[&str],
+    named: &Named,
+    steps: &mut Steps<L>,
+) -> Result<Property, Unknown>
+    ensures property { Finds (λ p. p) (if property.is_reversed_value (prims_of view.now) named.now.object named.now.property then defs.bad query.value_reversed (map (λ name. name.now) path.now) else Ok named.now.property) result }
+    ensures later { steps.old ≤ steps.new }
+{
+    if is_reversed_value(view, named, steps) {
+        Err(bad(alloc, Code::ValueReversed, path))
+    } else {
+        Ok(named.property)
+    }
+}
