@@ -258,7 +258,7 @@ unnamed-change ms none named = rw (none, named) refl
 -- a form that connects
 pub connect-item : (s : Setting) (n : Name) (ms : Members) (j : Json) → get (codes "connect") ms ≡ Some j
     → item_fault s n (object ms) ≡ (if is_connect_form ms then option_or (target_fault n.spelled ms) (if is_some (connect_word j) then None else Some (record { code = bad_connect; path = n.spelled ∷ [] }))
-        else Some (record { code = bad_write; path = n.spelled ∷ [] }))
+    else Some (record { code = bad_write; path = n.spelled ∷ [] }))
 connect-item s n ms j there = by (is_connect_form ms) refl
   where
     by : (b : Bool) → is_connect_form ms ≡ b
