@@ -12,3 +12,4 @@ pub mod Written
 pub mod Shown
 pub mod Envelopes
 pub mod Refused
+pub mod SortedBy

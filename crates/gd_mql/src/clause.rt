@@ -10,7 +10,9 @@ ghost use Rattle.gd_mql.specs.Names.{name_view};
 ghost use Rattle.gd_mql.specs.Directives.{mode_view, directives_view};
 ghost use Rattle.gd_mql.specs.QueryForm.{takes_operand};
 
-use crate::directive::{Directives, Mode, is_directive, limit_of, mode_of};
+use crate::directive::{
+    Directives, Mode, SortWord, is_directive, item_word, limit_of, mode_of, sort_word,
+};
 use crate::name::{Name, Operator};
 use crate::object::{has, member};
 use crate::query_form::{has_operator, member_name, wants_operand};
@@ -317,6 +319,29 @@ impl<'a> Form<'a> {
                 members,
             }),
             None => unreachable!(),
+        }
+    }
+}
+
+impl<'a> SortWords<'a> {
+    ghost use Rattle.gd_mql.specs.Clauses.{sort_view};
+    ghost use Rattle.gd_mql.specs.Directives.{sort_word_view};
+    ghost use Rattle.std.specs.Prelude.{slice_get};
+
+    /// The sort word at an index, the first being at 0.
+    pub fn word(&self, index: usize) -> Option<SortWord<'a>>
+        ensures { option_map sort_word_view result ≡ slice_get (sort_view self.now) index }
+    {
+        let spelled = self.spelled;
+        if let Some(text) = spelled.as_text() {
+            if index > 0 {
+                return None;
+            }
+            return sort_word(text.as_str());
+        }
+        match spelled.item(index) {
+            Some(item) => item_word(item),
+            None => None,
         }
     }
 }

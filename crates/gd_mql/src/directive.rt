@@ -1,5 +1,5 @@
 //! Directives of a clause: `optional`, `sort`, `limit` and `return`.
-ghost use Rattle.std.specs.Prelude.{◌≡◌, ◌&&◌, option_map, is_some, if◌then◌else◌, Some, None, false};
+ghost use Rattle.std.specs.Prelude.{◌≡◌, ◌&&◌, option_map, option_and_then, is_some, if◌then◌else◌, Some, None, false};
 ghost use Rattle.std.specs.Int.{is_in_range};
 ghost use Rattle.std.specs.Option.{option_map_or};
 ghost use Rattle.gd_tree.specs.Json.{text};
@@ -128,6 +128,13 @@ pub fn sort_word(spelled: &str) -> Option<SortWord<'_>>
         }
     }
     plain_sort_word(spelled)
+}
+
+/// The sort word that an item of a list spells.
+pub fn item_word(item: &Json) -> Option<SortWord<'_>>
+    ensures { option_map sort_word_view result ≡ option_and_then defined.sort_word (text_of (view item.now)) }
+{
+    sort_word(item.as_text()?.as_str())
 }
 
 fn is_sort_word(value: &Json) -> bool
