@@ -3,4 +3,5 @@
 
 mod create;
 pub mod fault;
+pub mod form;
 pub mod write;

@@ -14,7 +14,7 @@ use gd_base::memory::Memory;
 use gd_base::text::{TEXT_LIMIT, Text};
 use gd_json::value::{Json, JsonText};
 use gd_mql::fault::{Code, Path};
-use gd_mql::line::WriteRequest;
+use crate::form::CreateForm;
 use gd_prim::Batch;
 use gd_store::store::Store;
 use std::alloc::Global;
@@ -36,7 +36,7 @@ fn name_path(alloc: Global) -> Result<Path, Memory>
 pub fn evaluate(
     alloc: Global,
     store: &Store,
-    request: &WriteRequest,
+    request: &CreateForm,
     moment: u64,
 ) -> Result<(Batch, Json), ChangeFault>
     requires says { SaysName (prims_of store.now) }

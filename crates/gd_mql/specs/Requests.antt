@@ -16,8 +16,8 @@ use Rattle.gd_mql.specs.declared.request.CursorAsk.TheVariants as cursor
 use Rattle.gd_mql.specs.declared.request.ReadRequest.{ReadRequest}
 use Rattle.gd_mql.specs.declared.request.WriteRequest.{WriteRequest}
 use Rattle.gd_mql.specs.declared.request.Query.{Query}
-use Rattle.gd_mql.specs.declared.request.Request.{Request}
-use Rattle.gd_mql.specs.declared.request.Request.TheVariants.{Read, Write}
+use Rattle.gd_mql.specs.declared.request.Line.{Line}
+use Rattle.gd_mql.specs.declared.request.Line.TheVariants.{Read, Write}
 
 -- the page that this asks for
 abbrev pub cursor_view : CursorAsk → request.CursorAsk
@@ -38,10 +38,10 @@ abbrev pub query_view : Query → query.Query
 query_view q = record { listed = q.listed; directives = (clause_view q.root).0; members = (clause_view q.root).1 }
 
 -- the line that this is
-abbrev pub request_view : Request → request.Line
-request_view (Read sid r) = request.read sid (read_view r)
-request_view (Write sid w) = request.write sid (write_view w)
+abbrev pub line_view : Line → request.Line
+line_view (Read sid r) = request.read sid (read_view r)
+line_view (Write sid w) = request.write sid (write_view w)
 
 -- the call gives the line or the fault that is expected, or else memory was wanting
-abbrev pub GivesRequest : Result request.Line InputFault → Result Request LineFault → Type 0
-GivesRequest expected result = MatchResult result (λ l. expected ≡ Ok (request_view l)) (λ f. f ≢ fault.Memory → expected ≡ Err (fault_view f))
+abbrev pub GivesLine : Result request.Line InputFault → Result Line LineFault → Type 0
+GivesLine expected result = MatchResult result (λ l. expected ≡ Ok (line_view l)) (λ f. f ≢ fault.Memory → expected ≡ Err (fault_view f))

@@ -1,15 +1,19 @@
-//! Lines of input: a session with a read or a write.
-ghost use Rattle.std.specs.Prelude.{◌≡◌, ◌≢◌, ◌≤◌, List, true, length, Some, Err, IfOk, option_map};
-ghost use Rattle.gd_prim.specs.declared.Primitive.{Primitive};
-ghost use Rattle.gd_json.specs.View.{view};
-ghost use Rattle.gd_runs.specs.Request.{session_of, read as the_read, write as the_write};
-ghost use Rattle.gd_runs.specs.Input.{line_at};
-ghost use Rattle.gd_runs.specs.Built.{is_built, says_name, line_asked, form_request, create_request};
-ghost use Rattle.gd_mql.specs.Line.{GivesLine, line_session, line_view, id_view, id_asked, ask_view, read_ask};
+//! From the bytes of a line to the request that they spell.
+ghost use Rattle.std.specs.Prelude.{◌≡◌, ◌≢◌, ◌≤◌, true, length, None, Some, Err, Ok, IfOk, is_some, option_map, unwrap_or};
+ghost use Rattle.gd_tree.specs.Bounds.{json_depth};
+ghost use Rattle.gd_tree.specs.Look.{get, member_of};
+ghost use Rattle.gd_runs.specs.Request.{cursor_ask, no_cursor, scope_ask, read_of, write_of};
+ghost use Rattle.gd_runs.specs.Request.{line_of};
+ghost use Rattle.gd_runs.specs.Input.{line_from, as_line};
+ghost use Rattle.gd_json.specs.View.{view, members_view};
+ghost use Rattle.gd_mql.specs.Envelopes.{read_fault, write_fault, read_line_of, write_line_of};
+ghost use Rattle.gd_mql.specs.Line.{line_session};
+ghost use Rattle.gd_mql.specs.Requests.{cursor_view, read_view, write_view, GivesLine};
 
-use crate::fault::{Code, LineFault, Path};
-use crate::forms::{FormAsked, IdAsked, form_asked, object_asked};
-use crate::parts::has_only;
+use crate::envelope::{check_read, check_write};
+use crate::fault::LineFault;
+use crate::session::session;
+use crate::request::{CursorAsk, Line, ReadRequest, WriteRequest};
 use gd_base::memory::Memory;
 use gd_json::from::{JsonFault, json_from};
 use gd_json::value::{Json, JsonText};
@@ -18,142 +22,132 @@ use std::alloc::Global;
 /// The greatest number of bytes of a line.
 pub const LINE_LIMIT: usize = 262_144;
 
-/// The number of sessions, which are counted from 0.
-pub const SESSIONS: u32 = 64;
-
-/// What a read asks of the ids of objects.
-#[derive(Debug, PartialEq, Eq, Drop)]
-pub enum IdAsk {
-    /// Nothing.
-    Absent,
-    /// That they are printed.
-    Asked,
-    /// That this text, which is an id, names the object.
-    Is(JsonText),
-}
-
-/// A read: it asks, in a list, for the objects of an id and a name, as far as these are given, and says what is printed of
-/// each: its guid, its id, the name.
-#[derive(Debug, PartialEq, Eq, Drop)]
-pub struct ReadRequest {
-    pub asks_guid: bool,
-    pub id: IdAsk,
-    pub name: Option<JsonText>,
-}
-
-/// A write: it creates an object of this name, and asks for its guid or not.
-#[derive(Debug, PartialEq, Eq, Drop)]
-pub struct WriteRequest {
-    pub asks_guid: bool,
-    pub name: JsonText,
-}
-
-/// A session, from 0 to 63, and what it asks.
-#[derive(Debug, PartialEq, Eq, Drop)]
-pub enum Line {
-    Read { sid: u32, request: ReadRequest },
-    Write { sid: u32, request: WriteRequest },
-}
-
-/// The number of a session, from 0 to 63.
-fn session_number(value: &Json) -> Option<u32>
-    ensures { result ≡ session_of (Some (view value.now)) }
+/// The value of the member of this name, taken out of its object.
+fn take(value: Json, name: &str) -> Option<Json>
+    ensures { option_map (λ part. view part) result ≡ member_of name.now (view value) }
 {
-    let number = u32::try_from(value.as_int()?).ok()?;
-    if number < SESSIONS {
-        Some(number)
-    } else {
-        None
+    match value {
+        Json::Object(members) => take_member(members, name),
+        _ => None,
     }
 }
 
-/// The session, where the value is an object of just `sid`, a number from 0 to 63, and of one of `read` and `write`.
-pub fn session(line: &Json) -> Option<u32>
-    ensures { result ≡ line_session (view line.now) }
+fn take_member(members: Vec<(JsonText, Json)>, name: &str) -> Option<Json>
+    ensures { option_map (λ part. view part) result ≡ get name.now (members_view members.items) }
 {
-    if !has_only(line, "read", "sid") && !has_only(line, "sid", "write") {
-        return None;
+    for (key, value) in members {
+        if name == key.as_str() {
+            return Some(value);
+        }
     }
-    if line.member("read").is_some() == line.member("write").is_some() {
-        return None;
-    }
-    session_number(line.member("sid")?)
+    None
 }
 
-/// What is asked of ids, as a value of its own.
-fn own_id(asked: &IdAsked<'_>) -> Result<IdAsk, Memory>
-    ensures { IfOk result (λ id. id_view id ≡ id_asked asked.now) }
+/// The page that the member `cursor` of an envelope asks for.
+fn own_cursor(value: Option<&Json>) -> Result<CursorAsk, Memory>
+    ensures { IfOk result (λ cursor. unwrap_or (cursor_ask (option_map (λ part. view part.now) value.entry)) no_cursor ≡ cursor_view cursor) }
 {
-    match asked {
-        IdAsked::Absent => Ok(IdAsk::Absent),
-        IdAsked::Asked => Ok(IdAsk::Asked),
-        IdAsked::Is(path) => Ok(IdAsk::Is(path.copy()?)),
-    }
-}
-
-/// The name, as a value of its own.
-fn own_name(asked: Option<&JsonText>) -> Result<Option<JsonText>, Memory>
-    ensures { IfOk result (λ name. name ≡ option_map (λ text. text.now) asked.entry) }
-{
-    match asked {
-        None => Ok(None),
-        Some(name) => Ok(Some(name.copy()?)),
-    }
-}
-
-/// The read of a session that asks this.
-fn read(sid: u32, asked: &FormAsked<'_>) -> Result<Line, Memory>
-    ensures { IfOk result (λ line. line_view line ≡ the_read sid (form_request (read_ask asked.now))) }
-{
-    let request = ReadRequest {
-        asks_guid: asked.guid,
-        id: own_id(&asked.id)?,
-        name: own_name(asked.name)?,
+    let Some(value) = value else {
+        return Ok(CursorAsk::Absent);
     };
+    match value {
+        Json::Bool(true) => Ok(CursorAsk::First),
+        Json::Text(text) => Ok(CursorAsk::After(text.copy()?)),
+        _ => Ok(CursorAsk::Absent),
+    }
+}
+
+/// The id of the scope that the member `scope` of an envelope names.
+fn own_scope(value: Option<&Json>) -> Result<Option<JsonText>, Memory>
+    ensures { IfOk result (λ scope. is_some (scope_ask (option_map (λ part. view part.now) value.entry)) ≡ true
+        → scope_ask (option_map (λ part. view part.now) value.entry) ≡ Some scope) }
+{
+    let Some(value) = value else {
+        return Ok(None);
+    };
+    match value.as_text() {
+        Some(text) => Ok(Some(text.copy()?)),
+        None => Ok(None),
+    }
+}
+
+/// The read that an envelope without a fault of form spells.
+fn own_read(envelope: Json) -> Result<ReadRequest, Memory>
+    requires right { read_fault (view envelope) ≡ None }
+    requires shallow { json_depth (view envelope) ≤ 15 }
+    ensures { IfOk result (λ request. read_of (view envelope) ≡ Ok (read_view request)) }
+{
+    let cursor = own_cursor(envelope.member("cursor"))?;
+    match take(envelope, "query") {
+        Some(query) => Ok(ReadRequest::new(cursor, query)),
+        None => unreachable!(),
+    }
+}
+
+/// The write that an envelope without a fault of form spells.
+fn own_write(envelope: Json) -> Result<WriteRequest, Memory>
+    requires right { write_fault (view envelope) ≡ None }
+    requires shallow { json_depth (view envelope) ≤ 15 }
+    ensures { IfOk result (λ request. write_of (view envelope) ≡ Ok (write_view request)) }
+{
+    let scope = own_scope(envelope.member("scope"))?;
+    match take(envelope, "query") {
+        Some(query) => Ok(WriteRequest::new(scope, query)),
+        None => unreachable!(),
+    }
+}
+
+/// The read of a session, or its first fault of form.
+fn read_from(alloc: Global, sid: u32, envelope: Json) -> Result<Line, LineFault>
+    requires { json_depth (view envelope) ≤ 15 }
+    ensures { GivesLine (read_line_of sid (view envelope)) result }
+{
+    check_read(alloc, &envelope)?;
+    let request = own_read(envelope)?;
     Ok(Line::Read { sid, request })
 }
 
-/// The create of a session under this name.
-fn write(sid: u32, asks_guid: bool, name: &JsonText) -> Result<Line, Memory>
-    ensures { IfOk result (λ line. line_view line ≡ the_write sid (create_request asks_guid name.now)) }
+/// The write of a session, or its first fault of form.
+fn write_from(alloc: Global, sid: u32, envelope: Json) -> Result<Line, LineFault>
+    requires { json_depth (view envelope) ≤ 15 }
+    ensures { GivesLine (write_line_of sid (view envelope)) result }
 {
-    Ok(Line::Write {
-        sid,
-        request: WriteRequest {
-            asks_guid,
-            name: name.copy()?,
-        },
-    })
+    check_write(alloc, &envelope)?;
+    let request = own_write(envelope)?;
+    Ok(Line::Write { sid, request })
+}
+
+/// The request of a line of a session, or its first fault of form.
+fn line_of(alloc: Global, sid: u32, line: Json) -> Result<Line, LineFault>
+    requires session { line_session (view line) ≡ Some sid }
+    requires shallow { json_depth (view line) ≤ 16 }
+    ensures { GivesLine (as_line (line_of (view line))) result }
+{
+    if line.member("read").is_some() {
+        match take(line, "read") {
+            Some(envelope) => read_from(alloc, sid, envelope),
+            None => unreachable!(),
+        }
+    } else {
+        match take(line, "write") {
+            Some(envelope) => write_from(alloc, sid, envelope),
+            None => unreachable!(),
+        }
+    }
 }
 
 /// The line that the bytes spell. They are at most `LINE_LIMIT` bytes, without the newline that ended them. First
 /// comes `Json`: the bytes are no JSON of this profile; then `BadLine`: the value is no object of just `sid`, a
-/// number from 0 to 63, and of one of `read` and `write`; then `BadQuery` with `Code::Unbuilt` and the path of the
-/// root: its request is neither a read `{"query":[CLAUSE]}` whose clause has one at least of the members `guid`, which is
-/// null, `id`, which is null or a text that is an id, and `name`, a text, and no others; nor a create of a name,
-/// `{"query":{"create":"unconditional","guid":null,"name":NAME}}` or the same without `guid`. A name may have any length.
-/// `Memory`: an allocation was refused.
+/// number from 0 to 63, and of one of `read` and `write`; then `BadQuery` with the first code of form, in the order of
+/// the walk: a clause itself, then its members in byte order of their names. `Memory`: an allocation was refused.
 pub fn line_from(alloc: Global, bytes: &[u8]) -> Result<Line, LineFault>
     requires { length bytes.now ≤ LINE_LIMIT }
-    ensures asked { GivesLine (line_asked bytes.now) result }
-
-    // So it is over every list of primitives that says of the property `name` what the built-in list says.
-    ensures built { (prims : List Primitive) → says_name prims ≡ true
-        → GivesLine (line_at is_built prims bytes.now) result }
+    ensures asked { GivesLine (line_from bytes.now) result }
     ensures memory { result ≢ Err (LineFault.Json JsonFault.Memory) }
 {
-    let value = json_from(alloc, bytes)?;
-    let Some(sid) = session(&value) else {
-        return Err(LineFault::BadLine);
-    };
-    if let Some(asked) = form_asked(&value) {
-        return Ok(read(sid, &asked)?);
+    let line = json_from(alloc, bytes)?;
+    match session(&line) {
+        Some(sid) => line_of(alloc, sid, line),
+        None => Err(LineFault::BadLine),
     }
-    if let Some((asks_guid, name)) = object_asked(&value) {
-        return Ok(write(sid, asks_guid, name)?);
-    }
-    Err(LineFault::BadQuery {
-        code: Code::Unbuilt,
-        path: Path::root(alloc),
-    })
 }

@@ -45,7 +45,7 @@ pub struct Query<'a> {
 
 /// A session, from 0 to 63, with a read or a write.
 #[derive(Drop)]
-pub enum Request {
+pub enum Line {
     Read { sid: u32, request: ReadRequest },
     Write { sid: u32, request: WriteRequest },
 }

@@ -4,7 +4,7 @@ ghost use Rattle.std.specs.List.{list_any};
 ghost use Rattle.gd_prim.specs.History.{prims_of};
 ghost use Rattle.gd_prim.specs.Live as live;
 ghost use Rattle.gd_defs.specs.Lines.{err_line as err_line_of, too_wide as too_wide_of};
-ghost use Rattle.gd_mql.specs.Line.{ask_view};
+ghost use Rattle.gd_read.specs.Asks.{ask_view};
 ghost use Rattle.gd_read.specs.Form as form;
 
 use crate::names::{ends, name_count};
@@ -13,7 +13,7 @@ use gd_base::id::Id;
 use gd_base::memory::Memory;
 use gd_base::steps::Steps;
 use gd_json::value::JsonText;
-use gd_mql::line::ReadRequest;
+use crate::ask::ReadForm;
 use gd_reply::lines::err_line;
 use gd_reply::refusal::Refusal;
 use gd_resolve::look::is_object;
@@ -48,7 +48,7 @@ pub(crate) fn one_line<L>(
     alloc: Global,
     view: &View<'_>,
     line: u64,
-    request: &ReadRequest,
+    request: &ReadForm,
     object: Id,
     steps: &mut Steps<L>,
 ) -> Result<Vec<u8>, Memory>
@@ -169,7 +169,7 @@ fn named_line<L>(
     alloc: Global,
     view: &View<'_>,
     line: u64,
-    request: &ReadRequest,
+    request: &ReadForm,
     name: &str,
     steps: &mut Steps<L>,
 ) -> Result<Vec<u8>, Memory>
@@ -195,7 +195,7 @@ pub(crate) fn all_line<L>(
     alloc: Global,
     view: &View<'_>,
     line: u64,
-    request: &ReadRequest,
+    request: &ReadForm,
     steps: &mut Steps<L>,
 ) -> Result<Vec<u8>, Memory>
     requires { line < 2 ^ 63 }

@@ -7,7 +7,7 @@ ghost use Rattle.gd_defs.specs.Lines.{err_line as err_line_of};
 ghost use Rattle.gd_defs.specs.Reply.{bad_query_refusal, unknown_refusal};
 ghost use Rattle.gd_runs.specs.Built.{SaysName, this_id, form_request};
 ghost use Rattle.gd_runs.specs.Request.{reply_of};
-ghost use Rattle.gd_mql.specs.Line.{ask_view, id_view};
+ghost use Rattle.gd_read.specs.Asks.{ask_view, id_view};
 ghost use Rattle.gd_read.specs.Form as form;
 ghost use Rattle.gd_read.specs.Target.{target_view};
 
@@ -18,7 +18,7 @@ use gd_base::steps::Steps;
 use gd_base::text::TEXT_LIMIT;
 use gd_json::value::JsonText;
 use gd_mql::fault::{Code, Path};
-use gd_mql::line::{IdAsk, ReadRequest};
+use crate::ask::{IdAsk, ReadForm};
 use gd_reply::lines::err_line;
 use gd_reply::refusal::Refusal;
 use gd_resolve::fault::ResolveFault;
@@ -113,7 +113,7 @@ fn target_line<L>(
     alloc: Global,
     view: &View<'_>,
     line: u64,
-    request: &ReadRequest,
+    request: &ReadForm,
     target: Target,
     steps: &mut Steps<L>,
 ) -> Result<Vec<u8>, Memory>
@@ -150,7 +150,7 @@ pub fn reply<L>(
     alloc: Global,
     view: &View<'_>,
     line: u64,
-    request: &ReadRequest,
+    request: &ReadForm,
     steps: &mut Steps<L>,
 ) -> Result<Vec<u8>, Memory>
     requires line { line < 2 ^ 63 }

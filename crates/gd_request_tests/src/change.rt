@@ -5,18 +5,18 @@ ghost use Rattle.gd_runs.specs.Built.{SaysName};
 
 use gd_base::memory::Memory;
 use gd_change::fault::ChangeFault;
+use gd_change::form::CreateForm;
 use gd_change::write::evaluate;
 use gd_json::text::json_text;
 use gd_json::value::{Json, JsonText};
-use gd_mql::line::WriteRequest;
 use gd_prim::{Batch, What};
 use gd_store::store::Store;
 use std::alloc::Global;
 
 /// A create of this name.
-fn create(alloc: Global, name: &str) -> Result<WriteRequest, Memory> {
+fn create(alloc: Global, name: &str) -> Result<CreateForm, Memory> {
     let name = JsonText::from_str(alloc, name)?;
-    Ok(WriteRequest {
+    Ok(CreateForm {
         asks_guid: true,
         name,
     })

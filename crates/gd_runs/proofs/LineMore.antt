@@ -10,7 +10,8 @@ use Rattle.gd_defs.specs.History.{prims_at}
 use Rattle.gd_defs.specs.Lines.{ok_line, err_line}
 use Rattle.gd_defs.specs.Write.{WriteRequest, ChangeFault}
 use Rattle.gd_runs.specs.Request.{Line, LineFault, bad_line, bad_form, line_of, read, write, ReadRequest, reply_of, change_refusal}
-use Rattle.gd_runs.specs.Input.{Forms, InputFault, line_too_long, max_line, value_line, bytes_line, as_line, as_built, line_from, line_at, input_fault_line}
+use Rattle.gd_grammar.specs.Chain.{◌>>=◌}
+use Rattle.gd_runs.specs.Input.{Forms, InputFault, if_built, line_from, line_at, input_fault_line}
 use Rattle.gd_runs.specs.Legal.{Entry, History, size, batches, with_entries, upto, take_below, exec_line, AreEntriesAfter}
 use Rattle.gd_runs.specs.Explained.{entry_at, Numbered, Run, Outcome, no_request, no_memory, stored, refused, answered, IsWithin, Prints, HasNumber, TakesIn, MayBe, DoesLine, MayBeEntry, memory_line, IsExplainedBy, IsRoundAfter}
 use Rattle.gd_runs.proofs.Rounds.{some_same, no_some, entry_new, prints_kept, line_at_kept, told_within, stored_told, get_cases, size_more, one_round_more}
@@ -23,28 +24,17 @@ UptoRound runs round = (k : ℕ) (r : Run) → slice_get runs k ≡ Some r → r
 abbrev pub run_of : Numbered → Outcome → List ℕ → Run
 run_of l o reply = record { line = l; outcome = o; reply = reply }
 
--- what one reading of values makes of bytes, another one that agrees makes too
-bytes_line-ok : (f g : Json → Result Line InputFault) (l : Line) → ((j : Json) → f j ≡ Ok l → g j ≡ Ok l) → (bytes : List ℕ) → bytes_line f bytes ≡ Ok l → bytes_line g bytes ≡ Ok l
-bytes_line-ok f g l also bytes is = long (nat_lt max_line (length bytes)) is
-  where
-    value : (r : Result Json JsonFault) → value_line f r ≡ Ok l → value_line g r ≡ Ok l
-    value (Ok j) is = also j is
-    value (Err e) is = cc
-
-    long : (b : Bool) → (if b then Err line_too_long else value_line f (json_from bytes)) ≡ Ok l → (if b then Err line_too_long else value_line g (json_from bytes)) ≡ Ok l
-    long true is = cc
-    long false is = value (json_from bytes) is
-
 -- a line of a built form is that line by the general rules
 pub line_from-at : (forms : Forms) (prims : List Primitive) (bytes : List ℕ) (l : Line) → line_at forms prims bytes ≡ Ok l → line_from bytes ≡ Ok l
-line_from-at forms prims bytes l is = bytes_line-ok (λ j. as_built (forms prims j) (line_of j)) (λ j. as_line (line_of j)) l (λ j. by (forms prims j) (line_of j)) bytes is
+line_from-at forms prims bytes l is = by (line_from bytes) is
   where
-    by : (built : Bool) (r : Result Line LineFault) → as_built built r ≡ Ok l → as_line r ≡ Ok l
-    by built (Err bad_line) is = cc
-    by true (Err (bad_form f)) is = cc
-    by true (Ok m) is = is
-    by false (Err (bad_form f)) is = cc
-    by false (Ok m) is = cc
+    built : (b : Bool) (m : Line) → if_built b m ≡ Ok l → m ≡ l
+    built true m is = cc
+    built false m is = cc
+
+    by : (r : Result Line InputFault) → (r >>= λ m. if_built (forms prims m) m) ≡ Ok l → r ≡ Ok l
+    by (Err f) is = cc
+    by (Ok m) is = ap Ok (built (forms prims m) m is)
 
 -- the whole history is the history up to its size
 upto_all : (h : History) → upto (size h) h ≡ h

@@ -1,38 +1,17 @@
 -- Which lines are built so far. Every other line that is JSON of this profile is refused as not built; the file goes once all are.
-use Rattle.std.specs.Prelude.{◌≡◌, ℕ, ◌+◌, List, Bool, true, false, ◌&&◌, Option, Some, None, bytes_eq, ◌==◌, if◌then◌else◌, codes, not, ◌||◌, is_some, nat_eq, [], Result}
+use Rattle.std.specs.Prelude.{◌≡◌, ℕ, List, Bool, true, false, ◌&&◌, ◌||◌, not, Option, Some, None, is_some, is_none, option_map, bytes_eq, ◌==◌, nat_eq, if◌then◌else◌, codes}
 use Rattle.std.specs.Option.{option_eq}
-use Rattle.gd_grammar.specs.Maybe.{◌>>=◌}
 use Rattle.gd_prim.specs.declared.Primitive.{Primitive}
 use Rattle.gd_prim.specs.Builtin.{name_place, text_place}
 use Rattle.gd_tree.specs.Json.{Json, text}
-use Rattle.gd_tree.specs.Look.{member_count, nth_member_of, item_count, item_of, text_of, is_null}
-use Rattle.gd_defs.specs.Ids.{is_id}
 use Rattle.gd_defs.specs.Query as query
-use Rattle.gd_defs.specs.Query.{Query, Name, no_directives}
+use Rattle.gd_defs.specs.Query.{Query, Name, Directives, no_directives}
 use Rattle.gd_defs.specs.Property.{Property, property_object, stated}
 use Rattle.gd_defs.specs.Change as change
 use Rattle.gd_defs.specs.Write.{WriteRequest}
-use Rattle.gd_runs.specs.Request.{Line, ReadRequest, no_cursor}
-use Rattle.gd_runs.specs.Input.{Forms, InputFault, line_at}
+use Rattle.gd_runs.specs.Request.{Line, read, write, ReadRequest, no_cursor, asks_page}
+use Rattle.gd_runs.specs.Input.{Forms}
 use Rattle.gd_defs.specs.Asked.{name_property}
-
--- the values of an object's only two members, which have these names
-abbrev pub pair_of : List ℕ → List ℕ → Json → Option (Json × Json)
-pair_of k l j = if member_count j == 2 then (nth_member_of 0 j >>= λ a. nth_member_of 1 j >>= λ b.
-    if bytes_eq a.0 k && bytes_eq b.0 l then Some (a.1, b.1) else None) else None
-
--- the values of an object's only three members, which have these names
-abbrev pub triple_of : List ℕ → List ℕ → List ℕ → Json → Option (Json × Json × Json)
-triple_of k l m j = if member_count j == 3 then (nth_member_of 0 j >>= λ a. nth_member_of 1 j >>= λ b. nth_member_of 2 j >>= λ c.
-    if bytes_eq a.0 k && bytes_eq b.0 l && bytes_eq c.0 m then Some (a.1, b.1, c.1) else None) else None
-
--- the value of an object's only member, which has this name
-abbrev pub sole_member : List ℕ → Json → Option Json
-sole_member k j = if member_count j == 1 then (nth_member_of 0 j >>= λ a. if bytes_eq a.0 k then Some a.1 else None) else None
-
--- the only item of a list
-abbrev pub sole_item : Json → Option Json
-sole_item j = if item_count j == 1 then item_of 0 j else None
 
 -- a member's name that is this word
 abbrev pub plain_name : List ℕ → Name
@@ -76,67 +55,75 @@ pub record SaysName (prims : List Primitive) : Type 0 where
 
 -- ---- the forms of lines
 
--- the value of the member at a place, the first being at 0, if it has this name
-abbrev pub named_at : List ℕ → ℕ → Json → Option Json
-named_at k n j = nth_member_of n j >>= λ m. if bytes_eq m.0 k then Some m.1 else None
+-- the name is this word and no more
+abbrev pub is_plain : List ℕ → Name → Bool
+is_plain word n = bytes_eq n.spelled word && bytes_eq n.word word && not (n.reversed || query.has_operator n)
 
--- how many there are: one or none
-abbrev pub count_of : Option Json → ℕ
-count_of None = 0
-count_of (Some j) = 1
+-- whether the first member asks for the guid, and the members behind it
+abbrev pub guid_first : query.Members → Bool × query.Members
+guid_first (query.member n query.ask ms) = if is_plain (codes "guid") n then (true, ms) else (false, query.member n query.ask ms)
+guid_first ms = (false, ms)
 
--- the guid is not asked for, or by null
-abbrev pub guid_ask : Option Json → Option Bool
-guid_ask None = Some false
-guid_ask (Some j) = if is_null j then Some true else None
+-- what the first member asks of the id, and the members behind it
+abbrev pub id_first : query.Members → IdAsk × query.Members
+id_first (query.member n query.ask ms) = if is_plain (codes "id") n then (any_id, ms) else (no_id, query.member n query.ask ms)
+id_first (query.member n (query.literal (text t)) ms) = if is_plain (codes "id") n then (this_id t, ms) else (no_id, query.member n (query.literal (text t)) ms)
+id_first ms = (no_id, ms)
 
--- the id is not asked for, or by null, or it is a text that is an id
-abbrev pub id_ask : Option Json → Option IdAsk
-id_ask None = Some no_id
-id_ask (Some j) = if is_null j then Some any_id else (text_of j >>= λ t. if is_id t then Some (this_id t) else None)
+-- the name that the first member asks for, and the members behind it
+abbrev pub name_first : query.Members → Option (List ℕ) × query.Members
+name_first (query.member n (query.literal (text t)) ms) = if is_plain (codes "name") n then (Some t, ms) else (None, query.member n (query.literal (text t)) ms)
+name_first ms = (None, ms)
 
--- the name is not asked for, or it is a text
-abbrev pub name_ask : Option Json → Option (Option (List ℕ))
-name_ask None = Some None
-name_ask (Some j) = text_of j >>= λ t. Some (Some t)
+-- no member is left
+abbrev pub none_left : query.Members → Bool
+none_left query.no_members = true
+none_left _ = false
 
--- what these members ask
-abbrev pub asked_by : Option Json → Option Json → Option Json → Option FormAsk
-asked_by guid id name = guid_ask guid >>= λ g. id_ask id >>= λ i. name_ask name >>= λ n. Some (record { guid = g; id = i; name = n })
+-- what the members `guid`, `id` and `name` ask, where there are no others
+abbrev pub members_ask : query.Members → Option FormAsk
+members_ask ms =
+    let guid : Bool × query.Members = guid_first ms in
+    let id : IdAsk × query.Members = id_first guid.1 in
+    let name : Option (List ℕ) × query.Members = name_first id.1 in
+    if none_left name.1 then Some (record { guid = guid.0; id = id.0; name = name.0 }) else None
 
--- what a clause asks whose only members are these, in this order, one at least
-abbrev pub only_asked : Option Json → Option Json → Option Json → Json → Option FormAsk
-only_asked guid id name j = if member_count j == count_of guid + count_of id + count_of name && not (member_count j == 0) then asked_by guid id name else None
+-- no directive stands in the clause
+abbrev pub are_absent : Directives → Bool
+are_absent d = is_none d.mode && is_none d.limit && not d.count
 
--- what a clause asks that has, of the members `guid`, `id` and `name`, one at least and no others: {"guid":null,"id":null,"name":NAME}, where the id may be a text that is an id
-abbrev pub clause_asked : Json → Option FormAsk
-clause_asked j =
-    let guid : Option Json = named_at (codes "guid") 0 j in
-    let id : Option Json = named_at (codes "id") (count_of guid) j in
-    only_asked guid id (named_at (codes "name") (count_of guid + count_of id) j) j
+-- what a read asks, where it is of the built form: a list whose clause has of the members `guid`, `id` and `name` some, and nothing else
+abbrev pub read_ask : ReadRequest → Option FormAsk
+read_ask r = if not (asks_page r.cursor) && r.query.listed && are_absent r.query.directives then members_ask r.query.members else None
 
--- the same of the envelope of a read: {"query":[CLAUSE]}
-abbrev pub read_asked : Json → Option FormAsk
-read_asked j = sole_member (codes "query") j >>= λ query. sole_item query >>= clause_asked
+-- whether the first member asks for the guid of what is created, and the members behind it
+abbrev pub blank_first : change.Members → Bool × change.Members
+blank_first (change.member n change.blank ms) = if is_plain (codes "guid") n then (true, ms) else (false, change.member n change.blank ms)
+blank_first ms = (false, ms)
 
--- the value is this text
-abbrev pub is_the_text : List ℕ → Json → Bool
-is_the_text t j = option_eq bytes_eq (text_of j) (Some t)
+-- the name that the only member gives
+abbrev pub name_alone : change.Members → Option (List ℕ)
+name_alone (change.member n (change.plain (text t)) change.no_members) = if is_plain (codes "name") n then Some t else None
+name_alone _ = None
 
--- whether the guid is asked for, and the name, where the clause creates an object of a name: {"create":"unconditional","guid":null,"name":NAME}, or the same without `guid`
-abbrev pub create_clause : Json → Option (Bool × List ℕ)
-create_clause j = if member_count j == 3 then (triple_of (codes "create") (codes "guid") (codes "name") j >>= λ members.
-    if is_the_text (codes "unconditional") members.0 && is_null members.1 then (text_of members.2 >>= λ name. Some (true, name)) else None)
-    else (pair_of (codes "create") (codes "name") j >>= λ members.
-    if is_the_text (codes "unconditional") members.0 then (text_of members.1 >>= λ name. Some (false, name)) else None)
+-- whether the guid is asked for, and the name, where the members create an object of a name
+abbrev pub create_ask : change.Members → Option (Bool × List ℕ)
+create_ask (change.created change.unconditional ms) = let guid : Bool × change.Members = blank_first ms in option_map (λ t. (guid.0, t)) (name_alone guid.1)
+create_ask _ = None
 
--- the same of the envelope of a write: {"query":CLAUSE}
-abbrev pub create_asked : Json → Option (Bool × List ℕ)
-create_asked j = sole_member (codes "query") j >>= create_clause
+-- the change creates, whatever there is
+abbrev pub is_create : change.Root → Bool
+is_create (change.to_create change.unconditional) = true
+is_create _ = false
 
--- the line is such a read or such a write, of any session
-unfoldable pub is_form : Json → Bool
-is_form j = is_some (pair_of (codes "read") (codes "sid") j >>= λ line. read_asked line.0) || is_some (pair_of (codes "sid") (codes "write") j >>= λ line. create_asked line.1)
+-- the same of a write, where it is of the built form: without a scope
+abbrev pub write_ask : WriteRequest → Option (Bool × List ℕ)
+write_ask w = if is_none w.scope && is_create w.change.root then create_ask w.change.members else None
+
+-- the line is of a built form
+abbrev pub is_form : Line → Bool
+is_form (read s r) = is_some (read_ask r)
+is_form (write s w) = is_some (write_ask w)
 
 -- the property states what the built-in `name` states
 abbrev pub is_name_property : Property → Bool
@@ -148,11 +135,7 @@ says_name prims = option_eq nat_eq (property_object prims None (codes "name")) (
 
 -- a line of such a form, over a list that says so, is built
 abbrev pub is_built : Forms
-is_built prims j = says_name prims && is_form j
-
--- the line that bytes spell, as far as forms are built, over every list that says so
-abbrev pub line_asked : List ℕ → Result Line InputFault
-line_asked bytes = line_at (λ prims j. is_form j) [] bytes
+is_built prims l = says_name prims && is_form l
 
 -- the request that creates an object of a name, and asks for its guid or does not
 abbrev pub name_fact : List ℕ → change.Members

@@ -36,25 +36,22 @@ as_line r = map_err no_line r
 abbrev pub line_from : List ℕ → Result Line InputFault
 line_from bytes = bytes_line (λ j. as_line (line_of j)) bytes
 
--- which values are requests of a form that is built, over a list of primitives
+-- which lines are of a form that is built, over a list of primitives
 abbrev pub Forms : Type 0
-Forms = List Primitive → Json → Bool
+Forms = List Primitive → Line → Bool
 
 -- the fault of a line whose form is not built
 abbrev pub not_built : InputFault
 not_built = no_line (bad_form (record { code = unbuilt; path = [] }))
 
--- a line whose form is built or not; a value that is no line at all is refused as ever
-abbrev pub as_built : Bool → Result Line LineFault → Result Line InputFault
-as_built built (Err bad_line) = Err (no_line bad_line)
-as_built true (Err (bad_form f)) = Err (no_line (bad_form f))
-as_built true (Ok l) = Ok l
-as_built false (Err (bad_form f)) = Err not_built
-as_built false (Ok l) = Err not_built
+-- a line, where its form is built
+abbrev pub if_built : Bool → Line → Result Line InputFault
+if_built true l = Ok l
+if_built false l = Err not_built
 
--- the line that bytes spell over a list, where its form is built
+-- the line that bytes spell over a list, where its form is built; that it is not comes after every other refusal of form
 abbrev pub line_at : Forms → List Primitive → List ℕ → Result Line InputFault
-line_at forms prims bytes = bytes_line (λ j. as_built (forms prims j) (line_of j)) bytes
+line_at forms prims bytes = line_from bytes >>= λ l. if_built (forms prims l) l
 
 -- the refusal that a fault of JSON is
 abbrev pub json_refusal : JsonFault → Refusal

@@ -3,3 +3,5 @@ pub mod Ready
 pub mod Kept
 pub mod Replies
 pub mod Judged
+pub mod Here
+pub mod Shapes

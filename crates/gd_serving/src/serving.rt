@@ -14,10 +14,13 @@ ghost use Rattle.gd_bytes.specs.Disk.{LeavesOnly};
 ghost use Rattle.gd_journal.specs.Causes.{HasReason};
 ghost use Rattle.gd_log.specs.Stored.{MayAppend};
 ghost use Rattle.gd_runs.specs.Request.{reply_of, change_refusal};
-ghost use Rattle.gd_runs.specs.Input.{line_at, input_fault_line, line_too_long};
+ghost use Rattle.gd_runs.specs.Input.{input_fault_line, line_too_long, not_built};
 ghost use Rattle.gd_runs.specs.Explained.{MayBe, tells_fault};
-ghost use Rattle.gd_runs.specs.Built.{is_built, line_asked, says_name as says_name_of, form_request, create_request};
-ghost use Rattle.gd_mql.specs.Line.{ask_view, GivesLine, fault_view, line_view};
+ghost use Rattle.gd_runs.specs.Built.{says_name as says_name_of, form_request, create_request};
+ghost use Rattle.gd_mql.specs.Line.{fault_view};
+ghost use Rattle.gd_mql.specs.Requests.{read_view, write_view};
+ghost use Rattle.gd_read.specs.Asks.{ask_view};
+ghost use Rattle.gd_serving.specs.Here.{IsReadHere, IsWriteHere, AnswersRead, SpellsWrite};
 ghost use Rattle.gd_change.specs.Fault.{GivesChange, fault_of, IsSmall};
 ghost use Rattle.gd_input.specs.Line.{IsKept, IsShort};
 ghost use Rattle.gd_served_laws.specs.Served.{Progress, GoesOn, Grows, IsServed};
@@ -31,6 +34,8 @@ ghost use Rattle.gd_reply.specs.Replies.{reply_text, failure_line};
 use gd_base::memory::Memory;
 use gd_base::steps::Steps;
 use gd_change::fault::ChangeFault;
+use crate::built::{create_form, read_form};
+use gd_change::form::CreateForm;
 use gd_change::write::evaluate;
 use gd_disk::disk::Disk;
 use gd_input::line::RoundLine;
@@ -39,9 +44,11 @@ use gd_json::value::Json;
 use gd_log::log::Log;
 use gd_log::stored::StoredLog;
 use gd_mql::fault::{Code, LineFault, Path};
-use gd_mql::line::{Line, ReadRequest, WriteRequest, line_from};
+use gd_mql::line::line_from;
+use gd_mql::request::{Line, ReadRequest, WriteRequest};
 use gd_outside::clock::Clock;
 use gd_prim::{Batch, What};
+use gd_read::ask::ReadForm;
 use gd_read::reply::reply as reply_to;
 use gd_reply::lines::{err_line, err_line_plain, ok_line};
 use gd_reply::refusal::Refusal;
@@ -156,20 +163,6 @@ fn counted(kept: u64, counts: bool) -> u64
     if counts { kept } else { 0 }
 }
 
-/// What a line is over a store that says something else of the property `name` than the built-in list: no form is built.
-fn unbuilt(alloc: Global, line: Result<Line, LineFault>) -> LineFault
-    ensures { (prims : List Primitive) (bytes : List ℕ) → says_name_of prims ≡ false
-        → GivesLine (line_asked bytes) line → GivesLine (line_at is_built prims bytes) (Err result) }
-{
-    match line {
-        Ok(_) | Err(LineFault::BadQuery { .. }) => LineFault::BadQuery {
-            code: Code::Unbuilt,
-            path: Path::root(alloc),
-        },
-        Err(fault) => fault,
-    }
-}
-
 /// Whether a store says of the property `name` what the built-in list says.
 fn says_name_in(store: &Store) -> bool
     ensures tested { result ≡ says_name_of (prims_of store.now) }
@@ -277,38 +270,49 @@ impl<D: Disk> Serving<D> {
             RoundLine::TooLong => return made(self.too_long_reply(alloc)),
             RoundLine::Bytes(bytes) => bytes.as_slice(),
         };
-        match self.line_here(alloc, bytes) {
+        match line_from(alloc, bytes) {
             Ok(Line::Read { request, .. }) => made(self.read(alloc, &request)),
-            Ok(Line::Write { request, .. }) => self.write(alloc, clock, &request, bytes.len()),
+            Ok(Line::Write { request, .. }) => {
+                self.write(alloc, clock, &request, bytes.len())
+            }
             Err(fault) => made(self.fault_reply(alloc, fault)),
         }
     }
 
-    /// The line that the bytes spell over the store as it is. Where the store says something else of the property `name`
-    /// than the built-in list, no form is built.
-    fn line_here(&self, alloc: Global, bytes: &[u8]) -> Result<Line, LineFault>
-        requires { length bytes.now ≤ 262_144 }
-        ensures gives { GivesLine (line_now self.now.progress bytes.now) result }
-        ensures asked { IfOk result (λ line. (prims : List Primitive) → says_name_of prims ≡ true
-            → line_at is_built prims bytes.now ≡ Ok (line_view line)) }
-        ensures says { OnOk result (says_name_of (prims_of self.now.progress.batches) ≡ true) }
+    /// What a read asks, where it is carried out over the store as it is.
+    fn read_here(&self, request: &ReadRequest) -> Result<Option<ReadForm>, Memory>
+        ensures form { IfOk result (λ form. IsReadHere self.now.progress (read_view request.now) form) }
+        ensures says { IfOk result (λ form. IsSome form → says_name_of (prims_of self.now.progress.batches) ≡ true) }
     {
-        let line = line_from(alloc, bytes);
         if self.says_name {
-            line
+            read_form(request)
         } else {
-            Err(unbuilt(alloc, line))
+            Ok(None)
         }
     }
 
-    /// The reply that tells a failure at the next line.
-    fn failed(&self, failure: Failure) -> Reply
-        ensures text { reply_text result ≡ failure_line failure self.now.progress.lines }
+    /// What a write asks, where it is carried out over the store as it is.
+    fn write_here(&self, request: &WriteRequest) -> Result<Option<CreateForm>, Memory>
+        ensures form { IfOk result (λ form. IsWriteHere self.now.progress (write_view request.now) form) }
+        ensures says { IfOk result (λ form. IsSome form → says_name_of (prims_of self.now.progress.batches) ≡ true) }
     {
-        Reply::Failed {
-            failure,
-            line: self.lines,
+        if self.says_name {
+            create_form(request)
+        } else {
+            Ok(None)
         }
+    }
+
+    /// The reply to a line whose form is not built.
+    fn unbuilt_reply(&self, alloc: Global) -> Result<Vec<u8>, Memory>
+        requires { self.now.progress.lines < 2 ^ 63 }
+        ensures { IfOk result (λ reply. reply.items ≡ input_fault_line self.now.progress.lines not_built) }
+    {
+        let refusal = Refusal::BadQuery {
+            code: Code::Unbuilt,
+            path: Path::root(alloc),
+        };
+        err_line_plain(alloc, self.lines, &refusal)
     }
 
     /// The reply to a line that has too many bytes.
@@ -339,14 +343,25 @@ impl<D: Disk> Serving<D> {
     /// The reply to a read.
     fn read(&self, alloc: Global, request: &ReadRequest) -> Result<Vec<u8>, Memory>
         requires lines { self.now.progress.lines < 2 ^ 63 }
+        ensures { IfOk result (λ reply. AnswersRead self.now.progress (read_view request.now) reply.items) }
+    {
+        match self.read_here(request)? {
+            Some(form) => self.read_as(alloc, &form),
+            None => self.unbuilt_reply(alloc),
+        }
+    }
+
+    /// The reply to a read of the built form.
+    fn read_as(&self, alloc: Global, form: &ReadForm) -> Result<Vec<u8>, Memory>
+        requires lines { self.now.progress.lines < 2 ^ 63 }
         requires says { says_name_of (prims_of self.now.progress.batches) ≡ true }
         ensures { IfOk result (λ reply. reply.items ≡ reply_of self.now.progress.batches
-            (length self.now.progress.batches) self.now.progress.lines (form_request (ask_view request.now))) }
+            (length self.now.progress.batches) self.now.progress.lines (form_request (ask_view form.now))) }
     {
         let mut steps: Steps<Run> = Steps::new();
         let store = self.store();
         let view = store.view(store.requests());
-        reply_to(alloc, &view, self.lines, request, &mut steps)
+        reply_to(alloc, &view, self.lines, form, &mut steps)
     }
 
     /// The reply to a write that is refused by what it asks.
@@ -388,9 +403,8 @@ impl<D: Disk> Serving<D> {
         err_line(alloc, self.store().requests(), self.lines, &refusal)
     }
 
-    /// Ends an earlier doubt, if there is one, and then carries a write out. Where the disk fails while the doubt is to be
-    /// ended, the write is not tried. `bytes` is the length of its line. `Memory`: nothing was stored, but that the doubt
-    /// may have ended.
+    /// The reply to a write, which is carried out where it is of the built form. `bytes` is the length of its line.
+    /// `Memory`: nothing was stored, but that an earlier doubt may have ended.
     fn write<C: Clock>(
         &mut self,
         alloc: Global,
@@ -399,15 +413,38 @@ impl<D: Disk> Serving<D> {
         bytes: usize,
     ) -> Result<Reply, Memory>
         requires lines { self.old.progress.lines < 2 ^ 63 }
+        requires bytes { bytes ≤ 262_144 }
+        ensures { Replies D.content D.moment D.images D.images_since D.faults
+            (SpellsWrite bytes (write_view request.now))
+            self.old.progress self.old self.new (C.may clock.old) (C.may clock.new)
+            (MaySettle self.old.progress self.new.progress) result }
+    {
+        match self.write_here(request)? {
+            Some(form) => self.carry_out(alloc, clock, &form, bytes),
+            None => made(self.unbuilt_reply(alloc)),
+        }
+    }
+
+    /// Ends an earlier doubt, if there is one, and then carries a write out. Where the disk fails while the doubt is to be
+    /// ended, the write is not tried. `bytes` is the length of its line. `Memory`: nothing was stored, but that the doubt
+    /// may have ended.
+    fn carry_out<C: Clock>(
+        &mut self,
+        alloc: Global,
+        clock: &mut C,
+        form: &CreateForm,
+        bytes: usize,
+    ) -> Result<Reply, Memory>
+        requires lines { self.old.progress.lines < 2 ^ 63 }
         requires says { says_name_of (prims_of self.old.progress.batches) ≡ true }
         requires bytes { bytes ≤ 262_144 }
         ensures { Replies D.content D.moment D.images D.images_since D.faults
-            (AsksIn bytes (create_request request.now.asks_guid request.now.name))
+            (AsksIn bytes (create_request form.now.asks_guid form.now.name))
             self.old.progress self.old self.new (C.may clock.old) (C.may clock.new)
             (MaySettle self.old.progress self.new.progress) result }
     {
         match self.end_doubt() {
-            Ok(()) => self.change(alloc, clock, request, bytes),
+            Ok(()) => self.change(alloc, clock, form, bytes),
             Err(JournalFault::DiskFault) => Ok(self.failed(Failure::NotStored)),
             Err(_) => Err(Memory),
         }
@@ -437,7 +474,7 @@ impl<D: Disk> Serving<D> {
         &mut self,
         alloc: Global,
         clock: &mut C,
-        request: &WriteRequest,
+        form: &CreateForm,
         bytes: usize,
     ) -> Result<Reply, Memory>
         requires lines { self.old.progress.lines < 2 ^ 63 }
@@ -446,12 +483,12 @@ impl<D: Disk> Serving<D> {
         requires bytes { bytes ≤ 262_144 }
         ensures { (before : Progress) → Settles before self.old.progress
             → Replies D.content D.moment D.images D.images_since D.faults
-            (AsksIn bytes (create_request request.now.asks_guid request.now.name))
+            (AsksIn bytes (create_request form.now.asks_guid form.now.name))
             before self.old self.new (C.may clock.old) (C.may clock.new)
             (self.new.progress ≡ self.old.progress) result }
     {
         let moment = moment(clock);
-        match self.judge(alloc, request, moment, bytes)? {
+        match self.judge(alloc, form, moment, bytes)? {
             Verdict::Refused(reply) => Ok(Reply::Line(reply)),
             Verdict::Storable(next) => self.store_next(alloc, next),
         }
@@ -461,7 +498,7 @@ impl<D: Disk> Serving<D> {
     fn judge(
         &self,
         alloc: Global,
-        request: &WriteRequest,
+        form: &CreateForm,
         moment: u64,
         bytes: usize,
     ) -> Result<Verdict, Memory>
@@ -470,9 +507,9 @@ impl<D: Disk> Serving<D> {
         requires moment { moment ≤ LAST_MOMENT }
         requires bytes { bytes ≤ 262_144 }
         ensures { IfOk result (IsJudged self.now.progress bytes
-            (create_request request.now.asks_guid request.now.name) moment) }
+            (create_request form.now.asks_guid form.now.name) moment) }
     {
-        match self.evaluate(alloc, request, moment) {
+        match self.evaluate(alloc, form, moment) {
             Ok((batch, answer)) => self.judge_done(alloc, batch, &answer, bytes),
             Err(fault) => Ok(Verdict::Refused(self.change_reply(alloc, fault)?)),
         }
@@ -549,13 +586,13 @@ impl<D: Disk> Serving<D> {
     fn evaluate(
         &self,
         alloc: Global,
-        request: &WriteRequest,
+        form: &CreateForm,
         moment: u64,
     ) -> Result<(Batch, Json), ChangeFault>
         requires says { says_name_of (prims_of self.now.progress.batches) ≡ true }
         requires moment { moment ≤ LAST_MOMENT }
         ensures exec { GivesChange (exec_now self.now.progress
-            (create_request request.now.asks_guid request.now.name) moment) result }
+            (create_request form.now.asks_guid form.now.name) moment) result }
         ensures small { IfErr result (IsSmall) }
         ensures well_formed { IfOk result (λ done. bad_place (prims_of self.now.progress.batches) done.0 ≡ None) }
         ensures fits { IfOk result (λ done. first_full (limits (prims_of self.now.progress.batches)
@@ -564,7 +601,7 @@ impl<D: Disk> Serving<D> {
         ensures says { IfOk result (λ done. says_name_of (prims_of (self.now.progress.batches ++ done.0 ∷ []))
             ≡ says_name_of (prims_of self.now.progress.batches)) }
     {
-        evaluate(alloc, self.store(), request, moment)
+        evaluate(alloc, self.store(), form, moment)
     }
 
     /// The bytes that the history has with so many more.

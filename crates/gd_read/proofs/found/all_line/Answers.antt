@@ -1,6 +1,6 @@
 use Rattle.std.proofs.Common.{ap, sym, ◌∙◌, length, List, ℕ}
 use Rattle.gd_prim.specs.History.{prims_of}
-use Rattle.gd_mql.specs.Line.{ask_view}
+use Rattle.gd_read.specs.Asks.{ask_view}
 use Rattle.gd_read.specs.Form.{rows_line}
 use Rattle.gd_read.proofs.Cases.{prints, all-line}
 use Rattle.gd_read.proofs.found.all_line.Goals as goal

@@ -1,7 +1,7 @@
 use Rattle.std.proofs.Common.{◌≡◌, ◌≤◌, ◌<◌, true, false, Some, None, ap, sym, ◌∙◌, length, List, ℕ, take, arith}
 use Rattle.std.specs.Prelude.{sum_by}
 use Rattle.gd_prim.specs.History.{prims_of}
-use Rattle.gd_mql.specs.Line.{ask_view}
+use Rattle.gd_read.specs.Asks.{ask_view}
 use Rattle.gd_read.specs.Form.{rows_line, times, ends, found}
 use Rattle.gd_read.proofs.Cases.{prints, heavy-line, heavy_page-line, page-line, same_heavy, same_total}
 use Rattle.gd_read.proofs.found.named_line.Goals as goal

@@ -1,6 +1,6 @@
 use Rattle.std.proofs.Common.{Some, ap, sym, ◌∙◌, length, arith}
 use Rattle.gd_prim.specs.History.{prims_of}
-use Rattle.gd_mql.specs.Line.{ask_view}
+use Rattle.gd_read.specs.Asks.{ask_view}
 use Rattle.gd_read.proofs.Cases.{prints, no_object-line, unnamed-line, not_named-line, named-line, wide-line}
 use Rattle.gd_read.proofs.found.one_line.Goals as goal
 

@@ -1,6 +1,6 @@
 use Rattle.std.proofs.Common.{ap, sym, ◌∙◌, length}
 use Rattle.gd_prim.specs.History.{prims_of}
-use Rattle.gd_mql.specs.Line.{ask_view}
+use Rattle.gd_read.specs.Asks.{ask_view}
 use Rattle.gd_read.specs.Form.{target_line}
 use Rattle.gd_read.proofs.Cases.{prints}
 use Rattle.gd_read.proofs.Form.{reply_of-form}

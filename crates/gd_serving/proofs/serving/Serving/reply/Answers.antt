@@ -1,15 +1,12 @@
 use Rattle.std.proofs.Common.{◌≡◌, ℕ, true, Ok, Err, Vec, Global, length, ap, refl, ◌∙◌, rules, arith}
 use Rattle.std.proofs.lemmas.Grind.{common_steps}
-use Rattle.gd_mql.specs.declared.line.Line.{Line}
-use Rattle.gd_mql.specs.Line.{ask_view, line_view}
-use Rattle.gd_runs.specs.Built.{form_request, create_request}
-use Rattle.gd_runs.specs.Request.{reply_of}
+use Rattle.gd_mql.specs.declared.request.Line.{Line}
+use Rattle.gd_mql.specs.Requests.{line_view, read_view}
 use Rattle.gd_base.specs.Counts.{Rose}
 use Rattle.gd_runs.specs.Explained.{tells_fault}
 use Rattle.gd_served_laws.specs.Step.{ComesTo}
-use Rattle.gd_serving.proofs.Answered.{made_gives, line_is, asks_is, kept_length, too_long_comes, fault_comes, read_comes}
+use Rattle.gd_serving.proofs.Answered.{made_gives, line_is, kept_length, too_long_comes, fault_comes, read_comes, read_tells_none}
 use Rattle.gd_serving.proofs.Backed.{backs_nothing}
-use Rattle.gd_serving.proofs.Faults.{read_quiet, quiet_if_ok}
 use Rattle.gd_serving.proofs.serving.Serving.reply.Goals as goal
 
 pub returns-in-TooLong : goal.returns-in-TooLong
@@ -29,18 +26,18 @@ pub returns-in-Ok-Read : goal.returns-in-Ok-Read
 returns-in-Ok-Read g c =
     let d = g.D.Disk in
     let p = c.args.self.now.progress in
-    let r = form_request (ask_view c.in-Ok-Read.request) in
+    let r = read_view c.in-Ok-Read.request in
     record {
       comes = λ bytes kept. made_gives (λ text. ComesTo (g.C.Clock.may c.args.clock.now) p bytes text p) c.read.result c.made-in-Ok-Read.result c.made-in-Ok-Read.ensures
           (read_comes (g.C.Clock.may c.args.clock.now) p bytes c.in-Ok-Read.field-0-0 r c.read.result
-          (line_is p c.args.line.now c.in-Bytes.bytes c.as_slice-bytes.result.now bytes (Ok c.in-Ok-Read.field-0) c.in-Bytes.is c.as_slice-bytes.ensures.value kept c.in-Ok-Read.ensures.gives
+          (line_is c.args.line.now c.in-Bytes.bytes c.as_slice-bytes.result.now bytes (Ok c.in-Ok-Read.field-0) c.in-Bytes.is c.as_slice-bytes.ensures.value kept c.in-Ok-Read.ensures.asked
           ∙ ap (λ (l : Line). Ok (line_view l)) c.in-Ok-Read.field-0-is)
           c.read.ensures);
       err = first_of (search rules, grind (arith, common_steps));
       line = first_of (search rules, grind (arith, common_steps));
       backs = backs_nothing d.content d.moment d.images d.images_since d.faults g.met.D.Disk.only_now c.args.self.now;
       fault = made_gives (λ text. tells_fault p.lines text ≡ true → Rose (d.faults c.args.self.now.log.disk) (d.faults c.args.self.now.log.disk)) c.read.result c.made-in-Ok-Read.result c.made-in-Ok-Read.ensures
-          (quiet_if_ok p.lines (λ (v : Vec ℕ Global). v.items) (reply_of p.batches (length p.batches) p.lines r) _ c.read.result (read_quiet p.lines p.batches (length p.batches) p.lines r) c.read.ensures);
+          (read_tells_none p r _ c.read.result c.read.ensures);
       same = first_of (search rules, grind (arith, common_steps));
     }
 
@@ -49,8 +46,8 @@ returns-in-Ok-Write g c = record {
   comes = λ bytes kept. c.write.ensures.comes bytes (
     c.in-Ok-Write.field-0-0,
     kept_length c.args.line.now c.in-Bytes.bytes c.as_slice-bytes.result.now bytes (length c.as_slice-bytes.result.now) c.in-Bytes.is c.as_slice-bytes.ensures.value refl kept,
-    asks_is c.args.line.now c.in-Bytes.bytes c.as_slice-bytes.result.now bytes c.in-Ok-Write.field-0 c.in-Ok-Write.field-0-0 (create_request c.in-Ok-Write.request.asks_guid c.in-Ok-Write.request.name)
-        c.in-Bytes.is c.as_slice-bytes.ensures.value kept c.in-Ok-Write.ensures.asked (ap line_view c.in-Ok-Write.field-0-is),
+    line_is c.args.line.now c.in-Bytes.bytes c.as_slice-bytes.result.now bytes (Ok c.in-Ok-Write.field-0) c.in-Bytes.is c.as_slice-bytes.ensures.value kept c.in-Ok-Write.ensures.asked
+        ∙ ap (λ (l : Line). Ok (line_view l)) c.in-Ok-Write.field-0-is,
   );
   err = c.write.ensures.err;
   line = c.write.ensures.line;
@@ -66,7 +63,7 @@ returns-in-Err g c =
     record {
       comes = λ bytes kept. made_gives (λ text. ComesTo (g.C.Clock.may c.args.clock.now) p bytes text p) c.fault_reply.result c.made-in-Err.result c.made-in-Err.ensures
           (fault_comes (g.C.Clock.may c.args.clock.now) p bytes c.in-Err.fault c.fault_reply.result
-          (line_is p c.args.line.now c.in-Bytes.bytes c.as_slice-bytes.result.now bytes (Err c.in-Err.fault) c.in-Bytes.is c.as_slice-bytes.ensures.value kept c.in-Err.ensures.gives)
+          (line_is c.args.line.now c.in-Bytes.bytes c.as_slice-bytes.result.now bytes (Err c.in-Err.fault) c.in-Bytes.is c.as_slice-bytes.ensures.value kept c.in-Err.ensures.asked)
           c.fault_reply.ensures.memory c.fault_reply.ensures.refusal);
       err = first_of (search rules, grind (arith, common_steps));
       line = first_of (search rules, grind (arith, common_steps));

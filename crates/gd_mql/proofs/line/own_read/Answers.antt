@@ -8,7 +8,7 @@ use Rattle.gd_runs.specs.Request.{CursorAsk, ReadRequest, cursor_ask, no_cursor}
 use Rattle.gd_form_laws.specs.Spelled.{spelled_query}
 use Rattle.gd_mql.specs.Requests.{cursor_view}
 use Rattle.gd_mql.proofs.Envelopes.{read_given, read_asked, member_depth}
-use Rattle.gd_mql.proofs.from_line.own_read.Goals as goal
+use Rattle.gd_mql.proofs.line.own_read.Goals as goal
 
 pub unreachable-requires : goal.unreachable-requires
 unreachable-requires c = read_asked (view c.args.envelope) c.requires.right c.in-None.ensures

@@ -1,6 +1,6 @@
 use Rattle.gd_json.specs.View.{view}
 use Rattle.gd_mql.proofs.Envelopes.{scope_told}
-use Rattle.gd_mql.proofs.from_line.own_scope.Goals as goal
+use Rattle.gd_mql.proofs.line.own_scope.Goals as goal
 
 pub returns-in_ok-copy-in-Some-as_text : goal.returns-in_ok-copy-in-Some-as_text
 returns-in_ok-copy-in-Some-as_text c =

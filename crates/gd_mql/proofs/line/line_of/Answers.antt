@@ -2,7 +2,7 @@ use Rattle.std.proofs.Common.{◌≤◌, ◌+◌, arith, codes}
 use Rattle.gd_tree.specs.Bounds.{json_depth}
 use Rattle.gd_json.specs.View.{view}
 use Rattle.gd_mql.proofs.Envelopes.{member_depth}
-use Rattle.gd_mql.proofs.from_line.request_of.Goals as goal
+use Rattle.gd_mql.proofs.line.line_of.Goals as goal
 
 pub read_from-requires : goal.read_from-requires
 read_from-requires c =

@@ -2,7 +2,7 @@ use Rattle.std.proofs.Common.{◌≤◌, ◌+◌, ◌∙◌, ap, sym, arith, cod
 use Rattle.gd_tree.specs.Bounds.{json_depth}
 use Rattle.gd_json.specs.View.{view}
 use Rattle.gd_mql.proofs.Envelopes.{write_given, write_asked, member_depth}
-use Rattle.gd_mql.proofs.from_line.own_write.Goals as goal
+use Rattle.gd_mql.proofs.line.own_write.Goals as goal
 
 pub unreachable-requires : goal.unreachable-requires
 unreachable-requires c = write_asked (view c.args.envelope) c.requires.right c.in-None.ensures

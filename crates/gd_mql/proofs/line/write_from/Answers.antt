@@ -3,7 +3,7 @@ use Rattle.std.proofs.lemmas.Result.{err_from_is_err_and}
 use Rattle.gd_mql.specs.Requests.{write_view}
 use Rattle.gd_mql.proofs.Envelopes.{write_given_line}
 use Rattle.gd_mql.proofs.Refused.{write_line_refused}
-use Rattle.gd_mql.proofs.from_line.write_from.Goals as goal
+use Rattle.gd_mql.proofs.line.write_from.Goals as goal
 
 pub returns-in_err-check_write : goal.returns-in_err-check_write
 returns-in_err-check_write c =

@@ -3,7 +3,7 @@ use Rattle.std.proofs.lemmas.Result.{err_from_is_err_and}
 use Rattle.gd_mql.specs.Requests.{read_view}
 use Rattle.gd_mql.proofs.Envelopes.{read_given_line}
 use Rattle.gd_mql.proofs.Refused.{read_line_refused}
-use Rattle.gd_mql.proofs.from_line.read_from.Goals as goal
+use Rattle.gd_mql.proofs.line.read_from.Goals as goal
 
 pub returns-in_err-check_read : goal.returns-in_err-check_read
 returns-in_err-check_read c =
