@@ -7,7 +7,8 @@ use Rattle.gd_defs.specs.Asked as defs
 use Rattle.gd_compile.specs.declared.fault.Unknown.{Unknown}
 use Rattle.gd_compile.specs.declared.sort.SortKey.{SortKey}
 use Rattle.gd_compile.specs.Fault.{Finds}
-use Rattle.gd_compile.specs.Words.{sort_key_view, value_key}
+use Rattle.gd_plan.specs.Seen.{sort_key_view}
+use Rattle.gd_compile.specs.Words.{value_key}
 
 -- the key of the property, by what its answers are
 key_is : (prims : List Primitive) (context : Option ℕ) (path : List (List ℕ)) (w : SortWord) (p : Property) (e : Expects) (reversed : Bool)

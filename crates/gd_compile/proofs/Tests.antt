@@ -8,7 +8,8 @@ use Rattle.gd_defs.specs.Asked.Tests.{test_of}
 use Rattle.gd_compile.specs.declared.fault.Unknown.{Unknown}
 use Rattle.gd_compile.specs.declared.test.Test.{Test}
 use Rattle.gd_compile.specs.Fault.{Finds}
-use Rattle.gd_compile.specs.Seen.{test_view, compared_with, words_with, is_choice, is_words}
+use Rattle.gd_plan.specs.Seen.{test_view}
+use Rattle.gd_compile.specs.Seen.{compared_with, words_with, is_choice, is_words}
 
 -- of a list
 pub choice_found : (prims : List Primitive) (e : Expects) (path : List (List ℕ)) (o : Operator) (j : Json) (r : Result Test Unknown)

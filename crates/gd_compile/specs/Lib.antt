@@ -1,4 +1,3 @@
 pub mod Fault
 pub mod Seen
 pub mod Words
-pub mod Planned

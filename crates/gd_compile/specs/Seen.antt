@@ -1,4 +1,4 @@
--- Tests and what properties hold, as the definitions have them.
+-- Tests, by what their operators take.
 use Rattle.std.specs.Prelude.{ℕ, List, Bool, true, false, Result, Ok}
 use Rattle.std.specs.Option.{ok_or}
 use Rattle.gd_base.specs.declared.datum.Datum.{Datum}
@@ -10,28 +10,6 @@ use Rattle.gd_defs.specs.Query.{bad_value}
 use Rattle.gd_prim.specs.declared.Primitive.{Primitive}
 use Rattle.gd_grammar.specs.Chain.{◌>>=◌}
 use Rattle.gd_tree.specs.Json.{Json}
-use Rattle.gd_datum.specs.Values.{kind_of}
-use Rattle.gd_compile.specs.declared.operand.Expects.{Expects}
-use Rattle.gd_compile.specs.declared.operand.Expects.TheVariants as expects
-use Rattle.gd_compile.specs.declared.test.Test.{Test}
-use Rattle.gd_compile.specs.declared.test.Test.TheVariants as test
-
--- what the answers of a property are
-abbrev pub expects_view : Expects → property.Expects
-expects_view (expects.Value kind) = property.a_value (kind_of kind)
-expects_view expects.Key = property.a_key
-expects_view expects.SystemObject = property.an_object_of_system
-expects_view expects.PlainObject = property.a_plain_object
-
--- the test of the definitions
-abbrev pub test_view : Test → tests.Test
-test_view test.Anything = tests.anything
-test_view (test.Equals value) = tests.equals value
-test_view (test.Differs value) = tests.differs value
-test_view (test.OneOf values) = tests.is_one_of values.items
-test_view (test.Below value or_equal) = tests.is_below value or_equal
-test_view (test.Above value or_equal) = tests.is_above value or_equal
-test_view (test.Matches pattern) = tests.matches_words pattern
 
 -- the test that an operator of one datum makes with it; what takes no such datum is not asked for
 abbrev pub compared : query.Operator → Datum → tests.Test

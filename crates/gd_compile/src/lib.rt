@@ -1,8 +1,6 @@
 //! Queries with their words looked up: which property a name is, and which test an operand makes.
 #![tactic(auto)]
 
-pub mod clause;
-pub mod constraint;
 pub mod fault;
 pub mod operand;
 pub mod sort;

@@ -15,7 +15,7 @@ ghost use Rattle.gd_json.specs.View.{view as json_of, items_view};
 ghost use Rattle.gd_tree.specs.Json.{text};
 ghost use Rattle.gd_datum.specs.Values.{kind_of};
 ghost use Rattle.gd_compile.specs.Fault.{Finds};
-ghost use Rattle.gd_compile.specs.Seen.{expects_view};
+ghost use Rattle.gd_plan.specs.Seen.{expects_view};
 
 use crate::fault::{Code, Unknown, bad, no_id};
 use gd_base::datum::Datum;
@@ -26,67 +26,10 @@ use gd_base::text::Text;
 use gd_datum::value::{DatumFault, Kind, datum_from};
 use gd_json::value::Json;
 use gd_mql::ids::is_key;
+use gd_plan::expects::Expects;
 use gd_resolve::ids::named_object;
 use gd_store::view::View;
 use std::alloc::Global;
-
-/// The first place behind the built-in list.
-const BUILTIN_END: u32 = 70;
-
-/// What the answers of a property are.
-#[derive(Clone, Copy, Debug, PartialEq, Eq)]
-pub enum Expects {
-    /// Values of a kind.
-    Value(Kind),
-    /// Keys, each in a namespace.
-    Key,
-    /// Objects of a type of the built-in list.
-    SystemObject,
-    /// Other objects.
-    PlainObject,
-}
-
-/// What the answers of objects of this type are.
-fn expects_of_type(of: Id) -> Expects
-    ensures { expects_view result ≡ property.expects_of (Some of) }
-{
-    match of.0 {
-        7 => Expects::Value(Kind::Text),
-        8 => Expects::Value(Kind::Int),
-        9 => Expects::Value(Kind::Boolean),
-        10 => Expects::Value(Kind::Datetime),
-        11 => Expects::Key,
-        place => {
-            if place < BUILTIN_END {
-                Expects::SystemObject
-            } else {
-                Expects::PlainObject
-            }
-        }
-    }
-}
-
-/// What the answers of a property are, by the type that it expects at their end, if it states one: the types of the
-/// built-in list for texts, whole numbers, truth values and moments stand for values, the one for keys for keys, and its
-/// other types for objects of the system. It takes no memory.
-pub fn expects_of(expected: Option<Id>) -> Expects
-    ensures { expects_view result ≡ property.expects_of expected }
-{
-    match expected {
-        Some(of) => expects_of_type(of),
-        None => Expects::PlainObject,
-    }
-}
-
-/// Whether the answers are values or keys. It takes no memory.
-pub fn holds_values(expects: Expects) -> bool
-    ensures { result ≡ property.holds_values (expects_view expects) }
-{
-    match expects {
-        Expects::Value(_) | Expects::Key => true,
-        Expects::SystemObject | Expects::PlainObject => false,
-    }
-}
 
 /// The object that the text of an id names below the dateline. `NoSuchId`: the text is no id or names no object; with the
 /// text. `Memory`: an allocation was refused. It looks at no more than 500 things.

@@ -4,11 +4,13 @@ ghost use Rattle.gd_prim.specs.History.{prims_of};
 ghost use Rattle.gd_defs.specs.Asked as defs;
 ghost use Rattle.gd_mql.specs.Directives.{sort_word_view};
 ghost use Rattle.gd_compile.specs.Fault.{Finds};
-ghost use Rattle.gd_compile.specs.Seen.{expects_view};
-ghost use Rattle.gd_compile.specs.Words.{sort_key_view, value_key, is_value};
+ghost use Rattle.gd_plan.specs.Seen.{expects_view};
+ghost use Rattle.gd_plan.specs.Seen.{sort_key_view};
+ghost use Rattle.gd_compile.specs.Words.{value_key, is_value};
 
 use crate::fault::{Code, Unknown, bad, no_property};
-use crate::operand::{Expects, expects_of};
+use gd_plan::asked::SortKey;
+use gd_plan::expects::{Expects, expects_of};
 use crate::words::{is_guid, is_id, is_timestamp};
 use gd_base::id::Id;
 use gd_base::memory::Memory;
@@ -18,21 +20,6 @@ use gd_resolve::property::Property;
 use gd_resolve::words::named_property;
 use gd_store::view::View;
 use std::alloc::Global;
-
-/// What rows are sorted by, and the direction: the guid, the timestamp, or the first value of a property.
-#[derive(Drop)]
-pub enum SortKey {
-    Guid {
-        descending: bool,
-    },
-    Timestamp {
-        descending: bool,
-    },
-    Value {
-        property: Property,
-        descending: bool,
-    },
-}
 
 /// Whether the answers are values of a kind.
 fn is_value(expects: Expects) -> bool

@@ -8,10 +8,13 @@ ghost use Rattle.gd_tree.specs.Look.{item_count};
 ghost use Rattle.gd_json.specs.View.{view as json_of};
 ghost use Rattle.gd_mql.specs.Names.{operator_view};
 ghost use Rattle.gd_compile.specs.Fault.{Finds};
-ghost use Rattle.gd_compile.specs.Seen.{expects_view, test_view, compared, compared_with, words_with, is_choice, is_words};
+ghost use Rattle.gd_plan.specs.Seen.{expects_view, test_view};
+ghost use Rattle.gd_compile.specs.Seen.{compared, compared_with, words_with, is_choice, is_words};
 
 use crate::fault::{Code, Unknown, bad};
-use crate::operand::{Expects, operand_data, operand_datum};
+use crate::operand::{operand_data, operand_datum};
+use gd_plan::expects::Expects;
+use gd_plan::test::Test;
 use gd_base::datum::Datum;
 use gd_base::memory::Memory;
 use gd_base::steps::Steps;
@@ -22,25 +25,6 @@ use gd_json::value::Json;
 use gd_mql::name::Operator;
 use gd_store::view::View;
 use std::alloc::Global;
-
-/// What is asked of a datum. Contracts see it as the test of the definitions, `test_view`.
-#[derive(Drop)]
-pub enum Test {
-    /// Nothing.
-    Anything,
-    /// It is this one.
-    Equals(Datum),
-    /// It is another one.
-    Differs(Datum),
-    /// It is one of these.
-    OneOf(Vec<Datum>),
-    /// It is of the same variant and below this one, or equal to it where that is let in.
-    Below { value: Datum, or_equal: bool },
-    /// The same above this one.
-    Above { value: Datum, or_equal: bool },
-    /// It is a text that matches the pattern.
-    Matches(Pattern),
-}
 
 /// Whether an operator stands on answers of this sort: none, `|=` and `!=` on all, the comparisons on values that have an
 /// order, which are texts, whole numbers and moments, and on keys, `~=` on texts and keys. It takes no memory.

@@ -9,12 +9,15 @@ ghost use Rattle.gd_json.specs.View.{view as json_of};
 ghost use Rattle.gd_tree.specs.Look.{item_count};
 ghost use Rattle.gd_mql.specs.Names.{operator_view, name_view};
 ghost use Rattle.gd_compile.specs.Fault.{Finds};
-ghost use Rattle.gd_compile.specs.Seen.{expects_view, test_view};
-ghost use Rattle.gd_compile.specs.Words.{own_view};
+ghost use Rattle.gd_plan.specs.Seen.{expects_view, test_view};
+ghost use Rattle.gd_plan.specs.Seen.{own_view};
 
 use crate::fault::{Code, Unknown, bad, no_property};
-use crate::operand::{Expects, expects_of, holds_values, place_named};
-use crate::test::{Test, allows, test_of};
+use crate::operand::place_named;
+use gd_plan::asked::Own;
+use gd_plan::expects::{Expects, expects_of, holds_values};
+use crate::test::{allows, test_of};
+use gd_plan::test::Test;
 use gd_base::id::Id;
 use gd_base::steps::Steps;
 use gd_datum::value::Kind;
@@ -24,18 +27,6 @@ use gd_resolve::property::{Property, expected_type};
 use gd_resolve::words::{Named, named_property};
 use gd_store::view::View;
 use std::alloc::Global;
-
-/// What a computed member tells: of its object the id, the guid or the timestamp; of the link that led there the guid, the
-/// value or the namespace.
-#[derive(Clone, Copy, Debug, PartialEq, Eq)]
-pub enum Own {
-    Id,
-    Guid,
-    Timestamp,
-    Link,
-    Value,
-    Namespace,
-}
 
 pub(crate) fn is_id(word: &str) -> bool
     ensures { result ≡ query.is_word (codes "id") word.now }

@@ -3,7 +3,7 @@ use Rattle.gd_grammar.specs.Chain.{◌>>=◌}
 use Rattle.gd_prim.specs.History.{prims_of}
 use Rattle.gd_defs.specs.Asked.Tests.{operand_data}
 use Rattle.gd_json.specs.View.{items_view}
-use Rattle.gd_compile.specs.Seen.{expects_view}
+use Rattle.gd_plan.specs.Seen.{expects_view}
 use Rattle.gd_compile.proofs.operand.operand_data.Given as goal
 
 abbrev pub invariant-loop-json : goal.invariant-loop-json

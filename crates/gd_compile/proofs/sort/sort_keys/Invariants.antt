@@ -3,7 +3,7 @@ use Rattle.gd_grammar.specs.Chain.{◌>>=◌}
 use Rattle.gd_prim.specs.History.{prims_of}
 use Rattle.gd_defs.specs.Asked as defs
 use Rattle.gd_mql.specs.Directives.{sort_word_view}
-use Rattle.gd_compile.specs.Words.{sort_key_view}
+use Rattle.gd_plan.specs.Seen.{sort_key_view}
 use Rattle.gd_compile.proofs.sort.sort_keys.Given as goal
 
 abbrev pub invariant-loop-word : goal.invariant-loop-word

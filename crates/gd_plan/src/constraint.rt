@@ -5,10 +5,10 @@ ghost use Rattle.gd_defs.specs.Plan as plan;
 ghost use Rattle.gd_defs.specs.Data.{equals, differs, is_one_of};
 ghost use Rattle.gd_datum.specs.Values.{kind_of};
 ghost use Rattle.gd_template.specs.Seen.{constraint_of};
-ghost use Rattle.gd_compile.specs.Seen.{expects_view, test_view};
-ghost use Rattle.gd_compile.specs.Planned.{asks_kind, value_constraint, place_of};
+ghost use Rattle.gd_plan.specs.Seen.{expects_view, test_view};
+ghost use Rattle.gd_plan.specs.Planned.{asks_kind, value_constraint, place_of};
 
-use crate::operand::{Expects, expects_of};
+use crate::expects::{Expects, expects_of};
 use crate::test::Test;
 use gd_base::datum::{Datum, Precision};
 use gd_base::id::Id;

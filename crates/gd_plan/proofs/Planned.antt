@@ -3,7 +3,7 @@ use Rattle.std.proofs.Common.{◌≡◌, refl, ◌++◌, Some, None, if◌then�
 use Rattle.std.specs.Option.{option_to_list}
 use Rattle.gd_defs.specs.Data.{Kind, Test, anything, equals, differs, is_one_of, is_below, is_above, matches_words}
 use Rattle.gd_defs.specs.Plan.{value_test, of_kind}
-use Rattle.gd_compile.specs.Planned.{asks_kind, value_constraint}
+use Rattle.gd_plan.specs.Planned.{asks_kind, value_constraint}
 
 pub value_parts : (k : Kind) (t : Test) → option_to_list (if asks_kind t then Some (of_kind k) else None) ++ option_to_list (value_constraint t) ≡ value_test k t
 value_parts k anything = refl

@@ -9,12 +9,12 @@ ghost use Rattle.gd_datum.specs.Values.{kind_of};
 ghost use Rattle.gd_template.specs.Built.{view as template_of};
 ghost use Rattle.gd_template.specs.Seen.{constraint_of};
 ghost use Rattle.gd_template.specs.View.{parts};
-ghost use Rattle.gd_compile.specs.Words.{sort_key_view};
-ghost use Rattle.gd_compile.specs.Planned.{with_clause};
+ghost use Rattle.gd_plan.specs.Seen.{sort_key_view};
+ghost use Rattle.gd_plan.specs.Planned.{with_clause};
 
 use crate::constraint::{asked_end, of_kind};
-use crate::operand::{Expects, expects_of};
-use crate::sort::SortKey;
+use crate::expects::{Expects, expects_of};
+use crate::asked::SortKey;
 use gd_base::memory::Memory;
 use gd_datum::value::Kind;
 use gd_prim::End;
