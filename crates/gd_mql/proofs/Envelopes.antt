@@ -208,9 +208,20 @@ change_given : (r : Result Change Fault) → result_err r ≡ None → r ≡ Ok 
 change_given (Ok c) none = refl
 change_given (Err f) none = cc
 
-spelled_given : (q : Json) → change_fault q ≡ None → change_of q ≡ Ok (spelled_change q)
+-- the change of a value without a fault
+pub spelled_given : (q : Json) → change_fault q ≡ None → change_of q ≡ Ok (spelled_change q)
 unfolding change_fault spelled_change
 spelled_given q none = change_given (change_of q) none
+
+-- a change is an object
+pub no_change : (q : Json) → None ≡ members_in q → change_fault q ≡ None → ⊥
+unfolding change_fault
+no_change null is none = cc
+no_change (boolean b) is none = cc
+no_change (number n) is none = cc
+no_change (text t) is none = cc
+no_change (list js) is none = cc
+no_change (object ms) is none = cc
 
 -- the write of its clause
 pub record WriteGiven (j q : Json) (scope : Option (List ℕ)) : Type 0 where

@@ -45,7 +45,7 @@ clause_heads root (m ∷ ms) some none = sym (other-directives root m.0 (view m.
 -- ---- forms
 
 -- what an object or a list is
-object_shape : (j : tree.Json) (ms : tree.Members) → Some ms ≡ members_in j → j ≡ tree.object ms
+pub object_shape : (j : tree.Json) (ms : tree.Members) → Some ms ≡ members_in j → j ≡ tree.object ms
 object_shape tree.null ms is = cc
 object_shape (tree.boolean b) ms is = cc
 object_shape (tree.number n) ms is = cc

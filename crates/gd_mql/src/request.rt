@@ -1,7 +1,7 @@
 //! Requests that were read from a line.
-ghost use Rattle.std.specs.Prelude.{◌≡◌, ◌≤◌, ◌+◌, true, None, is_none};
+ghost use Rattle.std.specs.Prelude.{◌≡◌, ◌≤◌, ◌+◌, true, None, Ok, is_none};
 ghost use Rattle.gd_tree.specs.Bounds.{json_depth};
-ghost use Rattle.gd_tree.specs.Json.{list, item, no_items};
+ghost use Rattle.gd_tree.specs.Json.{list, item, no_items, object};
 ghost use Rattle.gd_json.specs.View.{view, items_view, members_view};
 ghost use Rattle.gd_form_laws.specs.Faults.{query_fault, clause_fault};
 ghost use Rattle.gd_form_laws.specs.WriteFaults.{change_fault};
@@ -115,6 +115,7 @@ impl<'a> Query<'a> {
 }
 
 impl WriteRequest {
+    ghost use Rattle.gd_defs.specs.Change.{change_of};
     ghost use Rattle.gd_mql.specs.Envelopes.{spelled_change};
     ghost use Rattle.gd_mql.specs.Requests.{write_view};
 
@@ -125,5 +126,15 @@ impl WriteRequest {
         ensures { write_view result ≡ record { scope = scope; change = spelled_change (view query) } }
     {
         WriteRequest { scope, query }
+    }
+
+    /// The members of the root clause, which spell the change.
+    pub fn members(&self) -> &[(JsonText, Json)]
+        ensures { change_of (object (members_view result.now)) ≡ Ok (write_view self.now).change }
+    {
+        match self.query.as_object() {
+            Some(members) => members,
+            None => unreachable!(),
+        }
     }
 }

@@ -5,3 +5,4 @@ pub mod Replies
 pub mod Judged
 pub mod Here
 pub mod Shapes
+pub mod Creates

@@ -1,11 +1,11 @@
-//! Which forms of requests are carried out so far: reads by guid, id and name, and the create of a name.
+//! Which reads are carried out so far: those by guid, id and name.
 ghost use Rattle.std.specs.Prelude.{◌≡◌, ◌&&◌, not, option_map, IfOk};
 ghost use Rattle.gd_runs.specs.Built as defined;
 ghost use Rattle.gd_runs.specs.Request.{asks_page};
 ghost use Rattle.gd_mql.specs.Clauses.{left};
 ghost use Rattle.gd_mql.specs.Directives.{directives_view};
 ghost use Rattle.gd_mql.specs.Names.{name_view};
-ghost use Rattle.gd_mql.specs.Requests.{read_view, write_view, cursor_view};
+ghost use Rattle.gd_mql.specs.Requests.{read_view, cursor_view};
 ghost use Rattle.gd_read.specs.Asks.{ask_view, id_view};
 ghost use Rattle.gd_serving.specs.Shapes.{IsShape, id_asked};
 
@@ -15,11 +15,11 @@ use gd_mql::clause::{Form, Members, Part};
 use gd_mql::directive::Directives;
 use gd_mql::name::Name;
 use gd_mql::query_form::has_operator;
-use gd_change::form::CreateForm;
-use gd_mql::request::{CursorAsk, ReadRequest, WriteRequest};
+use gd_mql::request::{CursorAsk, ReadRequest};
 use gd_read::ask::{IdAsk, ReadForm};
 
 /// What a part of a clause is, as far as the built form knows of it.
+#[derive(Clone, Copy)]
 enum Shape<'a> {
     /// A name with null.
     Ask(Name<'a>),
@@ -30,6 +30,7 @@ enum Shape<'a> {
 }
 
 /// What a read asks of ids, borrowed from its query.
+#[derive(Clone, Copy)]
 enum IdAsked<'a> {
     Absent,
     Asked,
@@ -199,13 +200,4 @@ pub(crate) fn read_form(request: &ReadRequest) -> Result<Option<ReadForm>, Memor
         return Ok(None);
     }
     members_form(query.root.members())
-}
-
-/// What a write asks, where it is of the built form: without a scope, the create of a name. (To be written, when the walk
-/// of a write stands.)
-pub(crate) fn create_form(request: &WriteRequest) -> Result<Option<CreateForm>, Memory>
-    ensures { IfOk result (λ form. option_map (λ f. (f.asks_guid, f.name)) form ≡ defined.write_ask (write_view request.now)) }
-{
-    let _unread = request;
-    Ok(None)
 }

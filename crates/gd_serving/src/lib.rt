@@ -2,4 +2,5 @@
 #![tactic(auto)]
 
 mod built;
+mod create;
 pub mod serving;

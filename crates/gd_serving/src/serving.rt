@@ -34,7 +34,8 @@ ghost use Rattle.gd_reply.specs.Replies.{reply_text, failure_line};
 use gd_base::memory::Memory;
 use gd_base::steps::Steps;
 use gd_change::fault::ChangeFault;
-use crate::built::{create_form, read_form};
+use crate::built::read_form;
+use crate::create::create_form;
 use gd_change::form::CreateForm;
 use gd_change::write::evaluate;
 use gd_disk::disk::Disk;
@@ -300,6 +301,16 @@ impl<D: Disk> Serving<D> {
             create_form(request)
         } else {
             Ok(None)
+        }
+    }
+
+    /// The reply that tells a failure at the next line.
+    fn failed(&self, failure: Failure) -> Reply
+        ensures text { reply_text result ≡ failure_line failure self.now.progress.lines }
+    {
+        Reply::Failed {
+            failure,
+            line: self.lines,
         }
     }
 

@@ -1,1 +1,0 @@
-use Rattle.gd_serving.proofs.serving.Serving.read.Goals as goal
