@@ -8,7 +8,8 @@ use Rattle.gd_tree.specs.Json.{Json, null, boolean, number, text, list, object, 
 use Rattle.gd_tree.specs.Look.{get, text_of}
 use Rattle.gd_json.specs.View.{view, members_view}
 use Rattle.gd_json.specs.declared.value.Json.{Json as OwnJson}
-use Rattle.gd_defs.specs.Query.{Fault, Name, Operator, fault, or_fault, within, bad_word, bad_connect, bad_create, member_name, name_of, is_directive, is_left_out, is_link, is_computed, is_identity, has_operator, is_marked, behind_label, behind_mark, word_front, operator_of, label_fits, may_be_word, all_items, is_literal}
+use Rattle.gd_defs.specs.Query.{Fault, Name, Operator, fault, or_fault, within, bad_word, bad_write, bad_connect, bad_create, member_name, name_of, is_directive, is_left_out, is_link, is_computed, is_identity, has_operator, all_items, is_literal}
+use Rattle.gd_defs.specs.Query.Names.{is_marked, behind_label, behind_mark, word_front, operator_of, label_fits, may_be_word}
 use Rattle.gd_defs.specs.Change as change
 use Rattle.gd_defs.specs.Change.{Setting, Change, CreateWord, unless_exists, unconditional, ConnectWord, Target, Item, ManyItems, write_name, by_name, item_of, items_of, members_of, identity_item, object_item, list_item, create_in, create_word, connect_word, target_in, guid_member, is_connect_form, is_fact_form, is_form, setting_of, change_of, text_member}
 use Rattle.gd_defs.specs.Write.{WriteRequest}
@@ -28,11 +29,6 @@ differ e y is = cc
 step : {A B E : Type 0} (a : Result A E) (f : A → Result B E) (y : B) → (a >>= f) ≡ Ok y → Step a f y
 step (Ok x) f y is = record { value = x; is = refl; next = is }
 step (Err e) f y is = absurd (differ e y is)
-
--- of two, the one that gave something
-unless_err : {A E : Type 0} (t : Bool) (e : E) (r : Result A E) (y : A) → (if t then Err e else r) ≡ Ok y → r ≡ Ok y
-unless_err true e r y is = absurd (differ e y is)
-unless_err false e r y is = is
 
 ok_same : {A E : Type 0} (x y : A) → (let r : Result A E = Ok x in r) ≡ Ok y → x ≡ y
 ok_same x y is = cc
@@ -61,13 +57,32 @@ named_so k n is = by (operator_of (drop (length (word_front (behind_mark (behind
         let same : (let m : Name = record { spelled = k; reversed = is_marked (behind_label k); word = word_front (behind_mark (behind_label k)); operator = x } in m) ≡ n = cc in
         sym (ap (λ (m : Name). m.spelled) same)
 
+member_so : (root : Bool) (k : List ℕ) (n : Name) → member_name root k ≡ Ok n → n.spelled ≡ k
+member_so root k n is = by (name_of k) refl
+  where
+    tests : (m : Name) (out off : Bool) → name_of k ≡ Some m → is_left_out m.word ≡ out → ((m.reversed && is_computed m.word) || (root && is_link m.word)) ≡ off → n.spelled ≡ k
+    tests m true off some left told = absurd (let bad = rw (some, left) at is in differ _ n bad)
+    tests m false true some left told = absurd (let bad = rw (some, left, told) at is in differ _ n bad)
+    tests m false false some left told = let same : m ≡ n = ok_same m n (rw (some, left, told) at is) in ap (λ (x : Name). x.spelled) (sym same) ∙ named_so k m some
+
+    by : (o : Option Name) → name_of k ≡ o → n.spelled ≡ k
+    by None none = absurd (let bad = rw none at is in differ _ n bad)
+    by (Some m) some = tests m (is_left_out m.word) ((m.reversed && is_computed m.word) || (root && is_link m.word)) some refl refl
+
 spelled_so : (root : Bool) (k : List ℕ) (n : Name) → write_name root k ≡ Ok n → n.spelled ≡ k
-spelled_so root k n is =
-    let named : Step (member_name root k) _ n = step (member_name root k) _ n (unless_err (is_directive k) _ _ n is) in
-    let written : named.value ≡ n = ok_same named.value n (unless_err _ _ (Ok named.value) n named.next) in
-    let read : Step (or_fault bad_word k (name_of k)) _ named.value = step (or_fault bad_word k (name_of k)) _ named.value named.is in
-    let kept : read.value ≡ named.value = ok_same read.value named.value (unless_err _ _ (Ok read.value) named.value (unless_err _ _ _ named.value read.next)) in
-    ap (λ (m : Name). m.spelled) (sym (kept ∙ written)) ∙ named_so k read.value (some_of_ok (name_of k) _ read.value read.is)
+spelled_so root k n is = by (is_directive k) refl
+  where
+    kept : (t : Bool) (m : Name) → (if t then fault bad_write k else Ok m) ≡ Ok n → m ≡ n
+    kept true m is = absurd (differ _ n is)
+    kept false m is = ok_same m n is
+
+    by : (b : Bool) → is_directive k ≡ b → n.spelled ≡ k
+    by true directive = absurd (let bad = rw directive at is in differ _ n bad)
+    by false directive =
+        let told : (member_name root k >>= λ m. if has_operator m || is_link m.word || (is_computed m.word && not (is_identity m.word)) then fault bad_write k else Ok m) ≡ Ok n = rw directive at is in
+        let first : Step (member_name root k) _ n = step (member_name root k) _ n told in
+        let same : first.value ≡ n = kept (has_operator first.value || is_link first.value.word || (is_computed first.value.word && not (is_identity first.value.word))) first.value first.next in
+        ap (λ (x : Name). x.spelled) (sym same) ∙ member_so root k first.value first.is
 
 -- a name that is spelled otherwise is not this word
 not_plain : (root : Bool) (k word : List ℕ) (n : Name) → write_name root k ≡ Ok n → bytes_eq k word ≡ false → is_plain word n ≡ false

@@ -38,7 +38,7 @@ enum IdAsked<'a> {
 }
 
 fn literal_shape<'a>(name: Name<'a>, value: &'a Json) -> Shape<'a>
-    ensures { IsShape (Part.Member name (Form.Literal value)) result }
+    ensures { IsShape (Part.Member name.entry (Form.Literal value.entry)) result }
 {
     match value.as_text() {
         Some(text) => Shape::Text(name, text),
@@ -46,13 +46,22 @@ fn literal_shape<'a>(name: Name<'a>, value: &'a Json) -> Shape<'a>
     }
 }
 
+fn member_shape<'a>(name: Name<'a>, form: Form<'a>) -> Shape<'a>
+    ensures { IsShape (Part.Member name.entry form.entry) result }
+{
+    match form {
+        Form::Ask => Shape::Ask(name),
+        Form::Literal(value) => literal_shape(name, value),
+        Form::AskAll | Form::Operand(_) | Form::One(_) | Form::Many(_) => Shape::Other,
+    }
+}
+
 fn shape_of(part: Part<'_>) -> Shape<'_>
-    ensures { IsShape part result }
+    ensures { IsShape part.entry result }
 {
     match part {
-        Part::Member(name, Form::Ask) => Shape::Ask(name),
-        Part::Member(name, Form::Literal(value)) => literal_shape(name, value),
-        _ => Shape::Other,
+        Part::Member(name, form) => member_shape(name, form),
+        Part::Sort(_) => Shape::Other,
     }
 }
 
@@ -65,7 +74,7 @@ fn is_plain(name: &Name<'_>, word: &str) -> bool
 
 /// Whether the first member asks for the guid, and the members behind it.
 fn guid_first(members: Members<'_>) -> (bool, Members<'_>)
-    ensures { (result.0, left result.1) ≡ defined.guid_first (left members) }
+    ensures { (result.0, left result.1) ≡ defined.guid_first (left members.entry) }
 {
     let Some((part, rest)) = members.split() else {
         return (false, members);
@@ -83,7 +92,7 @@ fn guid_first(members: Members<'_>) -> (bool, Members<'_>)
 
 /// What the first member asks of the id, and the members behind it.
 fn id_first(members: Members<'_>) -> (IdAsked<'_>, Members<'_>)
-    ensures { (id_asked result.0, left result.1) ≡ defined.id_first (left members) }
+    ensures { (id_asked result.0, left result.1) ≡ defined.id_first (left members.entry) }
 {
     let Some((part, rest)) = members.split() else {
         return (IdAsked::Absent, members);
@@ -107,7 +116,7 @@ fn id_first(members: Members<'_>) -> (IdAsked<'_>, Members<'_>)
 
 /// The name that the first member asks for, and the members behind it.
 fn name_first(members: Members<'_>) -> (Option<&JsonText>, Members<'_>)
-    ensures { (option_map (λ t. t.now) result.0, left result.1) ≡ defined.name_first (left members) }
+    ensures { (option_map (λ t. t.now) result.0, left result.1) ≡ defined.name_first (left members.entry) }
 {
     let Some((part, rest)) = members.split() else {
         return (None, members);
@@ -125,7 +134,7 @@ fn name_first(members: Members<'_>) -> (Option<&JsonText>, Members<'_>)
 
 /// Whether no member is left.
 fn none_left(members: Members<'_>) -> bool
-    ensures { result ≡ defined.none_left (left members) }
+    ensures { result ≡ defined.none_left (left members.entry) }
 {
     members.split().is_none()
 }
@@ -149,7 +158,7 @@ fn asks_a_page(cursor: &CursorAsk) -> bool
 
 /// What is asked of ids, as a value of its own.
 fn own_id(asked: IdAsked<'_>) -> Result<IdAsk, Memory>
-    ensures { IfOk result (λ id. id_view id ≡ id_asked asked) }
+    ensures { IfOk result (λ id. id_view id ≡ id_asked asked.entry) }
 {
     match asked {
         IdAsked::Absent => Ok(IdAsk::Absent),
@@ -170,7 +179,7 @@ fn own_name(asked: Option<&JsonText>) -> Result<Option<JsonText>, Memory>
 
 /// What the members `guid`, `id` and `name` ask, where there are no others.
 fn members_form(members: Members<'_>) -> Result<Option<ReadForm>, Memory>
-    ensures { IfOk result (λ form. option_map ask_view form ≡ defined.members_ask (left members)) }
+    ensures { IfOk result (λ form. option_map ask_view form ≡ defined.members_ask (left members.entry)) }
 {
     let (asks_guid, rest) = guid_first(members);
     let (id, rest) = id_first(rest);
