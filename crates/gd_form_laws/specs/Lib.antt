@@ -1,3 +1,4 @@
 pub mod Faults
 pub mod WriteFaults
 pub mod Spelled
+pub mod SpelledChange
