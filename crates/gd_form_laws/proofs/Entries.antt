@@ -297,3 +297,10 @@ other-refused (number m) is none = cc
 other-refused (text t) is none = cc
 other-refused (list js) is none = cc
 other-refused (object ms) is none = cc
+
+-- `create` in a clause without a fault
+pub create-led : (s : Setting) (j : Json) (ms : JsonMembers) (w : CreateWord) → entries_fault s (json_member (codes "create") j ms) ≡ None → create_word j ≡ Some w
+    → spelled_entries s (json_member (codes "create") j ms) ≡ change.created w (spelled_entries s ms)
+create-led s j ms w none is =
+    let alone : result_err (create_in s j) ≡ None = sym (created-alone s (codes "create") j refl) ∙ first-entry_given s (codes "create") j ms none in
+    created-part s (codes "create") j ms w (rest-entries_given s (codes "create") j ms none) refl (create-given s j w alone is)
