@@ -17,7 +17,8 @@ use Rattle.gd_form_laws.specs.Faults.{query_fault}
 use Rattle.gd_form_laws.specs.WriteFaults.{change_fault}
 use Rattle.gd_form_laws.specs.Spelled.{spelled_query}
 use Rattle.gd_form_laws.proofs.Clauses.{query-given}
-use Rattle.gd_mql.specs.Envelopes.{read_fault, write_fault, envelope_fault, paged_fault, written_fault, change_or, spelled_change, read_line_of, write_line_of}
+use Rattle.gd_form_laws.specs.SpelledChange.{change_or, spelled_change}
+use Rattle.gd_mql.specs.Envelopes.{read_fault, write_fault, envelope_fault, paged_fault, written_fault, read_line_of, write_line_of}
 
 -- ---- names of members
 
@@ -208,20 +209,9 @@ change_given : (r : Result Change Fault) → result_err r ≡ None → r ≡ Ok 
 change_given (Ok c) none = refl
 change_given (Err f) none = cc
 
--- the change of a value without a fault
-pub spelled_given : (q : Json) → change_fault q ≡ None → change_of q ≡ Ok (spelled_change q)
+spelled_given : (q : Json) → change_fault q ≡ None → change_of q ≡ Ok (spelled_change q)
 unfolding change_fault spelled_change
 spelled_given q none = change_given (change_of q) none
-
--- a change is an object
-pub no_change : (q : Json) → None ≡ members_in q → change_fault q ≡ None → ⊥
-unfolding change_fault
-no_change null is none = cc
-no_change (boolean b) is none = cc
-no_change (number n) is none = cc
-no_change (text t) is none = cc
-no_change (list js) is none = cc
-no_change (object ms) is none = cc
 
 -- the write of its clause
 pub record WriteGiven (j q : Json) (scope : Option (List ℕ)) : Type 0 where

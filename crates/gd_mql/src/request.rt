@@ -1,11 +1,12 @@
 //! Requests that were read from a line.
-ghost use Rattle.std.specs.Prelude.{◌≡◌, ◌≤◌, ◌+◌, true, None, Ok, is_none};
+ghost use Rattle.std.specs.Prelude.{◌≡◌, ◌≤◌, ◌+◌, true, None, is_none};
 ghost use Rattle.gd_tree.specs.Bounds.{json_depth};
-ghost use Rattle.gd_tree.specs.Json.{list, item, no_items, object};
+ghost use Rattle.gd_tree.specs.Json.{list, item, no_items};
 ghost use Rattle.gd_json.specs.View.{view, items_view, members_view};
 ghost use Rattle.gd_form_laws.specs.Faults.{query_fault, clause_fault};
 ghost use Rattle.gd_form_laws.specs.WriteFaults.{change_fault};
 
+use crate::change::Change;
 use crate::clause::Clause;
 use gd_json::value::{Json, JsonText};
 
@@ -115,9 +116,9 @@ impl<'a> Query<'a> {
 }
 
 impl WriteRequest {
-    ghost use Rattle.gd_defs.specs.Change.{change_of};
-    ghost use Rattle.gd_mql.specs.Envelopes.{spelled_change};
+    ghost use Rattle.gd_form_laws.specs.SpelledChange.{spelled_change, entries_depth};
     ghost use Rattle.gd_mql.specs.Requests.{write_view};
+    ghost use Rattle.gd_mql.specs.Entries.{change_view};
 
     /// The write of a clause in a scope; the clause has the form of one and nests at most 14 values.
     pub fn new(scope: Option<JsonText>, query: Json) -> WriteRequest
@@ -128,12 +129,13 @@ impl WriteRequest {
         WriteRequest { scope, query }
     }
 
-    /// The members of the root clause, which spell the change.
-    pub fn members(&self) -> &[(JsonText, Json)]
-        ensures { change_of (object (members_view result.now)) ≡ Ok (write_view self.now).change }
+    /// The change. At most 14 forms `{..}` and lists lie one within another in it, the clause itself among them.
+    pub fn change(&self) -> Change<'_>
+        ensures shown { change_view result ≡ (write_view self.now).change }
+        ensures depth { 1 + entries_depth (write_view self.now).change.members ≤ 14 }
     {
         match self.query.as_object() {
-            Some(members) => members,
+            Some(members) => Change::of(members),
             None => unreachable!(),
         }
     }

@@ -5,4 +5,3 @@ pub mod Replies
 pub mod Judged
 pub mod Here
 pub mod Shapes
-pub mod Creates

@@ -2,5 +2,4 @@
 #![tactic(auto)]
 
 mod built;
-mod create;
 pub mod serving;

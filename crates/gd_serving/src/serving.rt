@@ -1,5 +1,5 @@
 //! A run that is served line by line over the log of a disk.
-ghost use Rattle.std.specs.Prelude.{IsTrue, ◌≡◌, ◌≢◌, ◌≤◌, ◌<◌, ◌+◌, ◌++◌, ◌∷◌, ◌^◌, ℕ, Bool, List, true, false, length, Ok, Err, None, Some, IsErr, IfOk, IfErr, IfSome, OnOk, OnErr, if◌then◌else◌, codes, []};
+ghost use Rattle.std.specs.Prelude.{IsTrue, ◌≡◌, ◌≢◌, ◌≤◌, ◌<◌, ◌+◌, ◌++◌, ◌∷◌, ◌^◌, ℕ, Bool, List, true, false, length, Ok, Err, None, Some, IsErr, IsSome, IfOk, IfErr, IfSome, OnOk, OnErr, if◌then◌else◌, codes, []};
 ghost use Rattle.gd_base.specs.Counts.{Rose};
 ghost use Rattle.gd_prim.specs.declared.Primitive.{Primitive};
 ghost use Rattle.gd_prim.specs.declared.What.TheVariants as what;
@@ -35,7 +35,6 @@ use gd_base::memory::Memory;
 use gd_base::steps::Steps;
 use gd_change::fault::ChangeFault;
 use crate::built::read_form;
-use crate::create::create_form;
 use gd_change::form::CreateForm;
 use gd_change::write::evaluate;
 use gd_disk::disk::Disk;
@@ -298,7 +297,7 @@ impl<D: Disk> Serving<D> {
         ensures says { IfOk result (λ form. IsSome form → says_name_of (prims_of self.now.progress.batches) ≡ true) }
     {
         if self.says_name {
-            create_form(request)
+            CreateForm::of(request)
         } else {
             Ok(None)
         }
