@@ -164,7 +164,6 @@ other_shape (part.Member n (form.Many c)) no_ask no_literal = many_shape n c
 
 -- ---- all members
 
-
 -- what the members ask, from what the first of them do
 pub members_asked : (ms after_guid after_id left : query.Members) (g : Bool) (i : IdAsk) (n : Option (List ℕ)) (b : Bool) → (g, after_guid) ≡ guid_first ms → (i, after_id) ≡ id_first after_guid → (n, left) ≡ name_first after_id
     → b ≡ none_left left → members_ask ms ≡ (if b then Some (record { guid = g; id = i; name = n }) else None)

@@ -31,10 +31,10 @@ ghost use Rattle.gd_serving.specs.Replies.{Replies};
 ghost use Rattle.gd_serving.specs.Judged.{made_of, IsJudged, IsStorable, ComesAs};
 ghost use Rattle.gd_reply.specs.Replies.{reply_text, failure_line};
 
+use crate::built::read_form;
 use gd_base::memory::Memory;
 use gd_base::steps::Steps;
 use gd_change::fault::ChangeFault;
-use crate::built::read_form;
 use gd_change::form::CreateForm;
 use gd_change::write::evaluate;
 use gd_disk::disk::Disk;
@@ -272,9 +272,7 @@ impl<D: Disk> Serving<D> {
         };
         match line_from(alloc, bytes) {
             Ok(Line::Read { request, .. }) => made(self.read(alloc, &request)),
-            Ok(Line::Write { request, .. }) => {
-                self.write(alloc, clock, &request, bytes.len())
-            }
+            Ok(Line::Write { request, .. }) => { self.write(alloc, clock, &request, bytes.len()) }
             Err(fault) => made(self.fault_reply(alloc, fault)),
         }
     }
