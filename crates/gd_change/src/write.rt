@@ -9,12 +9,12 @@ ghost use Rattle.gd_change.specs.Fault.{GivesChange, IsSmall};
 
 use crate::create;
 use crate::fault::ChangeFault;
+use crate::form::CreateForm;
 use gd_base::id::Id;
 use gd_base::memory::Memory;
 use gd_base::text::{TEXT_LIMIT, Text};
 use gd_json::value::{Json, JsonText};
 use gd_mql::fault::{Code, Path};
-use crate::form::CreateForm;
 use gd_prim::Batch;
 use gd_store::store::Store;
 use std::alloc::Global;

@@ -4,3 +4,5 @@ pub mod Changes
 pub mod Clauses
 pub mod ClauseHeads
 pub mod Nesting
+pub mod Entries
+pub mod ChangeNesting

@@ -1,3 +1,5 @@
 pub mod Faults
 pub mod WriteFaults
 pub mod Spelled
+pub mod SpelledChange
+pub mod Laws

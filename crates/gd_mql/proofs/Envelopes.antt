@@ -17,7 +17,8 @@ use Rattle.gd_form_laws.specs.Faults.{query_fault}
 use Rattle.gd_form_laws.specs.WriteFaults.{change_fault}
 use Rattle.gd_form_laws.specs.Spelled.{spelled_query}
 use Rattle.gd_form_laws.proofs.Clauses.{query-given}
-use Rattle.gd_mql.specs.Envelopes.{read_fault, write_fault, envelope_fault, paged_fault, written_fault, change_or, spelled_change, read_line_of, write_line_of}
+use Rattle.gd_form_laws.specs.SpelledChange.{change_or, spelled_change}
+use Rattle.gd_mql.specs.Envelopes.{read_fault, write_fault, envelope_fault, paged_fault, written_fault, read_line_of, write_line_of}
 
 -- ---- names of members
 

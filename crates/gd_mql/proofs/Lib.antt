@@ -11,3 +11,4 @@ pub mod Shown
 pub mod Envelopes
 pub mod Refused
 pub mod SortedBy
+pub mod Entered

@@ -45,7 +45,7 @@ clause_heads root (m ∷ ms) some none = sym (other-directives root m.0 (view m.
 -- ---- forms
 
 -- what an object or a list is
-object_shape : (j : tree.Json) (ms : tree.Members) → Some ms ≡ members_in j → j ≡ tree.object ms
+pub object_shape : (j : tree.Json) (ms : tree.Members) → Some ms ≡ members_in j → j ≡ tree.object ms
 object_shape tree.null ms is = cc
 object_shape (tree.boolean b) ms is = cc
 object_shape (tree.number n) ms is = cc
@@ -53,7 +53,7 @@ object_shape (tree.text t) ms is = cc
 object_shape (tree.list js) ms is = cc
 object_shape (tree.object ns) ms is = ap tree.object (sym (some_same ms ns is))
 
-list_shape : (j : tree.Json) (js : tree.Items) → Some js ≡ items_in j → j ≡ tree.list js
+pub list_shape : (j : tree.Json) (js : tree.Items) → Some js ≡ items_in j → j ≡ tree.list js
 list_shape tree.null js is = cc
 list_shape (tree.boolean b) js is = cc
 list_shape (tree.number n) js is = cc

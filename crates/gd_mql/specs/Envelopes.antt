@@ -4,7 +4,6 @@ use Rattle.std.specs.Result.{result_err}
 use Rattle.gd_grammar.specs.Chain.{◌>>=◌, map_err}
 use Rattle.gd_tree.specs.Json.{Json, object}
 use Rattle.gd_defs.specs.Query.{Fault, envelope}
-use Rattle.gd_defs.specs.Change.{Change, existing_object, no_members, change_of}
 use Rattle.gd_form_laws.specs.Faults.{query_fault}
 use Rattle.gd_form_laws.specs.WriteFaults.{change_fault}
 use Rattle.gd_runs.specs.Request.{Line, read, write, bad_form, read_of, write_of, has_pages}
@@ -31,15 +30,6 @@ paged_fault (Some asks) q = if asks && not (has_pages q) then envelope_fault els
 abbrev pub written_fault : Json → Option Fault
 written_fault (object ms) = change_fault (object ms)
 written_fault _ = envelope_fault
-
--- the change, or one of no members where there is a fault
-abbrev pub change_or : Result Change Fault → Change
-change_or (Ok c) = c
-change_or (Err f) = record { root = existing_object []; members = no_members }
-
--- the change that a value spells
-unfoldable pub spelled_change : Json → Change
-spelled_change j = change_or (change_of j)
 
 -- the line of a session with the read that an envelope spells
 abbrev pub read_line_of : ℕ → Json → Result Line InputFault

@@ -6,5 +6,6 @@ pub mod Directives
 pub mod QueryForm
 pub mod Changes
 pub mod Clauses
+pub mod Entries
 pub mod Envelopes
 pub mod Requests

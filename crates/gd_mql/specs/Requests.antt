@@ -8,7 +8,7 @@ use Rattle.gd_runs.specs.Input.{InputFault}
 use Rattle.gd_form_laws.specs.Spelled.{spelled_query}
 use Rattle.gd_mql.specs.Clauses.{clause_view}
 use Rattle.gd_mql.specs.Line.{fault_view}
-use Rattle.gd_mql.specs.Envelopes.{spelled_change}
+use Rattle.gd_form_laws.specs.SpelledChange.{spelled_change}
 use Rattle.gd_mql.specs.declared.fault.LineFault.{LineFault}
 use Rattle.gd_mql.specs.declared.fault.LineFault.TheVariants as fault
 use Rattle.gd_mql.specs.declared.request.CursorAsk.{CursorAsk}

@@ -1,6 +1,7 @@
 //! What a line of input asks.
 #![tactic(auto)]
 
+pub mod change;
 mod change_form;
 pub mod clause;
 pub mod directive;

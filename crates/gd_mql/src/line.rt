@@ -12,8 +12,8 @@ ghost use Rattle.gd_mql.specs.Requests.{cursor_view, read_view, write_view, Give
 
 use crate::envelope::{check_read, check_write};
 use crate::fault::LineFault;
-use crate::session::session;
 use crate::request::{CursorAsk, Line, ReadRequest, WriteRequest};
+use crate::session::session;
 use gd_base::memory::Memory;
 use gd_json::from::{JsonFault, json_from};
 use gd_json::value::{Json, JsonText};

@@ -6,6 +6,7 @@ ghost use Rattle.gd_json.specs.View.{view, items_view, members_view};
 ghost use Rattle.gd_form_laws.specs.Faults.{query_fault, clause_fault};
 ghost use Rattle.gd_form_laws.specs.WriteFaults.{change_fault};
 
+use crate::change::Change;
 use crate::clause::Clause;
 use gd_json::value::{Json, JsonText};
 
@@ -115,8 +116,9 @@ impl<'a> Query<'a> {
 }
 
 impl WriteRequest {
-    ghost use Rattle.gd_mql.specs.Envelopes.{spelled_change};
+    ghost use Rattle.gd_form_laws.specs.SpelledChange.{spelled_change, entries_depth};
     ghost use Rattle.gd_mql.specs.Requests.{write_view};
+    ghost use Rattle.gd_mql.specs.Entries.{change_view};
 
     /// The write of a clause in a scope; the clause has the form of one and nests at most 14 values.
     pub fn new(scope: Option<JsonText>, query: Json) -> WriteRequest
@@ -125,5 +127,16 @@ impl WriteRequest {
         ensures { write_view result ≡ record { scope = scope; change = spelled_change (view query) } }
     {
         WriteRequest { scope, query }
+    }
+
+    /// The change. At most 14 forms `{..}` and lists lie one within another in it, the clause itself among them.
+    pub fn change(&self) -> Change<'_>
+        ensures shown { change_view result ≡ (write_view self.now).change }
+        ensures depth { 1 + entries_depth (write_view self.now).change.members ≤ 14 }
+    {
+        match self.query.as_object() {
+            Some(members) => Change::of(members),
+            None => unreachable!(),
+        }
     }
 }

@@ -29,13 +29,15 @@ fn spells_write(alloc: Global, text: &str, session: u32) -> bool {
 
 #[test]
 fn reads_a_read(rt: HostRuntime) {
-    let text = "{\"read\":{\"query\":[{\"type\":\"/people/person\",\"sort\":\"-name\",\"a:parent\":[{\"!/people/person/children\":null}]}]},\"sid\":7}";
+    let text =
+        "{\"read\":{\"query\":[{\"type\":\"/people/person\",\"sort\":\"-name\",\"a:parent\":[{\"!/people/person/children\":null}]}]},\"sid\":7}";
     assert!(rt; spells_read(rt.alloc(), text, 7));
 }
 
 #[test]
 fn reads_a_write(rt: HostRuntime) {
-    let text = "{\"sid\":63,\"write\":{\"query\":{\"create\":\"unless_exists\",\"name\":\"Ann\",\"guid\":null}}}";
+    let text =
+        "{\"sid\":63,\"write\":{\"query\":{\"create\":\"unless_exists\",\"name\":\"Ann\",\"guid\":null}}}";
     assert!(rt; spells_write(rt.alloc(), text, 63));
 }
 

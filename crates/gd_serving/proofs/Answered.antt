@@ -1,5 +1,5 @@
 -- What a line comes to, by what its bytes spell.
-use Rattle.std.proofs.Common.{◌≡◌, ◌≢◌, ◌<◌, ℕ, List, length, Bool, true, if◌then◌else◌, Result, Ok, Err, IsErr, IfOk, Vec, Global, refl, ap, sym, subst, ◌∙◌}
+use Rattle.std.proofs.Common.{◌≡◌, ◌≢◌, ◌<◌, ℕ, List, length, Bool, true, false, if◌then◌else◌, Result, Ok, Err, IsErr, IfOk, Vec, Global, refl, ap, sym, subst, ◌∙◌}
 use Rattle.gd_prim.specs.declared.Primitive.{Primitive}
 use Rattle.gd_prim.specs.History.{prims_at}
 use Rattle.gd_mql.specs.declared.request.Line.{Line}
@@ -82,6 +82,11 @@ pub unbuilt_comes : (may : ℕ → Bool) (p : Progress) (bytes : List ℕ) (sid 
     → IfOk r (λ reply. reply.items ≡ input_fault_line p.lines not_built) → IfOk r (λ reply. ComesTo may p bytes reply.items p)
 unbuilt_comes may p bytes sid w (Err e) is refused prints = tt
 unbuilt_comes may p bytes sid w (Ok reply) is refused prints = faulty not_built (line_unbuilt p bytes (request.write sid w) is (refused sid)) prints refl
+
+-- the reply to it tells no failure of the disk
+pub unbuilt_tells_none : (k : ℕ) (P : Type 0) (r : Result (Vec ℕ Global) Memory) → IfOk r (λ reply. reply.items ≡ input_fault_line k not_built) → IfOk r (λ reply. tells_fault k reply.items ≡ true → P)
+unbuilt_tells_none k P (Err e) prints = tt
+unbuilt_tells_none k P (Ok reply) prints = λ tells. let same : tells_fault k reply.items ≡ false = ap (tells_fault k) prints in cc
 
 -- the kept bytes are as many as the line has
 pub kept_length : (line : RoundLine) (v : Vec ℕ Global) (items bytes : List ℕ) (n : ℕ) → line ≡ Bytes v → items ≡ v.items → n ≡ length items → IsKept 262_144 line bytes → length bytes ≡ n

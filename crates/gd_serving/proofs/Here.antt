@@ -1,5 +1,5 @@
 -- When a request is carried out over a run.
-use Rattle.std.proofs.Common.{◌≡◌, ℕ, List, length, Bool, true, false, ◌&&◌, Option, Some, None, Result, Ok, Err, option_map, refl, ap, sym, ◌∙◌}
+use Rattle.std.proofs.Common.{◌≡◌, ℕ, List, length, Bool, true, false, ◌&&◌, Option, Some, None, Result, Ok, Err, IfOk, IsSome, option_map, refl, ap, sym, ◌∙◌}
 use Rattle.gd_grammar.specs.Chain.{◌>>=◌}
 use Rattle.gd_prim.specs.declared.Batch.{Batch}
 use Rattle.gd_prim.specs.History.{prims_of, prims_at}
@@ -16,6 +16,11 @@ use Rattle.gd_served_laws.specs.Step.{line_now, AsksWrite}
 use Rattle.gd_serving.specs.Here.{IsReadRefused, IsWriteRefused, IsReadHere, IsWriteHere, AnswersRead, carried_out, not_carried_out}
 use Rattle.gd_serving.proofs.Says.{says_at}
 use Rattle.gd_serving.proofs.Whole.{prims_at-all}
+
+-- where a form was found, this holds, as it does anyhow
+pub holds_there : {A E : Type 0} (P : Type 0) (r : Result (Option A) E) → P → IfOk r (λ form. IsSome form → P)
+holds_there P (Ok form) holds = λ some. holds
+holds_there P (Err e) holds = tt
 
 and_false : (b : Bool) → (b && false) ≡ false
 and_false true = refl

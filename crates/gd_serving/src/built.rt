@@ -1,11 +1,11 @@
-//! Which forms of requests are carried out so far: reads by guid, id and name, and the create of a name.
+//! Which reads are carried out so far: those by guid, id and name.
 ghost use Rattle.std.specs.Prelude.{◌≡◌, ◌&&◌, not, option_map, IfOk};
 ghost use Rattle.gd_runs.specs.Built as defined;
 ghost use Rattle.gd_runs.specs.Request.{asks_page};
 ghost use Rattle.gd_mql.specs.Clauses.{left};
 ghost use Rattle.gd_mql.specs.Directives.{directives_view};
 ghost use Rattle.gd_mql.specs.Names.{name_view};
-ghost use Rattle.gd_mql.specs.Requests.{read_view, write_view, cursor_view};
+ghost use Rattle.gd_mql.specs.Requests.{read_view, cursor_view};
 ghost use Rattle.gd_read.specs.Asks.{ask_view, id_view};
 ghost use Rattle.gd_serving.specs.Shapes.{IsShape, id_asked};
 
@@ -15,11 +15,11 @@ use gd_mql::clause::{Form, Members, Part};
 use gd_mql::directive::Directives;
 use gd_mql::name::Name;
 use gd_mql::query_form::has_operator;
-use gd_change::form::CreateForm;
-use gd_mql::request::{CursorAsk, ReadRequest, WriteRequest};
+use gd_mql::request::{CursorAsk, ReadRequest};
 use gd_read::ask::{IdAsk, ReadForm};
 
 /// What a part of a clause is, as far as the built form knows of it.
+#[derive(Clone, Copy)]
 enum Shape<'a> {
     /// A name with null.
     Ask(Name<'a>),
@@ -30,6 +30,7 @@ enum Shape<'a> {
 }
 
 /// What a read asks of ids, borrowed from its query.
+#[derive(Clone, Copy)]
 enum IdAsked<'a> {
     Absent,
     Asked,
@@ -37,7 +38,7 @@ enum IdAsked<'a> {
 }
 
 fn literal_shape<'a>(name: Name<'a>, value: &'a Json) -> Shape<'a>
-    ensures { IsShape (Part.Member name (Form.Literal value)) result }
+    ensures { IsShape (Part.Member name.entry (Form.Literal value.entry)) result }
 {
     match value.as_text() {
         Some(text) => Shape::Text(name, text),
@@ -45,13 +46,22 @@ fn literal_shape<'a>(name: Name<'a>, value: &'a Json) -> Shape<'a>
     }
 }
 
+fn member_shape<'a>(name: Name<'a>, form: Form<'a>) -> Shape<'a>
+    ensures { IsShape (Part.Member name.entry form.entry) result }
+{
+    match form {
+        Form::Ask => Shape::Ask(name),
+        Form::Literal(value) => literal_shape(name, value),
+        Form::AskAll | Form::Operand(_) | Form::One(_) | Form::Many(_) => Shape::Other,
+    }
+}
+
 fn shape_of(part: Part<'_>) -> Shape<'_>
-    ensures { IsShape part result }
+    ensures { IsShape part.entry result }
 {
     match part {
-        Part::Member(name, Form::Ask) => Shape::Ask(name),
-        Part::Member(name, Form::Literal(value)) => literal_shape(name, value),
-        _ => Shape::Other,
+        Part::Member(name, form) => member_shape(name, form),
+        Part::Sort(_) => Shape::Other,
     }
 }
 
@@ -64,7 +74,7 @@ fn is_plain(name: &Name<'_>, word: &str) -> bool
 
 /// Whether the first member asks for the guid, and the members behind it.
 fn guid_first(members: Members<'_>) -> (bool, Members<'_>)
-    ensures { (result.0, left result.1) ≡ defined.guid_first (left members) }
+    ensures { (result.0, left result.1) ≡ defined.guid_first (left members.entry) }
 {
     let Some((part, rest)) = members.split() else {
         return (false, members);
@@ -82,7 +92,7 @@ fn guid_first(members: Members<'_>) -> (bool, Members<'_>)
 
 /// What the first member asks of the id, and the members behind it.
 fn id_first(members: Members<'_>) -> (IdAsked<'_>, Members<'_>)
-    ensures { (id_asked result.0, left result.1) ≡ defined.id_first (left members) }
+    ensures { (id_asked result.0, left result.1) ≡ defined.id_first (left members.entry) }
 {
     let Some((part, rest)) = members.split() else {
         return (IdAsked::Absent, members);
@@ -106,7 +116,7 @@ fn id_first(members: Members<'_>) -> (IdAsked<'_>, Members<'_>)
 
 /// The name that the first member asks for, and the members behind it.
 fn name_first(members: Members<'_>) -> (Option<&JsonText>, Members<'_>)
-    ensures { (option_map (λ t. t.now) result.0, left result.1) ≡ defined.name_first (left members) }
+    ensures { (option_map (λ t. t.now) result.0, left result.1) ≡ defined.name_first (left members.entry) }
 {
     let Some((part, rest)) = members.split() else {
         return (None, members);
@@ -124,7 +134,7 @@ fn name_first(members: Members<'_>) -> (Option<&JsonText>, Members<'_>)
 
 /// Whether no member is left.
 fn none_left(members: Members<'_>) -> bool
-    ensures { result ≡ defined.none_left (left members) }
+    ensures { result ≡ defined.none_left (left members.entry) }
 {
     members.split().is_none()
 }
@@ -148,7 +158,7 @@ fn asks_a_page(cursor: &CursorAsk) -> bool
 
 /// What is asked of ids, as a value of its own.
 fn own_id(asked: IdAsked<'_>) -> Result<IdAsk, Memory>
-    ensures { IfOk result (λ id. id_view id ≡ id_asked asked) }
+    ensures { IfOk result (λ id. id_view id ≡ id_asked asked.entry) }
 {
     match asked {
         IdAsked::Absent => Ok(IdAsk::Absent),
@@ -169,7 +179,7 @@ fn own_name(asked: Option<&JsonText>) -> Result<Option<JsonText>, Memory>
 
 /// What the members `guid`, `id` and `name` ask, where there are no others.
 fn members_form(members: Members<'_>) -> Result<Option<ReadForm>, Memory>
-    ensures { IfOk result (λ form. option_map ask_view form ≡ defined.members_ask (left members)) }
+    ensures { IfOk result (λ form. option_map ask_view form ≡ defined.members_ask (left members.entry)) }
 {
     let (asks_guid, rest) = guid_first(members);
     let (id, rest) = id_first(rest);
@@ -199,13 +209,4 @@ pub(crate) fn read_form(request: &ReadRequest) -> Result<Option<ReadForm>, Memor
         return Ok(None);
     }
     members_form(query.root.members())
-}
-
-/// What a write asks, where it is of the built form: without a scope, the create of a name. (To be written, when the walk
-/// of a write stands.)
-pub(crate) fn create_form(request: &WriteRequest) -> Result<Option<CreateForm>, Memory>
-    ensures { IfOk result (λ form. option_map (λ f. (f.asks_guid, f.name)) form ≡ defined.write_ask (write_view request.now)) }
-{
-    let _unread = request;
-    Ok(None)
 }

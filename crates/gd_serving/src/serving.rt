@@ -1,5 +1,5 @@
 //! A run that is served line by line over the log of a disk.
-ghost use Rattle.std.specs.Prelude.{IsTrue, ◌≡◌, ◌≢◌, ◌≤◌, ◌<◌, ◌+◌, ◌++◌, ◌∷◌, ◌^◌, ℕ, Bool, List, true, false, length, Ok, Err, None, Some, IsErr, IfOk, IfErr, IfSome, OnOk, OnErr, if◌then◌else◌, codes, []};
+ghost use Rattle.std.specs.Prelude.{IsTrue, ◌≡◌, ◌≢◌, ◌≤◌, ◌<◌, ◌+◌, ◌++◌, ◌∷◌, ◌^◌, ℕ, Bool, List, true, false, length, Ok, Err, None, Some, IsErr, IsSome, IfOk, IfErr, IfSome, OnOk, OnErr, if◌then◌else◌, codes, []};
 ghost use Rattle.gd_base.specs.Counts.{Rose};
 ghost use Rattle.gd_prim.specs.declared.Primitive.{Primitive};
 ghost use Rattle.gd_prim.specs.declared.What.TheVariants as what;
@@ -31,10 +31,10 @@ ghost use Rattle.gd_serving.specs.Replies.{Replies};
 ghost use Rattle.gd_serving.specs.Judged.{made_of, IsJudged, IsStorable, ComesAs};
 ghost use Rattle.gd_reply.specs.Replies.{reply_text, failure_line};
 
+use crate::built::read_form;
 use gd_base::memory::Memory;
 use gd_base::steps::Steps;
 use gd_change::fault::ChangeFault;
-use crate::built::{create_form, read_form};
 use gd_change::form::CreateForm;
 use gd_change::write::evaluate;
 use gd_disk::disk::Disk;
@@ -272,9 +272,7 @@ impl<D: Disk> Serving<D> {
         };
         match line_from(alloc, bytes) {
             Ok(Line::Read { request, .. }) => made(self.read(alloc, &request)),
-            Ok(Line::Write { request, .. }) => {
-                self.write(alloc, clock, &request, bytes.len())
-            }
+            Ok(Line::Write { request, .. }) => { self.write(alloc, clock, &request, bytes.len()) }
             Err(fault) => made(self.fault_reply(alloc, fault)),
         }
     }
@@ -297,9 +295,19 @@ impl<D: Disk> Serving<D> {
         ensures says { IfOk result (λ form. IsSome form → says_name_of (prims_of self.now.progress.batches) ≡ true) }
     {
         if self.says_name {
-            create_form(request)
+            CreateForm::of(request)
         } else {
             Ok(None)
+        }
+    }
+
+    /// The reply that tells a failure at the next line.
+    fn failed(&self, failure: Failure) -> Reply
+        ensures text { reply_text result ≡ failure_line failure self.now.progress.lines }
+    {
+        Reply::Failed {
+            failure,
+            line: self.lines,
         }
     }
 
