@@ -12,8 +12,7 @@ use gd_template::template::Template;
 use std::alloc::Global;
 use std::marker::Model;
 
-/// A query with its words looked up, and the template for which it stands. Contracts see it as what is asked, the
-/// definitions' `Asked`.
+/// A query with its words looked up, and the template for which it stands. Contracts see it as what is asked.
 #[derive(Drop)]
 pub struct Plan {
     template: Template,
@@ -21,24 +20,28 @@ pub struct Plan {
 }
 
 impl Model for Plan {
+    ghost use Rattle.gd_plan.specs.declared.asked.Asked.{Asked};
+    ghost use Rattle.gd_plan.specs.contracts.asked.Asked as codes;
+
+    ghost Value = { Asked };
+
+    ghost coded = { codes.the_row.coded };
+
     ghost use Rattle.std.specs.Prelude.{◌≡◌};
-    ghost use Rattle.gd_defs.specs.Asked as defs;
-    ghost use Rattle.gd_defs.specs.Plan as meant;
+    ghost use Rattle.gd_defs.specs.Plan as defs;
     ghost use Rattle.gd_template.specs.Built.{view as template_view};
     ghost use Rattle.gd_plan.specs.Asked.{asked_view};
 
-    ghost Value = { defs.Asked };
+    ghost view = { λ p. p.asked };
 
-    ghost view = { λ p. asked_view p.asked };
-
-    ghost invariant = { λ p. template_view p.template ≡ meant.template_of (asked_view p.asked) };
+    ghost invariant = { λ p. template_view p.template ≡ defs.template_of (asked_view p.asked) };
 }
 
 impl Plan {
     /// The plan of what is asked, which it takes over. `TooDeep`: more than 32 templates would lie one within another in
     /// the template for which it stands. `Memory`: an allocation was refused.
     pub fn new(alloc: Global, asked: Asked) -> Result<Plan, PlanFault>
-        ensures made { IfOk result (λ plan. plan ≡ asked_view asked) }
+        ensures made { IfOk result (λ plan. plan ≡ asked) }
         ensures depth { let made = defs.template_of (asked_view asked) in
             MatchResult result (λ _. depth made ≤ max_depth) (λ fault. fault ≢ PlanFault.Memory → max_depth < depth made) }
     {
@@ -48,14 +51,14 @@ impl Plan {
 
     /// The template for which the query stands: its answers are the rows, and its weights are theirs. It takes no memory.
     pub fn template(&self) -> &Template
-        ensures { view result.now ≡ defs.template_of self.now }
+        ensures { view result.now ≡ defs.template_of (asked_view self.now) }
     {
         &self.template
     }
 
     /// What is asked. It takes no memory.
     pub fn asked(&self) -> &Asked
-        ensures { asked_view result.now ≡ self.now }
+        ensures { result.now ≡ self.now }
     {
         &self.asked
     }
