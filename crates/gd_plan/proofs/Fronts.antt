@@ -1,48 +1,35 @@
 -- Clauses in front of others.
-use Rattle.std.proofs.Common.{◌≡◌, ◌≢◌, ◌≤◌, ℕ, ◌<◌, ◌+◌, ◌++◌, max, Bool, true, false, List, [], ◌∷◌, map, drop, length, get_or, Option, Some, None, Vec, Global, refl, sym, ap, ◌∙◌, arith}
+use Rattle.std.proofs.Common.{◌≡◌, ◌≢◌, ◌≤◌, ℕ, ◌<◌, ◌+◌, ◌++◌, List, [], ◌∷◌, map, drop, length, get_or, Option, Some, None, refl, sym, ap, ◌∙◌, arith}
 use Rattle.std.proofs.lemmas.List.{at_drop_all}
 use Rattle.std.specs.Option.{option_to_list}
-use Rattle.gd_json.specs.declared.value.Json.{Json}
 use Rattle.gd_defs.specs.Asked as defs
-use Rattle.gd_defs.specs.Plan.{unless_literal, sort_clauses, clauses_of}
-use Rattle.gd_defs.specs.Template.{Clauses, no_clauses, clause, depth, clauses_depth, max_depth}
+use Rattle.gd_defs.specs.Plan.{sort_clauses, clauses_of}
+use Rattle.gd_defs.specs.Template.{Clauses, no_clauses, clause, clauses_depth, max_depth}
 use Rattle.gd_template.specs.View.{Parts, parts, clauses_of as listed, clauses_view}
 use Rattle.gd_template.specs.declared.template.Clause.{Clause}
-use Rattle.gd_plan.specs.Seen.{test_view, own_view, sort_key_view}
-use Rattle.gd_plan.specs.Asked.{asking_view, member_step, put, members_view}
-use Rattle.gd_plan.specs.Making.{part_depth, parts_depth, in_front, unless_parts, member_part, member_parts}
+use Rattle.gd_plan.specs.Seen.{sort_key_view}
+use Rattle.gd_plan.specs.Asked.{member_step, put, members_view}
+use Rattle.gd_plan.specs.Making.{parts_depth, in_front, member_parts}
 use Rattle.gd_plan.specs.Planned.{with_clause}
 use Rattle.gd_plan.specs.declared.fault.PlanFault.{PlanFault}
 use Rattle.gd_plan.specs.declared.fault.PlanFault.TheVariants.{Memory}
-use Rattle.gd_plan.specs.declared.asked.Own.{Own}
 use Rattle.gd_plan.specs.declared.asked.SortKey.{SortKey}
-use Rattle.gd_plan.specs.declared.test.Test.{Test}
-use Rattle.gd_plan.specs.declared.asked.Asking.{Asking}
-use Rattle.gd_plan.specs.declared.asked.Member.{Member, Own as Own', Asks}
+use Rattle.gd_plan.specs.declared.asked.Member.{Member}
 use Rattle.gd_plan.specs.declared.asked.Member.TheOpen.{Member-F}
-use Rattle.gd_plan.proofs.Members.{put_own, put_asks, put_step, members_left, left_at}
+use Rattle.gd_plan.proofs.Members.{put_step, members_left, left_at}
 
 -- some in front of others in front of the rest
-pub front-append : (xs ys : List Parts) (rest : Clauses) → in_front (xs ++ ys) rest ≡ in_front xs (in_front ys rest)
+front-append : (xs ys : List Parts) (rest : Clauses) → in_front (xs ++ ys) rest ≡ in_front xs (in_front ys rest)
 front-append [] ys rest = refl
 front-append (x ∷ xs) ys rest = ap (clause x.0 x.1 x.2) (front-append xs ys rest)
 
 -- with nothing behind them
-pub front_alone : (xs : List Parts) → in_front xs no_clauses ≡ listed xs
+front_alone : (xs : List Parts) → in_front xs no_clauses ≡ listed xs
 front_alone [] = refl
 front_alone (x ∷ xs) = ap (clause x.0 x.1 x.2) (front_alone xs)
 
-pub front_seen : (cs : List Clause) → in_front (map parts cs) no_clauses ≡ clauses_view cs
+front_seen : (cs : List Clause) → in_front (map parts cs) no_clauses ≡ clauses_view cs
 front_seen cs = front_alone (map parts cs)
-
-pub listed-append : (xs ys : List Parts) → listed (xs ++ ys) ≡ in_front xs (listed ys)
-listed-append [] ys = refl
-listed-append (x ∷ xs) ys = ap (clause x.0 x.1 x.2) (listed-append xs ys)
-
--- what stands in front of clauses that come of no literal
-pub unless_front : (given : Bool) (rest : Clauses) → in_front (unless_parts given) rest ≡ unless_literal given rest
-unless_front true rest = refl
-unless_front false rest = refl
 
 -- none of some clauses lies deeper than all
 behind_depth : (xs : List Parts) (rest : Clauses) → clauses_depth rest ≤ clauses_depth (in_front xs rest)
@@ -53,7 +40,7 @@ listed_depth : (ys : List Parts) (rest : Clauses) → parts_depth ys ≤ clauses
 listed_depth [] rest = omega arith
 listed_depth (y ∷ ys) rest = omega (arith, listed_depth ys rest)
 
-pub among_depth : (xs ys : List Parts) (rest : Clauses) → parts_depth ys ≤ clauses_depth (in_front xs (in_front ys rest))
+among_depth : (xs ys : List Parts) (rest : Clauses) → parts_depth ys ≤ clauses_depth (in_front xs (in_front ys rest))
 among_depth xs ys rest = omega (arith, listed_depth ys rest, behind_depth xs (in_front ys rest))
 
 -- a member of a layer in front of others
@@ -63,23 +50,14 @@ step_front sort (Member-F.Own name what t operand) rest = refl
 step_front sort (Member-F.Asks name asking inner) rest = refl
 
 -- the clauses of members: that of the first in front of the others
-pub member_front : (sort : List defs.SortKey) (m : Member) (rest : defs.Members)
+member_front : (sort : List defs.SortKey) (m : Member) (rest : defs.Members)
     → clauses_of sort (put m rest) ≡ in_front (member_parts (put m defs.no_members)) (clauses_of sort rest)
 member_front sort m rest = let f = put_step m in rw f.1 (step_front sort f.0 rest)
 
 -- the same of those from an index on
-pub clauses_left : (sort : List defs.SortKey) (ms : List Member) (i : ℕ) (m : Member) → i < length ms → m ≡ get_or ms i m
+clauses_left : (sort : List defs.SortKey) (ms : List Member) (i : ℕ) (m : Member) → i < length ms → m ≡ get_or ms i m
     → clauses_of sort (members_view (drop i ms)) ≡ in_front (member_parts (put m defs.no_members)) (clauses_of sort (members_view (drop (i + 1) ms)))
 clauses_left sort ms i m within is = ap (clauses_of sort) (members_left ms i m within is) ∙ member_front sort m (members_view (drop (i + 1) ms))
-
--- a computed member has no clause
-pub own_part : (name : List ℕ) (what : Own) (t : Test) (operand : Option Json) → member_parts (put (Own' name what t operand) defs.no_members) ≡ []
-own_part name what t operand = ap member_parts (put_own name what t operand defs.no_members)
-
--- one that asks a property has one
-pub asks_part : (name : List ℕ) (asking : Asking) (inner : Vec Member Global)
-    → member_parts (put (Asks name asking inner) defs.no_members) ≡ member_part (asking_view asking) (members_view inner.items) ∷ []
-asks_part name asking inner = ap member_parts (put_asks name asking inner defs.no_members)
 
 -- a step of a walk over members: the clause of the first is put behind those in front
 pub member_walked : (sort : List defs.SortKey) (front behind : List Parts) (ms : List Member) (i : ℕ) (m : Member) (all : Clauses) (now : List Parts) → i < length ms → m ≡ get_or ms i m
@@ -95,7 +73,7 @@ member_walked sort front behind ms i m all now within is was put_in pushed =
     ∙ was
 
 -- the clause of the first is not deeper than all
-pub member_depth : (sort : List defs.SortKey) (front : List Parts) (ms : List Member) (i : ℕ) (m : Member) (all : Clauses) → i < length ms → m ≡ get_or ms i m
+member_depth : (sort : List defs.SortKey) (front : List Parts) (ms : List Member) (i : ℕ) (m : Member) (all : Clauses) → i < length ms → m ≡ get_or ms i m
     → in_front front (clauses_of sort (members_view (drop i ms))) ≡ all
     → parts_depth (member_parts (put m defs.no_members)) ≤ clauses_depth all
 member_depth sort front ms i m all within is was =

@@ -117,7 +117,10 @@ fn above(value: &Datum, or_equal: bool) -> Result<Option<Constraint>, Memory>
 }
 
 /// Puts a constraint behind others, if there is one.
-pub(crate) fn push_some(constraints: &mut Vec<Constraint>, more: Option<Constraint>) -> Result<(), Memory>
+pub(crate) fn push_some(
+    constraints: &mut Vec<Constraint>,
+    more: Option<Constraint>,
+) -> Result<(), Memory>
     ensures { OnOk result (map constraint_of constraints.new.items ≡ map constraint_of constraints.old.items ++ option_to_list (option_map constraint_of more)) }
 {
     match more {

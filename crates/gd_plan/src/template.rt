@@ -113,7 +113,10 @@ fn no_answer(alloc: Global) -> Result<Vec<Clause>, Memory>
 {
     let constraints = vec![in alloc; Constraint::PlaceIn(Vec::new(alloc))]?;
     let nowhere = bare_template(alloc, constraints);
-    alone(alloc, Clause::new(Mode::Optional, Hop::EndOf(End::Typ), nowhere))
+    alone(
+        alloc,
+        Clause::new(Mode::Optional, Hop::EndOf(End::Typ), nowhere),
+    )
 }
 
 /// The clause on the objects at the other ends of the links of a property.
@@ -148,11 +151,7 @@ fn value_template(
 }
 
 /// The clauses of a member whose answers are keys: on their namespaces.
-fn key_clauses(
-    alloc: Global,
-    asking: &Asking,
-    clause: &[Member],
-) -> Result<Vec<Clause>, PlanFault>
+fn key_clauses(alloc: Global, asking: &Asking, clause: &[Member]) -> Result<Vec<Clause>, PlanFault>
     ensures { Makes (λ cs. clauses_view cs.items) template.clauses_depth (key_clauses (asking_view asking.now) (members_view clause.now)) result }
 {
     let constraints = member_constraints(alloc, Subject::Namespace, clause)?;
@@ -163,11 +162,7 @@ fn key_clauses(
 }
 
 /// The template of the links of a member whose answers are keys.
-fn key_template(
-    alloc: Global,
-    asking: &Asking,
-    clause: &[Member],
-) -> Result<Template, PlanFault>
+fn key_template(alloc: Global, asking: &Asking, clause: &[Member]) -> Result<Template, PlanFault>
     ensures { Makes view template.depth (key_links (asking_view asking.now) (members_view clause.now)) result }
 {
     let constraints = value_constraints(alloc, asking, Kind::Text, clause)?;
@@ -187,11 +182,7 @@ fn object_clause(alloc: Global, asking: &Asking, clause: &[Member]) -> Result<Cl
 }
 
 /// The template of the links of a property with one clause, on their other ends.
-fn object_links(
-    alloc: Global,
-    property: &Property,
-    far: Clause,
-) -> Result<Template, PlanFault>
+fn object_links(alloc: Global, property: &Property, far: Clause) -> Result<Template, PlanFault>
     ensures { Makes view template.depth (object_links property.now (parts far)) result }
 {
     let constraints = links_of(alloc, property)?;
@@ -201,11 +192,7 @@ fn object_links(
 
 /// The template of the links of a member whose answers are objects.
 #[cycle(template)]
-fn object_template(
-    alloc: Global,
-    asking: &Asking,
-    clause: &[Member],
-) -> Result<Template, PlanFault>
+fn object_template(alloc: Global, asking: &Asking, clause: &[Member]) -> Result<Template, PlanFault>
     ensures { Makes view template.depth (object_links asking.now.property (object_part (asking_view asking.now) (members_view clause.now))) result }
 {
     let far = object_clause(alloc, asking, clause)?;
@@ -214,11 +201,7 @@ fn object_template(
 
 /// The template of the links of a member, with the clauses on what stands at their other ends.
 #[cycle(template)]
-fn link_template(
-    alloc: Global,
-    asking: &Asking,
-    clause: &[Member],
-) -> Result<Template, PlanFault>
+fn link_template(alloc: Global, asking: &Asking, clause: &[Member]) -> Result<Template, PlanFault>
     ensures { Makes view template.depth (links_of_member (asking_view asking.now) (members_view clause.now)) result }
 {
     match answers_of(&asking.property) {
