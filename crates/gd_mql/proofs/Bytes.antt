@@ -1,5 +1,5 @@
 -- What the definition says of the bytes of a line, by the value that they spell.
-use Rattle.std.proofs.Common.{◌≡◌, ◌≤◌, ℕ, List, length, Bool, true, false, Result, Ok, Err, refl, nat_lt, arith}
+use Rattle.std.proofs.Common.{◌≡◌, ◌≤◌, ℕ, List, length, false, Ok, Err, refl, nat_lt, arith}
 use Rattle.std.proofs.lemmas.Bool.Decides.{nat_tests}
 use Rattle.gd_tree.specs.Json.{Json}
 use Rattle.gd_json.specs.declared.from.JsonFault.{JsonFault}
