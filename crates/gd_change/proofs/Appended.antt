@@ -1,6 +1,6 @@
 -- What stays of a list of primitives when others are put behind it that succeed none of it.
-use Rattle.std.proofs.Common.{◌≡◌, ◌≤◌, ◌<◌, ℕ, ◌+◌, List, [], ◌∷◌, ◌++◌, length, Bool, true, false, cond, ◌&&◌, ◌||◌, Option, Some, None, refl, ap, sym, ◌∙◌, arith, length-append, append-nil}
-use Rattle.std.specs.Prelude.{slice_get, find, option_and_then, is_some, if◌then◌else◌}
+use Rattle.std.proofs.Common.{◌≡◌, ◌≤◌, ◌<◌, ℕ, ◌+◌, List, [], ◌∷◌, ◌++◌, length, Bool, true, false, ◌&&◌, ◌||◌, Option, Some, None, refl, ap, sym, ◌∙◌, arith, length-append, append-nil}
+use Rattle.std.specs.Prelude.{slice_get, option_and_then, if◌then◌else◌}
 use Rattle.std.specs.List.{filter_map, enumerate_from, list_any, cons_option}
 use Rattle.std.proofs.lemmas.Bool.{or_parts}
 use Rattle.std.proofs.lemmas.List.Folds.{list_any-append}

@@ -1,25 +1,20 @@
 -- What the create of a name does, where the list says of the property `name` what the built-in list says.
-use Rattle.std.proofs.Common.{◌≡◌, ◌≤◌, ◌<◌, ℕ, List, [], ◌∷◌, ◌++◌, length, Bool, true, false, ◌&&◌, ◌||◌, Option, Some, None, Result, Ok, Err, refl, ap, sym, ◌∙◌, arith, append_assoc, drop, codes, nat_le, is_some, unwrap_or}
-use Rattle.std.specs.Prelude.{filter, slice_get, if◌then◌else◌, nat_eq, nat_lt}
+use Rattle.std.proofs.Common.{◌≡◌, ℕ, List, [], ◌∷◌, ◌++◌, length, Bool, true, false, ◌&&◌, ◌||◌, Some, None, Ok, Err, refl, ap, ◌∙◌, append_assoc, drop, codes, nat_le, is_some, unwrap_or}
 use Rattle.std.specs.List.{list_any}
 use Rattle.std.proofs.lemmas.Bool.{or_parts}
 use Rattle.std.proofs.Math.Seq.{drop-append_seam}
-use Rattle.gd_base.specs.declared.datum.Datum.{Datum}
 use Rattle.gd_base.specs.declared.datum.Datum.TheVariants as datum
 use Rattle.gd_prim.specs.declared.Primitive.{Primitive}
-use Rattle.gd_prim.specs.declared.Batch.{Batch}
-use Rattle.gd_prim.specs.Live.{refers, live_where}
-use Rattle.gd_prim.specs.Builtin.{name_place, property_place, master_place, expected_place, unique_place, text_place}
-use Rattle.gd_tree.specs.Json.{Json, text, object, Members as JsonMembers, no_members as no_json_members, member as json_member}
-use Rattle.gd_defs.specs.Ids.{guid}
+use Rattle.gd_prim.specs.Live.{refers}
+use Rattle.gd_prim.specs.Builtin.{name_place, master_place, expected_place, text_place}
+use Rattle.gd_tree.specs.Json.{text, object}
 use Rattle.gd_defs.specs.Data.{has_kind, of_text}
 use Rattle.gd_defs.specs.Query.{bad_value}
-use Rattle.gd_defs.specs.Property.{Property, answers, first_right, is_unique, stated}
-use Rattle.gd_defs.specs.Asked.{Unknown, name_property, bad_query, member_property}
+use Rattle.gd_defs.specs.Property.{Property, answers, first_right, is_unique}
+use Rattle.gd_defs.specs.Asked.{name_property, bad_query, member_property}
 use Rattle.gd_defs.specs.Write.Parts.{to_value, Members, no_members, member, created, fact, its_guid}
 use Rattle.gd_defs.specs.Write.Links.{Stamp, new_object}
 use Rattle.gd_defs.specs.Write.{resolved_root, carried_root, fitting, exec, unknown}
-use Rattle.gd_defs.specs.Change as change
 use Rattle.gd_runs.specs.Built.{SaysName, create_request, plain_name}
 use Rattle.gd_change.specs.Create.{stamp, name_link, batch, answer}
 use Rattle.gd_change.proofs.Appended.{live_where-more, live_where-none}

@@ -1,5 +1,5 @@
 -- What the create of a name does after the batches of a store.
-use Rattle.std.proofs.Common.{◌≡◌, ◌≤◌, ◌<◌, ℕ, ◌+◌, List, [], ◌∷◌, ◌++◌, length, take, Bool, true, false, Option, Some, None, Result, Ok, Err, refl, sym, ap, ◌∙◌, arith, subst, codes, append-nil, append_assoc}
+use Rattle.std.proofs.Common.{◌≡◌, ◌≤◌, ◌<◌, ℕ, List, [], ◌∷◌, ◌++◌, length, Bool, true, false, Some, None, Result, Ok, Err, refl, sym, ap, ◌∙◌, arith, subst, codes, append-nil, append_assoc}
 use Rattle.std.specs.Prelude.{flat_map, nat_le, IsTrue, IsErrAnd}
 use Rattle.std.proofs.Math.Seq.{take-length}
 use Rattle.std.proofs.lemmas.Grind.{flat_map-append}
@@ -7,7 +7,7 @@ use Rattle.std.proofs.lemmas.Bool.Decides.{nat_tests}
 use Rattle.gd_prim.specs.declared.Primitive.{Primitive}
 use Rattle.gd_prim.specs.declared.Batch.{Batch}
 use Rattle.gd_prim.specs.declared.What.{What}
-use Rattle.gd_prim.specs.Builtin.{builtin, name_place}
+use Rattle.gd_prim.specs.Builtin.{builtin}
 use Rattle.gd_prim.specs.History.{prims_of, is_history}
 use Rattle.gd_prim.specs.Limits.{limits, first_full}
 use Rattle.gd_prim.specs.WellFormed.{bad_place, max_moment}
@@ -23,8 +23,8 @@ use Rattle.gd_runs.specs.Built.{SaysName, create_request}
 use Rattle.gd_change.specs.declared.fault.ChangeFault.{ChangeFault}
 use Rattle.gd_change.specs.declared.fault.ChangeFault.TheVariants as fault
 use Rattle.gd_change.specs.Fault.{GivesChange}
-use Rattle.gd_change.specs.Create.{stamp, batch, answer}
-use Rattle.gd_change.proofs.KeptName.{SaysNothing, SaysName-more, name_place-within}
+use Rattle.gd_change.specs.Create.{batch, answer}
+use Rattle.gd_change.proofs.KeptName.{SaysName-more, name_place-within}
 use Rattle.gd_change.proofs.Created.{exec-create, exec-long}
 use Rattle.gd_change.proofs.Followed.{NoneFrom-prims_of, bad_place-create, room_for}
 

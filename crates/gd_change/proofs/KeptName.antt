@@ -1,14 +1,13 @@
 -- A list that says of the property `name` what the built-in list says goes on to say it.
-use Rattle.std.proofs.Common.{◌≡◌, ◌≤◌, ◌<◌, ℕ, List, [], ◌∷◌, ◌++◌, length, Bool, true, false, ◌&&◌, Option, Some, None, refl, ap, sym, ◌∙◌, arith, codes, inl, inr}
-use Rattle.std.specs.Prelude.{slice_get, if◌then◌else◌, unwrap_or, option_and_then}
+use Rattle.std.proofs.Common.{◌≡◌, ◌<◌, ℕ, List, ◌++◌, length, Bool, false, ◌&&◌, Some, None, refl, ap, ◌∙◌, inl, inr}
+use Rattle.std.specs.Prelude.{if◌then◌else◌, unwrap_or}
 use Rattle.std.specs.List.{list_any}
 use Rattle.std.proofs.lemmas.Bool.{cases_lt}
 use Rattle.std.proofs.lemmas.Option.{slice_get_past}
 use Rattle.gd_prim.specs.declared.Primitive.{Primitive}
-use Rattle.gd_prim.specs.Live.{refers, is_object, live_where, value_at}
+use Rattle.gd_prim.specs.Live.{refers, is_object, value_at}
 use Rattle.gd_prim.specs.Builtin.{name_place, property_place, master_place, expected_place, unique_place, type_link_place}
-use Rattle.gd_defs.specs.Property.{Property, property_object, stated, first_right, links_from, has_type, is_unique, boolean_of, first}
-use Rattle.gd_defs.specs.Asked.{name_property}
+use Rattle.gd_defs.specs.Property.{stated, first_right, links_from, has_type, is_unique, boolean_of, first}
 use Rattle.gd_runs.specs.Built.{SaysName}
 use Rattle.gd_change.proofs.Appended.{SucceedsNone, Below, live_where-more, live_where-within, is_object-more, value_at-more, first_end-more, any_passes-more, filter_map-same}
 

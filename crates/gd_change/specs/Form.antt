@@ -1,8 +1,6 @@
 -- What the entries of a write are, as far as the create of a name knows of them.
-use Rattle.std.specs.Prelude.{ℕ, List, Bool, true, false, Option, Some, None}
-use Rattle.gd_tree.specs.Look.{text_of}
+use Rattle.std.specs.Prelude.{Bool, true, false, Option, Some, None}
 use Rattle.gd_defs.specs.Query as query
-use Rattle.gd_json.specs.View.{view}
 use Rattle.gd_mql.specs.Names.{name_view}
 use Rattle.gd_mql.specs.declared.write_parts.CreateWord.TheVariants as word
 use Rattle.gd_mql.specs.declared.change.Item.TheVariants as item

@@ -1,8 +1,8 @@
 -- Forms of a write nest no deeper than the JSON that spells them.
-use Rattle.std.proofs.Common.{◌≡◌, ◌≤◌, ℕ, ◌+◌, List, Bool, true, false, ◌||◌, not, Option, Some, None, Result, Ok, Err, codes, refl, ap, arith}
-use Rattle.std.specs.Prelude.{max, if◌then◌else◌, bytes_eq, ◌&&◌}
+use Rattle.std.proofs.Common.{◌≡◌, ◌≤◌, ℕ, ◌+◌, List, true, false, ◌||◌, not, Option, Some, None, Result, Ok, Err, codes, refl, ap, arith}
+use Rattle.std.specs.Prelude.{if◌then◌else◌, bytes_eq, ◌&&◌}
 use Rattle.std.specs.Option.{option_or}
-use Rattle.gd_grammar.specs.Chain.{◌>>=◌, map_err}
+use Rattle.gd_grammar.specs.Chain.{◌>>=◌}
 use Rattle.gd_grammar.proofs.Steps.{steps, ok_same, not_ok, either}
 use Rattle.gd_tree.specs.Json.{Json, null, boolean, number, text, list, object, Items, no_items, item, Members as JsonMembers, no_members as no_json_members, member as json_member}
 use Rattle.gd_tree.specs.Look.{get}

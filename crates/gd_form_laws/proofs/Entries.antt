@@ -6,14 +6,14 @@ use Rattle.std.specs.Result.{result_err}
 use Rattle.gd_grammar.specs.Chain.{◌>>=◌}
 use Rattle.gd_tree.specs.Json.{Json, null, boolean, number, text, list, object, Items, no_items, item, Members as JsonMembers, no_members as no_json_members, member as json_member}
 use Rattle.gd_tree.specs.Look.{is_null, get, members_in}
-use Rattle.gd_defs.specs.Query.{Fault, Code, Name, fault, or_fault, within, bad_write, bad_create, bad_connect, list_form, is_identity, is_literal, is_id_text, is_word, all_items}
+use Rattle.gd_defs.specs.Query.{Fault, Name, fault, or_fault, bad_write, bad_create, bad_connect, is_literal, is_id_text, is_word, all_items}
 use Rattle.gd_defs.specs.Change as change
 use Rattle.gd_defs.specs.Change.{Setting, CreateWord, ConnectWord, Target, Item, ManyItems, Members, create_in, create_word, connect_word, write_name, identity_item, by_name, item_of, items_of, members_of, object_item, list_item, is_form, is_connect_form, is_fact_form, setting_of, target_in, target_of, first_code, part_code, guid_member, text_member, change_of}
 use Rattle.gd_form_laws.specs.Faults.{below}
-use Rattle.gd_form_laws.specs.WriteFaults.{entries_fault, entry_fault, named_item_fault, item_fault, items_fault, target_fault, change_fault, create_fits}
+use Rattle.gd_form_laws.specs.WriteFaults.{entries_fault, entry_fault, item_fault, items_fault, target_fault, change_fault}
 use Rattle.gd_form_laws.specs.SpelledChange.{entries_or, items_or, spelled_entries, spelled_items, spelled_change, change_or}
 use Rattle.gd_form_laws.proofs.First.{Given, given, or-first, or-second}
-use Rattle.gd_form_laws.proofs.Changes.{entries-first, items-first, created-alone, named-entry, misnamed-entry, named-item, identity-other, connect-item, created, plain-item, create-change, other-change}
+use Rattle.gd_form_laws.proofs.Changes.{entries-first, items-first, created-alone, identity-other, connect-item, created, plain-item, create-change, other-change}
 
 -- a clause without a fault has none in its first member, nor in the others
 pub first-entry_given : (s : Setting) (k : List ℕ) (j : Json) (ms : JsonMembers) → entries_fault s (json_member k j ms) ≡ None → entry_fault s k j ≡ None

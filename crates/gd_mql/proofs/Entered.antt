@@ -1,5 +1,5 @@
 -- Members of a write that were read, beside those that they spell.
-use Rattle.std.proofs.Common.{◌≡◌, ◌<◌, ℕ, suc, List, [], ◌∷◌, length, Bool, true, false, Option, Some, None, Ok, Err, refl, sym, ap, ◌∙◌, arith}
+use Rattle.std.proofs.Common.{◌≡◌, ℕ, List, [], ◌∷◌, length, Bool, true, false, Option, Some, None, Ok, Err, refl, sym, ap, ◌∙◌, arith}
 use Rattle.std.specs.Prelude.{is_none, is_some, option_map, if◌then◌else◌, codes, bytes_eq}
 use Rattle.std.specs.Option.{option_or}
 use Rattle.std.specs.Result.{result_err}
@@ -13,7 +13,6 @@ use Rattle.gd_defs.specs.Change as change
 use Rattle.gd_defs.specs.Change.{Setting, CreateWord, ConnectWord, Target, Item, create_in, create_word, connect_word, write_name, by_name, item_of, target_of, setting_of, guid_member, text_member}
 use Rattle.gd_form_laws.specs.WriteFaults.{entries_fault, entry_fault, named_item_fault, item_fault, items_fault, target_fault, change_fault}
 use Rattle.gd_form_laws.specs.SpelledChange.{spelled_entries, spelled_items, spelled_change}
-use Rattle.gd_form_laws.proofs.First.{given}
 use Rattle.gd_form_laws.proofs.Changes.{created-alone, named-entry, misnamed-entry, identity-entry, other-entry}
 use Rattle.gd_form_laws.proofs.Entries.{first-entry_given, rest-entries_given, created-part, named-part, end-entries, create-given, create-wordless, identity-spelled, targetless, connect-target, connect-worded, connect-spelled, nested-given, nested-worded, nested-spelled, fact-target, fact-spelled, list-given, list-spelled, first-item_given, rest-items_given, item-part, end-items, literal-spelled, null-refused, change-entries, change-worded, change-named, create-spelled, existing-spelled}
 use Rattle.gd_mql.proofs.Shown.{nothing, nothing-told, list_shape}

@@ -1,5 +1,5 @@
 -- The first faults of form of requests, as words of their own.
-use Rattle.std.specs.Prelude.{ℕ, Bool, not, ◌&&◌, Option, Some, None, [], Result, Ok, Err, if◌then◌else◌}
+use Rattle.std.specs.Prelude.{ℕ, Bool, not, ◌&&◌, Option, Some, None, [], Result, Ok, if◌then◌else◌}
 use Rattle.std.specs.Result.{result_err}
 use Rattle.gd_grammar.specs.Chain.{◌>>=◌, map_err}
 use Rattle.gd_tree.specs.Json.{Json, object}

@@ -1,9 +1,8 @@
-use Rattle.std.proofs.Common.{◌≡◌, ◌≤◌, length, None, Some, sym, ap, ◌∙◌, subst, arith}
+use Rattle.std.proofs.Common.{◌≡◌, ◌≤◌, length, None, Some, sym, ap, ◌∙◌, arith}
 use Rattle.gd_prim.specs.declared.Batch.{Batch}
 use Rattle.gd_prim.specs.History.{prims_of}
 use Rattle.gd_prim.specs.Limits.{limits, first_full}
 use Rattle.gd_prim.specs.WellFormed.{bad_place}
-use Rattle.gd_runs.specs.Built.{SaysName}
 use Rattle.gd_tree.specs.Json.{object}
 use Rattle.gd_json.specs.View.{view}
 use Rattle.gd_change.specs.Create.{answer}

@@ -1,5 +1,4 @@
 use Rattle.std.proofs.Common.{◌∙◌, ap, sym}
-use Rattle.gd_json.specs.View.{items_view}
 use Rattle.gd_defs.specs.Change as change
 use Rattle.gd_mql.specs.Names.{name_view}
 use Rattle.gd_mql.specs.Changes.{setting_view}
