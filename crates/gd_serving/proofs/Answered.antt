@@ -1,12 +1,10 @@
 -- What a line comes to, by what its bytes spell.
 use Rattle.std.proofs.Common.{◌≡◌, ◌≢◌, ◌<◌, ℕ, List, length, Bool, true, false, if◌then◌else◌, Result, Ok, Err, IsErr, IfOk, Vec, Global, refl, ap, sym, subst, ◌∙◌}
-use Rattle.gd_prim.specs.declared.Primitive.{Primitive}
-use Rattle.gd_prim.specs.History.{prims_at}
 use Rattle.gd_mql.specs.declared.request.Line.{Line}
 use Rattle.gd_mql.specs.declared.fault.LineFault.{LineFault}
 use Rattle.gd_mql.specs.declared.fault.LineFault.TheVariants as fault
 use Rattle.gd_mql.specs.Line.{fault_view}
-use Rattle.gd_mql.specs.Requests.{line_view, GivesLine}
+use Rattle.gd_mql.specs.Requests.{GivesLine}
 use Rattle.gd_runs.specs.Request as request
 use Rattle.gd_runs.specs.Request.{reply_of}
 use Rattle.gd_runs.specs.Input.{line_from, line_too_long, input_fault_line, value_line, as_line, max_line, not_built}

@@ -1,6 +1,6 @@
 -- What the members of a clause ask, part by part.
 use Rattle.std.proofs.Common.{◌≡◌, ℕ, List, Bool, true, false, Option, Some, None, refl, ap, sym, ◌∙◌, codes, Bor}
-use Rattle.std.specs.Prelude.{not, ◌&&◌, ◌||◌, if◌then◌else◌, option_map, is_none}
+use Rattle.std.specs.Prelude.{not, ◌&&◌, if◌then◌else◌, option_map, is_none}
 use Rattle.gd_tree.specs.Json.{Json, null, boolean, number, text, list, object}
 use Rattle.gd_tree.specs.Look.{text_of}
 use Rattle.gd_defs.specs.Query as query

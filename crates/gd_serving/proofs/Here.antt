@@ -5,7 +5,7 @@ use Rattle.gd_prim.specs.declared.Batch.{Batch}
 use Rattle.gd_prim.specs.History.{prims_of, prims_at}
 use Rattle.gd_defs.specs.Write.{WriteRequest}
 use Rattle.gd_runs.specs.Request.{Line, ReadRequest, read, write, reply_of}
-use Rattle.gd_runs.specs.Input.{InputFault, if_built, line_from, line_at, not_built, input_fault_line}
+use Rattle.gd_runs.specs.Input.{InputFault, if_built, line_from, not_built}
 use Rattle.gd_runs.specs.Built.{FormAsk, says_name, is_built, read_ask, write_ask, form_request, create_request}
 use Rattle.gd_list_laws.proofs.Built.{read_asked, write_asked}
 use Rattle.gd_read.specs.declared.ask.ReadForm.{ReadForm}
@@ -13,7 +13,7 @@ use Rattle.gd_read.specs.Asks.{ask_view}
 use Rattle.gd_change.specs.declared.form.CreateForm.{CreateForm}
 use Rattle.gd_served_laws.specs.Served.{Progress}
 use Rattle.gd_served_laws.specs.Step.{line_now, AsksWrite}
-use Rattle.gd_serving.specs.Here.{IsReadRefused, IsWriteRefused, IsReadHere, IsWriteHere, AnswersRead, carried_out, not_carried_out}
+use Rattle.gd_serving.specs.Here.{IsReadRefused, IsWriteRefused, IsReadHere, IsWriteHere, AnswersRead, carried_out}
 use Rattle.gd_serving.proofs.Says.{says_at}
 use Rattle.gd_serving.proofs.Whole.{prims_at-all}
 

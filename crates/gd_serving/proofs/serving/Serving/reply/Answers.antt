@@ -1,4 +1,4 @@
-use Rattle.std.proofs.Common.{◌≡◌, ℕ, true, Ok, Err, Vec, Global, length, ap, refl, ◌∙◌, rules, arith}
+use Rattle.std.proofs.Common.{◌≡◌, true, Ok, Err, length, ap, refl, ◌∙◌, rules, arith}
 use Rattle.std.proofs.lemmas.Grind.{common_steps}
 use Rattle.gd_mql.specs.declared.request.Line.{Line}
 use Rattle.gd_mql.specs.Requests.{line_view, read_view}
