@@ -1,2 +1,4 @@
-pub mod Tests
+pub mod SortWords
 pub mod Sorts
+pub mod Tests
+pub mod Walks
