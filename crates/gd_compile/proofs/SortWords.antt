@@ -2,7 +2,7 @@
 use Rattle.std.proofs.Common.{◌≡◌, ◌≤◌, ◌<◌, ℕ, zero, suc, ◌+◌, List, [], ◌∷◌, ◌++◌, drop, length, Bool, true, false, ◌&&◌, Option, Some, None, Result, Ok, Err, refl, sym, ap, ◌∙◌, add-one, drop-cons, append_assoc, arith}
 use Rattle.std.specs.Prelude.{option_map, unwrap_or, slice_get, if◌then◌else◌}
 use Rattle.std.specs.Int.{is_in_range}
-use Rattle.std.proofs.lemmas.List.{drop_all}
+use Rattle.std.proofs.lemmas.List.{drop_all, append-nil}
 use Rattle.std.proofs.lemmas.Option.{slice_get_within, get_or_from_slice_get}
 use Rattle.gd_grammar.specs.Maybe.{◌>>=◌ as ◌>>?◌}
 use Rattle.gd_grammar.specs.Chain.{◌>>=◌}
@@ -69,17 +69,23 @@ keys_more (Err e) before k = refl
 keys_more (Ok ks) before k = ap Ok (sym (append_assoc before (k ∷ []) ks))
 
 -- the keys of the words from an index on, behind those before it: one word more, or none more
-pub key_taken : (prims : List Primitive) (context : Option ℕ) (path : List (List ℕ)) (ws : List SortWord) (i : ℕ) (w : SortWord) (before : List defs.SortKey) (k : defs.SortKey) (all : Result (List defs.SortKey) defs.Unknown)
-    → all ≡ (defs.sort_keys prims context path (drop i ws) >>= λ ks. Ok (before ++ ks)) → Some w ≡ slice_get ws i → defs.sort_key prims context path w ≡ Ok k
-    → all ≡ (defs.sort_keys prims context path (drop (i + 1) ws) >>= λ ks. Ok ((before ++ k ∷ []) ++ ks))
-key_taken prims context path ws i w before k all left is found =
-    left ∙ (ap (λ more. defs.sort_keys prims context path more >>= λ ks. Ok (before ++ ks)) (word_there ws i w is)
-    ∙ (ap (λ key. (key >>= λ k. defs.sort_keys prims context path (drop (i + 1) ws) >>= λ ks. Ok (k ∷ ks)) >>= λ ks. Ok (before ++ ks)) found
-    ∙ keys_more (defs.sort_keys prims context path (drop (i + 1) ws)) before k))
+pub key_taken : (prims : List Primitive) (context : Option ℕ) (path : List (List ℕ)) (ws : List SortWord) (i : ℕ) (w : SortWord) (before after : List defs.SortKey) (k : defs.SortKey) (all : Result (List defs.SortKey) defs.Unknown)
+    → all ≡ (defs.sort_keys prims context path (drop i ws) >>= λ ks. Ok (before ++ ks)) → Some w ≡ slice_get ws i → defs.sort_key prims context path w ≡ Ok k → after ≡ before ++ k ∷ []
+    → all ≡ (defs.sort_keys prims context path (drop (i + 1) ws) >>= λ ks. Ok (after ++ ks))
+key_taken prims context path ws i w before after k all left is found grown =
+    left ∙ (ap (λ (more : List SortWord). defs.sort_keys prims context path more >>= λ ks. Ok (before ++ ks)) (word_there ws i w is)
+    ∙ (ap (λ (key : Result defs.SortKey defs.Unknown). (key >>= λ k. defs.sort_keys prims context path (drop (i + 1) ws) >>= λ ks. Ok (k ∷ ks)) >>= λ ks. Ok (before ++ ks)) found
+    ∙ (keys_more (defs.sort_keys prims context path (drop (i + 1) ws)) before k
+    ∙ ap (λ (front : List defs.SortKey). defs.sort_keys prims context path (drop (i + 1) ws) >>= λ ks. Ok (front ++ ks)) (sym grown))))
 
 pub key_refused : (prims : List Primitive) (context : Option ℕ) (path : List (List ℕ)) (ws : List SortWord) (i : ℕ) (w : SortWord) (before : List defs.SortKey) (e : defs.Unknown) (all : Result (List defs.SortKey) defs.Unknown)
     → all ≡ (defs.sort_keys prims context path (drop i ws) >>= λ ks. Ok (before ++ ks)) → Some w ≡ slice_get ws i → defs.sort_key prims context path w ≡ Err e
     → all ≡ Err e
 key_refused prims context path ws i w before e all left is found =
-    left ∙ (ap (λ more. defs.sort_keys prims context path more >>= λ ks. Ok (before ++ ks)) (word_there ws i w is)
-    ∙ ap (λ key. (key >>= λ k. defs.sort_keys prims context path (drop (i + 1) ws) >>= λ ks. Ok (k ∷ ks)) >>= λ ks. Ok (before ++ ks)) found)
+    left ∙ (ap (λ (more : List SortWord). defs.sort_keys prims context path more >>= λ ks. Ok (before ++ ks)) (word_there ws i w is)
+    ∙ ap (λ (key : Result defs.SortKey defs.Unknown). (key >>= λ k. defs.sort_keys prims context path (drop (i + 1) ws) >>= λ ks. Ok (k ∷ ks)) >>= λ ks. Ok (before ++ ks)) found)
+
+pub keys_end : (prims : List Primitive) (context : Option ℕ) (path : List (List ℕ)) (ws : List SortWord) (i : ℕ) (before : List defs.SortKey) (all : Result (List defs.SortKey) defs.Unknown)
+    → all ≡ (defs.sort_keys prims context path (drop i ws) >>= λ ks. Ok (before ++ ks)) → None ≡ slice_get ws i → all ≡ Ok before
+keys_end prims context path ws i before all left is =
+    left ∙ (ap (λ (more : List SortWord). defs.sort_keys prims context path more >>= λ ks. Ok (before ++ ks)) (none_left ws i is) ∙ ap Ok (append-nil before))

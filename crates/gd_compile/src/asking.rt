@@ -75,12 +75,7 @@ fn name_asking(alloc: Global, mode: Mode, given: bool, test: Test) -> Asking
 }
 
 /// A member that asks a property, with the clause of its answers.
-fn asks(
-    alloc: Global,
-    name: &str,
-    asking: Asking,
-    clause: Vec<Member>,
-) -> Result<Member, Memory>
+fn asks(alloc: Global, name: &str, asking: Asking, clause: Vec<Member>) -> Result<Member, Memory>
     ensures { IfOk result (λ member. put member ≡ defs.asks name.now (asking_view asking) (members_view clause.items)) }
 {
     Ok(Member::Asks {
@@ -99,12 +94,7 @@ fn sole(alloc: Global, member: Member) -> Result<Vec<Member>, Memory>
 }
 
 /// The clause whose one member is the name: in a mode, with a test, as a literal or not.
-fn name_test(
-    alloc: Global,
-    mode: Mode,
-    given: bool,
-    test: Test,
-) -> Result<Vec<Member>, Memory>
+fn name_test(alloc: Global, mode: Mode, given: bool, test: Test) -> Result<Vec<Member>, Memory>
     ensures { IfOk result (λ clause. members_view clause.items ≡ forms.name_test (mode_of mode) given (test_view test)) }
 {
     let asking = name_asking(alloc, mode, given, test);
@@ -213,7 +203,12 @@ pub(crate) fn operand_form(
     match expects {
         Expects::PlainObject => {
             let clause = name_test(alloc, Mode::Required, literal, test)?;
-            asks(alloc, name, named_asking(alloc, property, style, literal), clause)
+            asks(
+                alloc,
+                name,
+                named_asking(alloc, property, style, literal),
+                clause,
+            )
         }
         _ => {
             let asking = tested_asking(alloc, property, style, literal, test);
@@ -256,12 +251,12 @@ fn clause_asking(
     sort: Vec<SortKey>,
 ) -> Asking
     ensures { asking_view result ≡ record (forms.bare_asking property.now defs.as_clause) {
-        mode = forms.mode_of (directives_view directives.now);
-        counted = holds_values (expects_of property.now.expected);
-        listed = listed;
-        single = forms.asks_single listed (directives_view directives.now);
-        sort = map sort_key_view sort.items;
-        limit = unwrap_or directives.now.limit 100;
+      mode = forms.mode_of (directives_view directives.now);
+      counted = holds_values (expects_of property.now.expected);
+      listed = listed;
+      single = forms.asks_single listed (directives_view directives.now);
+      sort = map sort_key_view sort.items;
+      limit = unwrap_or directives.now.limit 100;
     } }
 {
     Asking {

@@ -1,5 +1,5 @@
 //! Members that are computed, and those of forms on values and keys.
-ghost use Rattle.std.specs.Prelude.{◌≡◌, ◌≤◌, None, Some, IfOk, map};
+ghost use Rattle.std.specs.Prelude.{◌≡◌, ◌≤◌, ◌&&◌, None, Some, IfOk, map, codes, bytes_eq};
 ghost use Rattle.gd_prim.specs.History.{prims_of};
 ghost use Rattle.gd_defs.specs.Asked as defs;
 ghost use Rattle.gd_defs.specs.Asked.Tests as tests;
@@ -115,6 +115,19 @@ fn has_namespace(expects: Expects) -> bool
     matches!(expects, Expects::Key)
 }
 
+fn is_value(word: &str) -> bool
+    ensures { result ≡ bytes_eq word.now (codes "value") }
+{
+    word == "value"
+}
+
+/// Whether the word asks for the namespace of such answers, which are keys.
+fn is_namespace(expects: Expects, word: &str) -> bool
+    ensures { result ≡ (bytes_eq word.now (codes "namespace") && defs.has_namespace (expects_view expects)) }
+{
+    word == "namespace" && has_namespace(expects)
+}
+
 /// What a member of a form on a value or a key asks: its link, its value, or of a key the namespace. `BadQuery` with
 /// `ObjectForm` and the path: it is another member.
 fn value_member<L>(
@@ -132,10 +145,10 @@ fn value_member<L>(
     if is_link(name.word) {
         return own_member(alloc, view, path, name, Own::Link, form, steps);
     }
-    if name.word == "value" {
+    if is_value(name.word) {
         return value_itself(alloc, view, expects, path, name, form, steps);
     }
-    if name.word == "namespace" && has_namespace(expects) {
+    if is_namespace(expects, name.word) {
         return own_member(alloc, view, path, name, Own::Namespace, form, steps);
     }
     Err(bad(alloc, Code::ObjectForm, path))

@@ -46,7 +46,13 @@ fn part_type<'a>(part: &Part<'a>) -> Option<&'a str>
     ensures { (ms : query.Members) → defs.type_text (with_part part.entry.now ms) ≡ option_or (option_map (λ text. text.now) result) (defs.type_text ms) }
 {
     match part {
-        Part::Member(name, Form::Literal(json)) => { if name.spelled == "type" { text_of(json) } else { None } }
+        Part::Member(name, Form::Literal(json)) => {
+            if name.spelled == "type" {
+                text_of(json)
+            } else {
+                None
+            }
+        }
         _ => None,
     }
 }
@@ -121,7 +127,15 @@ fn asked<'a, L>(
     let mut gathered = Gathered::new(alloc);
     let mut rest = *members;
     while let Some((part, others)) = rest.split() {
-        add_part(alloc, view, same(&context), path, &part, &mut gathered, steps)?;
+        add_part(
+            alloc,
+            view,
+            same(&context),
+            path,
+            &part,
+            &mut gathered,
+            steps,
+        )?;
         rest = others;
     }
     Ok(gathered.clause(alloc))
@@ -193,10 +207,30 @@ fn asked_form<'a, L>(
         Form::Ask => Ok(ask_form(alloc, name.spelled, property, false)?),
         Form::AskAll => Ok(ask_form(alloc, name.spelled, property, true)?),
         Form::Literal(json) => {
-            tested_form(alloc, view, path, name, property, Operator::Absent, true, json, steps)
+            tested_form(
+                alloc,
+                view,
+                path,
+                name,
+                property,
+                Operator::Absent,
+                true,
+                json,
+                steps,
+            )
         }
         Form::Operand(json) => {
-            tested_form(alloc, view, path, name, property, name.operator, false, json, steps)
+            tested_form(
+                alloc,
+                view,
+                path,
+                name,
+                property,
+                name.operator,
+                false,
+                json,
+                steps,
+            )
         }
         Form::One(clause) => {
             asked_object(alloc, view, path, name, property, clause, false, steps)
@@ -223,7 +257,14 @@ fn asked_object<'a, L>(
     ensures later { steps.old ≤ steps.new }
 {
     let below = asked_below(alloc, view, path, property, clause, steps)?;
-    Ok(clause_form(alloc, name.spelled, property, &clause.directives(), listed, below)?)
+    Ok(clause_form(
+        alloc,
+        name.spelled,
+        property,
+        &clause.directives(),
+        listed,
+        below,
+    )?)
 }
 
 /// What a form below a property asks: of values and keys their members, of objects a clause in its context type.

@@ -9,7 +9,7 @@ use Rattle.gd_compile.proofs.walk.+asked.Given as goal
 
 abbrev pub invariant-asked-loop-part : goal.invariant-asked-loop-part
 invariant-asked-loop-part g l = record {
-  left : defs.asked (prims_of l.view) l.context (map (λ (n : Bor (List ℕ)). n.now) l.path) (left l.members)
+  whole : defs.asked (prims_of l.view) l.context (map (λ (n : Bor (List ℕ)). n.now) l.path) (left l.members)
       ≡ (defs.asked (prims_of l.view) l.context (map (λ (n : Bor (List ℕ)). n.now) l.path) (left l.rest) >>= λ c. Ok (in_front l.gathered c));
   depth : forms_depth (left l.rest) ≤ forms_depth (left l.members);
   later : l.initial.steps ≤ l.steps;
