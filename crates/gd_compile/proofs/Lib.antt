@@ -1,5 +1,5 @@
-pub mod Depths
 pub mod Gathers
+pub mod Plans
 pub mod SortWords
 pub mod Sorts
 pub mod Tests
