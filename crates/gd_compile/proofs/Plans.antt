@@ -1,5 +1,5 @@
 -- The template of a query is not too deep, and means the query.
-use Rattle.std.proofs.Common.{◌≡◌, ◌≤◌, ℕ, ◌+◌, ◌*◌, List, Result, Ok, Err, IfOk, MatchResult, refl, sym, ap, subst, max, arith}
+use Rattle.std.proofs.Common.{◌≡◌, ◌≤◌, ℕ, ◌+◌, List, Result, Ok, Err, IfOk, MatchResult, refl, sym, ap, subst, arith}
 use Rattle.gd_prim.specs.declared.Primitive.{Primitive}
 use Rattle.gd_defs.specs.Query as query
 use Rattle.gd_defs.specs.Query.{Query}

@@ -1,10 +1,9 @@
 -- The members of a clause, one part after another.
-use Rattle.std.proofs.Common.{◌≡◌, ◌≢◌, ◌≤◌, ℕ, ◌+◌, max, List, [], ◌∷◌, Bool, true, false, ◌&&◌, Option, Some, None, Result, Ok, Err, refl, sym, ap, ◌∙◌, arith, codes}
-use Rattle.std.specs.Prelude.{option_map, if◌then◌else◌, bytes_eq}
-use Rattle.std.specs.Option.{option_or, option_map_or}
+use Rattle.std.proofs.Common.{◌≡◌, ℕ, max, List, Bool, true, false, ◌&&◌, Option, Some, Result, Ok, Err, refl, sym, ap, ◌∙◌, arith, codes}
+use Rattle.std.specs.Prelude.{if◌then◌else◌, bytes_eq}
+use Rattle.std.specs.Option.{option_map_or}
 use Rattle.gd_grammar.specs.Chain.{◌>>=◌}
-use Rattle.gd_tree.specs.Json.{Json, null, boolean, number, text, list, object}
-use Rattle.gd_tree.specs.Look.{text_of}
+use Rattle.gd_tree.specs.Json.{Json}
 use Rattle.gd_defs.specs.Query as query
 use Rattle.gd_defs.specs.Data.{Test}
 use Rattle.gd_defs.specs.Property.{Property, Expects, expects_of}
@@ -18,7 +17,7 @@ use Rattle.gd_mql.specs.declared.clause.Part.{Part}
 use Rattle.gd_mql.specs.declared.clause.Part.TheVariants as part
 use Rattle.gd_plan.specs.declared.asked.Member.{Member}
 use Rattle.gd_compile.specs.declared.fault.Unknown.{Unknown}
-use Rattle.gd_compile.specs.Walk.{Outcome, Leads, led, asked_member, tested_form, parts_count, part_depth}
+use Rattle.gd_compile.specs.Walk.{Outcome, Leads, led, asked_member, tested_form, part_depth}
 
 -- what a part puts in front of the rest stands behind what was gathered
 pub part_added : (whole rest : Outcome) (change old new : defs.Clause → defs.Clause) → whole ≡ (rest >>= λ c. Ok (change c)) → ((c : defs.Clause) → new c ≡ old (change c))
@@ -73,46 +72,7 @@ tested prims path name p operator literal j e t g is passed made =
     ap (λ (x : Expects). checked_test prims x path operator j >>= λ t. Ok (operand_form name p x literal j t)) (sym is)
     ∙ (ap (λ (r : Result Test defs.Unknown). r >>= λ t. Ok (operand_form name p e literal j t)) passed ∙ ap Ok (sym made))
 
--- a part is one more than those behind it
-pub one_part : (p : Part) (ms : query.Members) → parts_count (with_part p ms) ≡ 1 + parts_count ms
-one_part (part.Member n f) ms = refl
-one_part (part.Sort ws) ms = refl
-
--- and forms lie no deeper in it and behind it than in all
+-- forms lie as deep in a part and behind it as in all
 pub part_within : (p : Part) (ms : query.Members) → forms_depth (with_part p ms) ≡ max (part_depth p) (forms_depth ms)
 part_within (part.Member n f) ms = refl
 part_within (part.Sort ws) ms = omega arith
-
--- ---- the text of the member `type`
-
-pub type_literal : (n : query.Name) (j : Json) (ms : query.Members) → defs.type_text (query.member n (query.literal j) ms) ≡ option_or (if bytes_eq n.spelled (codes "type") then text_of j else None) (defs.type_text ms)
-type_literal n (text t) ms = by (bytes_eq n.spelled (codes "type"))
-  where
-    by : (b : Bool) → (if b then Some t else defs.type_text ms) ≡ option_or (if b then Some t else None) (defs.type_text ms)
-    by true = refl
-    by false = refl
-type_literal n null ms = by (bytes_eq n.spelled (codes "type"))
-  where
-    by : (b : Bool) → defs.type_text ms ≡ option_or (if b then None else None) (defs.type_text ms)
-    by true = refl
-    by false = refl
-type_literal n (boolean x) ms = by (bytes_eq n.spelled (codes "type"))
-  where
-    by : (b : Bool) → defs.type_text ms ≡ option_or (if b then None else None) (defs.type_text ms)
-    by true = refl
-    by false = refl
-type_literal n (number x) ms = by (bytes_eq n.spelled (codes "type"))
-  where
-    by : (b : Bool) → defs.type_text ms ≡ option_or (if b then None else None) (defs.type_text ms)
-    by true = refl
-    by false = refl
-type_literal n (list x) ms = by (bytes_eq n.spelled (codes "type"))
-  where
-    by : (b : Bool) → defs.type_text ms ≡ option_or (if b then None else None) (defs.type_text ms)
-    by true = refl
-    by false = refl
-type_literal n (object x) ms = by (bytes_eq n.spelled (codes "type"))
-  where
-    by : (b : Bool) → defs.type_text ms ≡ option_or (if b then None else None) (defs.type_text ms)
-    by true = refl
-    by false = refl

@@ -1,4 +1,4 @@
-use Rattle.std.proofs.Common.{◌∙◌, ap, map, Bor, List, ℕ, Option}
+use Rattle.std.proofs.Common.{◌∙◌, ap, map, Bor, List, ℕ}
 use Rattle.gd_prim.specs.History.{prims_of}
 use Rattle.gd_defs.specs.Property.{Property, expects_of}
 use Rattle.gd_json.specs.View.{view as json_of}
