@@ -21,7 +21,7 @@ use Rattle.gd_shape.specs.declared.ranked.Ranked.{Ranked}
 
 -- ---- the name of an object
 
-by_first : List Primitive → Option trees.Tree → Json
+abbrev by_first : List Primitive → Option trees.Tree → Json
 by_first prims None = null
 by_first prims (Some t) = datum_json (value_at prims (place_of t))
 

@@ -144,6 +144,11 @@ rows-untold prims ms (tree o ls ∷ ts) = ap (λ x. x >>= λ m. rows_shape prims
     by (Err e) rest = refl
     by (Ok m) rest = ap (λ x. x >>= λ js. Ok (item (object m) js.0, js.1)) rest ∙ last (object m) (rows_print prims ms ts)
 
+-- a path of two answers stays one in a list
+pub path_listed : (listed : Bool) (path : Path) → Err path ≡ as_list listed (Err path)
+path_listed true path = refl
+path_listed false path = refl
+
 -- a page with no walks told is the page without walks
 pub page_untold : (prims : List Primitive) (q : Asked) (ts : List Tree) → page_shape prims q ts [] ≡ page_print prims q ts
 page_untold prims q ts = ap (λ x. list_shape q.listed x >>= λ j. Ok j.0) (rows-untold prims q.members ts) ∙ ap (λ x. x >>= λ j. Ok j.0) (list-untold q.listed (rows_print prims q.members ts)) ∙ last (as_list q.listed (rows_print prims q.members ts))

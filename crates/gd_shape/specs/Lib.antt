@@ -3,4 +3,5 @@ pub mod Knowing
 pub mod Outcome
 pub mod Printed
 pub mod Ranking
+pub mod Shaping
 pub mod Up

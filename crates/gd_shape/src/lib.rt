@@ -11,4 +11,5 @@ mod order;
 pub mod page;
 mod print;
 mod ranked;
+pub mod shape;
 pub mod sight;

@@ -38,7 +38,7 @@ fn row_json(
 }
 
 /// What the rows of trees print, or the first path of two answers.
-#[tactic(auto, using(crate::proofs::Rows::rows_more, crate::proofs::Rows::rows_path, crate::proofs::Rows::rows_all))]
+#[tactic(auto, using(crate::proofs::Rows::rows_more))]
 fn rows_json(
     alloc: Global,
     sight: &Sight<'_>,
@@ -60,18 +60,17 @@ fn rows_json(
 
 /// What the root of a query prints from the trees of its page's rows: a list, an object or null; or the names of the members
 /// that lead to the first two answers where one is asked. It looks at no view: what is not known yet is told, and another try
-/// gets further once it is.
-#[tactic(auto, using(crate::proofs::Untold::page_untold))]
+/// gets further once it is. `next` counts the ids that were printed.
 pub fn page_json(
     alloc: Global,
     sight: &Sight<'_>,
     asked: &Asked,
     trees: &[Tree],
+    next: &mut usize,
 ) -> Result<Result<Json, Vec<JsonText>>, Lack>
     ensures { IfOk result (λ outcome. seen view outcome ≡ page_shape sight.now (asked_view asked.now) (map tree_view trees.now) []) }
 {
-    let mut next = 0;
-    match rows_json(alloc, sight, &mut next, asked.members.as_slice(), trees)? {
+    match rows_json(alloc, sight, next, asked.members.as_slice(), trees)? {
         Ok(items) => Ok(Ok(as_list(asked.listed, items))),
         Err(names) => Ok(Err(names)),
     }

@@ -1,5 +1,5 @@
 //! What a clause prints of an object.
-ghost use Rattle.std.specs.Prelude.{◌≡◌, ℕ, ◌∷◌, Ok, IfOk, OnOk, map, option_map, unwrap_or};
+ghost use Rattle.std.specs.Prelude.{◌≡◌, ◌++◌, [], ◌∷◌, Ok, IfOk, OnOk, map, option_map, unwrap_or};
 ghost use Rattle.gd_defs.specs.Asked as defs;
 ghost use Rattle.gd_defs.specs.Reply as reply;
 ghost use Rattle.gd_json.specs.View.{view, items_view, members_view as printed_view, member_view};
@@ -176,7 +176,7 @@ fn push_member(printed: &mut Members, member: &Member, json: Json) -> Result<(),
 
 /// What members print of an object from the lists of its clauses, or the first path of two answers.
 #[cycle(print)]
-#[tactic(auto, using(crate::proofs::Members::printed_more, crate::proofs::Members::printed_path, crate::proofs::Members::printed_all))]
+#[tactic(auto, using(crate::proofs::Members::printed_more))]
 pub(crate) fn members_json(
     alloc: Global,
     sight: &Sight<'_>,
@@ -251,7 +251,7 @@ fn asks_json(
 
 /// Answers as they print, or the first path of two answers.
 #[cycle(print)]
-#[tactic(auto, using(crate::proofs::Prints::each_more, crate::proofs::Prints::each_path, crate::proofs::Prints::each_all))]
+#[tactic(auto, using(crate::proofs::Prints::each_all))]
 fn each_json(
     alloc: Global,
     sight: &Sight<'_>,

@@ -107,7 +107,10 @@ impl<'a> Sight<'a> {
     fn id_at(&self, at: usize, object: Id) -> Option<&JsonText>
         ensures { IfSome result (λ text. text.now ≡ id_text self.now object) }
     {
-        let entry = self.ids.get(at)?;
+        if at >= self.ids.len() {
+            return None;
+        }
+        let entry = &self.ids[at];
         if entry.0.place() == object.place() {
             Some(&entry.1)
         } else {

@@ -8,7 +8,7 @@ use Rattle.gd_shape.proofs.print.+print.Given as goal
 
 abbrev pub invariant-members_json-loop-member : goal.invariant-members_json-loop-member
 invariant-members_json-loop-member l =
-    members_before (map member_view l.printed.items) (object_print l.sight (members_view (drop l.member-index l.members)) l.at.link l.at.object (lists_view l.lists.now))
+    members_before (map member_view l.printed.items) (object_print l.sight (members_view (drop l.member-index l.members)) l.at.link l.at.object (lists_view l.lists))
     ≡ object_print l.sight (members_view l.members) l.at.link l.at.object (lists_view l.at.lists.now)
 
 abbrev pub invariant-each_json-loop-row : goal.invariant-each_json-loop-row
