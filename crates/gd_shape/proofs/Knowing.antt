@@ -33,6 +33,10 @@ kept prims old new known is = subst (IsKnownOf prims) (sym is) known
 pub id_of : (prims : List Primitive) (ids : List (ℕ × List ℕ)) (k : ℕ) (e : ℕ × List ℕ) (o : ℕ) → AreIdsOf prims ids → k < length ids → e ≡ get_or ids k e → e.0 ≡ o → e.1 ≡ id_text prims o
 id_of prims ids k e o are within read is = are k e (slice_get_read ids (length ids) k e refl within read) ∙ ap (id_text prims) is
 
+-- no ids
+pub no_ids : (prims : List Primitive) (ids : List (ℕ × List ℕ)) → ids ≡ [] → AreIdsOf prims ids
+no_ids prims ids none = subst (AreIdsOf prims) (sym none) (λ k e some. cc)
+
 -- one more id behind those that were found
 pub one_id_more : (prims : List Primitive) (old new : List (ℕ × List ℕ)) (o : ℕ) (t : List ℕ) → AreIdsOf prims old → t ≡ id_text prims o → new ≡ old ++ (o, t) ∷ [] → AreIdsOf prims new
 one_id_more prims old new o t are is more = subst (AreIdsOf prims) (sym more) (behind old are)

@@ -10,6 +10,7 @@ ghost use Rattle.gd_tree.specs.Trees.{list_of};
 ghost use Rattle.gd_trees.specs.View.{trees_view};
 ghost use Rattle.gd_shape.specs.Knowing.{IsKnownOf, AreIdsOf};
 ghost use Rattle.gd_shape.specs.Outcome.{seen};
+ghost use Rattle.gd_shape.specs.declared.shape.ShapeFault.TheVariants.{Memory as no_memory};
 ghost use Rattle.gd_shape.specs.Shaping.{asked_of, trees_in, is_behind, IsOf, IsSamePage, Tells, Refuses, is_unfinished};
 
 use crate::gather::{objects_printed, push_places};
@@ -49,6 +50,8 @@ pub enum ShapeFault {
 }
 
 impl From<Memory> for ShapeFault {
+    ghost from_gives = { λ _ fault. fault ≡ no_memory };
+
     fn from(_refused: Memory) -> ShapeFault {
         ShapeFault::Memory
     }
@@ -146,6 +149,8 @@ impl Shape {
         ensures of { IfOk result (λ shape. (prims : List Primitive) → IsOf prims shape) }
     {
         let trees = trees.items;
+        let known = Known::new(alloc);
+        let ids = Vec::new(alloc);
         let mut places = Vec::new(alloc);
         push_places(&mut places, trees.as_slice())?;
         places.sort()?;
@@ -153,8 +158,8 @@ impl Shape {
         Ok(Shape {
             asked,
             trees,
-            known: Known::new(alloc),
-            ids: Vec::new(alloc),
+            known,
+            ids,
             places,
             objects: Vec::new(alloc),
             gathered: false,
@@ -237,8 +242,27 @@ impl Shape {
         Ok(())
     }
 
-    /// Gathers what is to be looked at, if that was not done yet, or tries to print the page. None: something is to be looked
-    /// at first.
+    /// Gathers what is to be looked at, if that was not done yet, and says whether the page may be printed: nothing is to be
+    /// looked at first.
+    fn ready(&mut self, alloc: Global, view: &View<'_>) -> Result<bool, Memory>
+        requires { IsOf (prims_of view.now) self.old }
+        ensures behind { IfOk result (λ ready. ready ≡ false → IsTrue (is_behind self.new)) }
+        ensures page { IsSamePage self.old self.new }
+        ensures still { IsOf (prims_of view.now) self.new }
+    {
+        if self.gathered {
+            return Ok(true);
+        }
+        match self.gather(alloc, view) {
+            Ok(()) => Ok(!self.is_behind()),
+            Err(lack) => {
+                self.want(lack, 0)?;
+                Ok(false)
+            }
+        }
+    }
+
+    /// Tries to print the page. None: something is to be looked at first.
     fn advance(
         &mut self,
         alloc: Global,
@@ -250,14 +274,8 @@ impl Shape {
         ensures page { IsSamePage self.old self.new }
         ensures still { IsOf (prims_of view.now) self.new }
     {
-        if !self.gathered {
-            if let Err(lack) = self.gather(alloc, view) {
-                self.want(lack, 0)?;
-                return Ok(None);
-            }
-            if self.is_behind() {
-                return Ok(None);
-            }
+        if !self.ready(alloc, view)? {
+            return Ok(None);
         }
         let mut next = 0;
         match self.attempt(alloc, view, &mut next) {

@@ -103,7 +103,6 @@ impl<'a> Sight<'a> {
     }
 
     /// The id of an object, if it is the one at this index of those that were found.
-    #[tactic(auto, using(crate::proofs::Knowing::id_of))]
     fn id_at(&self, at: usize, object: Id) -> Option<&JsonText>
         ensures { IfSome result (λ text. text.now ≡ id_text self.now object) }
     {

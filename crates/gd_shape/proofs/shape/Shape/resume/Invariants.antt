@@ -4,7 +4,7 @@ use Rattle.gd_shape.specs.Shaping.{IsOf, IsSamePage, is_behind}
 use Rattle.gd_shape.proofs.shape.Shape.resume.Given as goal
 
 abbrev pub invariant-loop-left : goal.invariant-loop-left
-invariant-loop-left l = record {
+invariant-loop-left g l = record {
   of : IsOf (prims_of l.view) l.self;
   page : IsSamePage l.initial.self l.self;
   later : l.initial.steps ≤ l.steps;
@@ -15,4 +15,4 @@ invariant-loop-left l = record {
 }
 
 abbrev pub decreases-loop-left : goal.decreases-loop-left
-decreases-loop-left l = 2 * l.left + cond (is_behind l.self) 0 1
+decreases-loop-left g l = 2 * l.left + cond (is_behind l.self) 0 1
