@@ -1,4 +1,6 @@
+pub mod Keys
 pub mod NameLinks
+pub mod Scan
 pub mod Lookup
 pub mod Meets
 pub mod Form

@@ -1,3 +1,5 @@
-pub mod Form
-pub mod Target
 pub mod Asks
+pub mod Form
+pub mod Keys
+pub mod Scan
+pub mod Target
