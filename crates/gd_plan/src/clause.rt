@@ -12,9 +12,9 @@ ghost use Rattle.gd_template.specs.View.{parts};
 ghost use Rattle.gd_plan.specs.Seen.{sort_key_view};
 ghost use Rattle.gd_plan.specs.Planned.{with_clause};
 
+use crate::asked::SortKey;
 use crate::constraint::{asked_end, of_kind};
 use crate::expects::{Expects, expects_of};
-use crate::asked::SortKey;
 use gd_base::memory::Memory;
 use gd_datum::value::Kind;
 use gd_prim::End;
