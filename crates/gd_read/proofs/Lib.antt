@@ -1,6 +1,9 @@
-pub mod Keys
+pub mod Bounds
+pub mod KeyLinks
 pub mod NameLinks
-pub mod Scan
+pub mod Weighed
+pub mod Refused
+pub mod Scanned
 pub mod Lookup
 pub mod Meets
 pub mod Form

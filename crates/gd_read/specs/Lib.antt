@@ -1,5 +1,6 @@
 pub mod Asks
+pub mod Body
 pub mod Form
-pub mod Keys
-pub mod Scan
+pub mod KeysAt
+pub mod Scanned
 pub mod Target

@@ -5,7 +5,7 @@ ghost use Rattle.gd_defs.specs.Data as tests;
 ghost use Rattle.gd_defs.specs.Property as defs;
 ghost use Rattle.gd_datum.specs.Values.{kind_of};
 ghost use Rattle.gd_plan.specs.Seen.{expects_view};
-ghost use Rattle.gd_read.specs.Keys.{holds, is_answer_at};
+ghost use Rattle.gd_read.specs.KeysAt.{holds, is_answer_at};
 
 use gd_base::datum::Datum;
 use gd_base::id::Id;
@@ -28,7 +28,7 @@ fn has_no_typ(prims: &[Primitive], place: Id) -> bool
 }
 
 /// Whether an object stands at the place.
-#[tactic(auto, using(crate::proofs::Keys::object_is))]
+#[tactic(auto, using(crate::proofs::KeyLinks::object_is))]
 fn is_object(linked: &LinkedPrims, place: Id) -> bool
     ensures { result ≡ live.is_object linked.now place }
 {
@@ -112,7 +112,7 @@ fn first_of(linked: &LinkedPrims, property: &Property, links: &[Id]) -> Option<I
 }
 
 /// The first answer of a property on an object.
-#[tactic(auto, using(crate::proofs::Keys::first_answer))]
+#[tactic(auto, using(crate::proofs::KeyLinks::first_answer))]
 pub(crate) fn first_answer(linked: &LinkedPrims, property: &Property, object: Id) -> Option<Id>
     ensures { result ≡ defs.first (defs.answers linked.now property.now object) }
 {

@@ -6,7 +6,7 @@ ghost use Rattle.gd_defs.specs.Rows as defs;
 ghost use Rattle.gd_defs.specs.Reply as reply;
 ghost use Rattle.gd_plan.specs.Seen.{sort_key_view};
 ghost use Rattle.gd_window.specs.Laws.{with_values, directions, keys_at};
-ghost use Rattle.gd_read.specs.Keys.{key_at, own_key, below, first_place};
+ghost use Rattle.gd_read.specs.KeysAt.{key_at, own_key, below};
 
 use crate::answers::first_answer;
 use gd_base::datum::{Datum, Precision};
@@ -110,7 +110,7 @@ fn keys_of(
 }
 
 /// The row of an object, with the places and the values of its sort keys. `Memory`: an allocation was refused.
-#[tactic(auto, using(crate::proofs::Keys::own_keys))]
+#[tactic(auto, using(crate::proofs::KeyLinks::own_keys))]
 pub fn row_of(
     alloc: Global,
     linked: &LinkedPrims,

@@ -3,9 +3,12 @@
 
 mod answers;
 pub mod ask;
+pub mod asked;
+pub mod fault;
 mod found;
 pub mod keys;
 mod names;
+pub mod page;
 pub mod reply;
 mod rows;
 pub mod scan;

@@ -13,7 +13,7 @@ use Rattle.gd_defs.specs.Reply.{fitted}
 use Rattle.gd_template_laws.proofs.Places.{filter-filter, filter-same, live_where-places, places_where-places, object-live, places}
 use Rattle.gd_window.specs.Laws.{keys_at}
 use Rattle.gd_window.specs.declared.keys.Key.{Key}
-use Rattle.gd_read.specs.Keys.{holds, is_answer_at, key_at, own_key, below}
+use Rattle.gd_read.specs.KeysAt.{holds, is_answer_at, key_at, own_key, below}
 
 pub object_is : (prims : List Primitive) (k : ℕ) → is_object prims k ≡ (is_live prims k && passes_at (λ p. is_none p.typ) prims k)
 object_is prims k = object-live prims k
