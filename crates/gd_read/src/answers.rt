@@ -100,6 +100,7 @@ fn is_answer_at(linked: &LinkedPrims, property: &Property, place: Id) -> bool
 }
 
 /// The first of these links that is an answer.
+#[tactic(auto, using(crate::proofs::KeyLinks::first_yes, crate::proofs::KeyLinks::first_no))]
 fn first_of(linked: &LinkedPrims, property: &Property, links: &[Id]) -> Option<Id>
     ensures { result ≡ defs.first (filter (is_answer_at linked.now property.now) links.now) }
 {

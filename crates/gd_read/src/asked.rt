@@ -17,7 +17,7 @@ use crate::page::{is_heavy_page, trees};
 use crate::scan::{Found, scan};
 use gd_base::memory::Memory;
 use gd_frozen::cursor::{Cursor, Places};
-use gd_frozen::write::mark_text;
+use gd_frozen::mark_text;
 use gd_json::value::{Json, JsonText};
 use gd_mql::fault::Path;
 use gd_plan::asked::Asked;

@@ -99,7 +99,8 @@ fn keys_of(
     object: Id,
 ) -> Result<Vec<Key>, Memory>
     requires { AreTimed linked.now }
-    ensures { IfOk result (λ keys. keys.items ≡ map (own_key linked.now object) (map sort_key_view sort.now)) }
+    ensures keys { IfOk result (λ keys. keys.items ≡ map (own_key linked.now object) (map sort_key_view sort.now)) }
+    ensures count { IfOk result (λ keys. length keys.items ≡ length sort.now) }
 {
     let mut keys = Vec::with_capacity(alloc, sort.len())?;
     for key in sort {
@@ -154,8 +155,9 @@ fn mark_keys(
 ) -> Result<Vec<Key>, Memory>
     requires timed { AreTimed prims.now }
     requires end { length prims.now ≤ 2_097_151 }
-    ensures { IfOk result (λ keys. keys.items ≡ keys_at prims.now (map sort_key_view sort.now)
+    ensures keys { IfOk result (λ keys. keys.items ≡ keys_at prims.now (map sort_key_view sort.now)
         (reply.fitted (length prims.now) (map sort_key_view sort.now) places.now)) }
+    ensures count { IfOk result (λ keys. length keys.items ≡ length sort.now) }
 {
     let end = prims.len() as u32;
     let mut keys = Vec::with_capacity(alloc, sort.len())?;
