@@ -97,3 +97,11 @@ pub page_weighs : (prims : List Primitive) (q : Asked) (t : Template) → Answer
 page_weighs prims q t answers none mark f found =
     let light = subst (Each (λ (r : defs.Row). row_weight prims q r.object ≤ 65536)) (sym found.rows) (light_page prims q t answers none mark) in
     ap (λ n. not q.count && nat_lt 262144 n) (same_sum prims q t answers f.rows light ∙ ap (sum_by (λ (r : defs.Row). row_weight prims q r.object)) found.rows)
+
+-- the same where the rows are looked at
+pub heavy_found : (prims : List Primitive) (q : Asked) (t : Template) → Answers prims q t → has_heavy_candidate prims q ≡ false → (mark : Option Mark) (f : Found) → IsFound prims q mark f → q.count ≡ false → (rs : List Row) (heavy : Bool) → rs ≡ f.rows
+    → heavy ≡ nat_lt 262144 (sum_by (λ (r : Row). min (weight prims t r.id) 65537) rs) → heavy ≡ is_heavy_page prims q mark
+heavy_found prims q t answers none mark f found listed rs heavy same is =
+    is ∙ ap (λ (xs : List Row). nat_lt 262144 (sum_by (λ (r : Row). min (weight prims t r.id) 65537) xs)) same
+    ∙ ap (λ b. not b && nat_lt 262144 (sum_by (λ (r : Row). min (weight prims t r.id) 65537) f.rows)) (sym listed)
+    ∙ page_weighs prims q t answers none mark f found
