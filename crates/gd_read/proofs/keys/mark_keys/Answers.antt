@@ -1,4 +1,4 @@
-use Rattle.std.proofs.Common.{◌≡◌, ◌+◌, ◌∷◌, [], ap, length, length-append, arith}
+use Rattle.std.proofs.Common.{◌∷◌, [], ap, length, length-append, arith}
 use Rattle.gd_defs.specs.Reply.{fitted}
 use Rattle.gd_plan.specs.Seen.{sort_key_view}
 use Rattle.gd_window.specs.Laws.{keys_at}
