@@ -12,7 +12,7 @@ use Rattle.gd_tree.specs.Json.{Json, boolean, text}
 use Rattle.gd_tree.specs.Trees.{Tree}
 use Rattle.gd_defs.specs.Asked.{Asked}
 use Rattle.gd_defs.specs.Rows as defs
-use Rattle.gd_defs.specs.Reply.{has_heavy_candidate, is_heavy_page, page, has_more, rows_after, is_ambiguous, page_cursor, row_mark}
+use Rattle.gd_defs.specs.Reply.{has_heavy_candidate, is_heavy_page, page, has_more, rows_after, is_ambiguous, page_cursor, row_mark, result_line, asked_line, Path}
 use Rattle.gd_defs.specs.Template.{Template, tree_of}
 use Rattle.gd_window.specs.declared.row.Row.{Row}
 use Rattle.gd_window.specs.Laws.{defined}
@@ -20,7 +20,8 @@ use Rattle.gd_read.specs.declared.fault.ReadFault.{ReadFault}
 use Rattle.gd_read.specs.declared.fault.ReadFault.TheVariants as fault
 use Rattle.gd_read.specs.declared.scan.Found.{Found}
 use Rattle.gd_read.specs.Scanned.{IsFound, found_of, found_view, PageRows}
-use Rattle.gd_read.specs.Body.{is_many, IsRefused}
+use Rattle.gd_read.specs.declared.asked.Page.{Page}
+use Rattle.gd_read.specs.Body.{is_many, IsRefused, IsBody, IsPage, IsAnswered}
 
 -- ---- what a scan gives
 
@@ -48,7 +49,13 @@ found_err prims q mark e is = by (has_heavy_candidate prims q) refl is
     heavy_line : has_heavy_candidate prims q ≡ true → IsRefused prims q mark (fault.TooWideAnswer 65537)
     heavy_line heavy dateline line with_cursor = rw heavy refl
 
-    by : (b : Bool) → has_heavy_candidate prims q ≡ b → (if b then Err (fault.TooWideAnswer 65537) else Ok (record { rows = page prims q mark; more = has_more prims q mark })) ≡ Err e → IsRefused prims q mark e
+    bad : Result PageRows ReadFault
+    bad = Err (fault.TooWideAnswer 65537)
+
+    good : Result PageRows ReadFault
+    good = Ok (record { rows = page prims q mark; more = has_more prims q mark })
+
+    by : (b : Bool) → has_heavy_candidate prims q ≡ b → (if b then bad else good) ≡ Err e → IsRefused prims q mark e
     by true heavy is = subst (IsRefused prims q mark) (err_same (fault.TooWideAnswer 65537) e is) (heavy_line heavy)
     by false light is = absurd (cc)
 
@@ -111,3 +118,36 @@ cursor_empty dateline (x ∷ xs) more last =
 
 pub cursor_none : (dateline : ℕ) (rs : List Row) (more : Bool) → more ≡ false → boolean false ≡ page_cursor dateline (map defined rs) more
 cursor_none dateline rs more is = rw is refl
+
+-- ---- the page of what is asked
+
+-- a page, where at most one row is asked for and found, or more are
+pub page_is : (prims : List Primitive) (q : Asked) (t : Template) (mark : Option Mark) (p : Page) → 0 < q.limit → (has_heavy_candidate prims q ≡ false) × IsFound prims q mark p.found → (heavy : Bool) → ((m : Option Mark) → IsFound prims q m p.found → heavy ≡ is_heavy_page prims q m) → heavy ≡ false
+    → (q.single && is_many p.found) ≡ false → IsBody prims q t (map defined p.found.rows) p.body → IsPage prims q t mark p
+page_is prims q t mark p some (light, found) heavy heavy_is not_heavy unique body = record {
+  light = light;
+  light_page = sym (heavy_is mark found) ∙ not_heavy;
+  unique = ap (λ b. q.single && b) (sym (many_is prims q mark p.found some found)) ∙ unique;
+  found = found;
+  body = body;
+}
+
+-- a page that is refused since it weighs too much
+pub page_heavy : (prims : List Primitive) (q : Asked) (mark : Option Mark) (f : Found) → (has_heavy_candidate prims q ≡ false) × IsFound prims q mark f → (heavy : Bool) → ((m : Option Mark) → IsFound prims q m f → heavy ≡ is_heavy_page prims q m) → heavy ≡ true
+    → IsRefused prims q mark (fault.TooWideAnswer 262145)
+page_heavy prims q mark f (light, found) heavy heavy_is is = heavy_page_refused prims q mark light (sym (heavy_is mark found) ∙ is)
+
+-- or since more than one row was found
+pub page_many : (prims : List Primitive) (q : Asked) (mark : Option Mark) (f : Found) → 0 < q.limit → (has_heavy_candidate prims q ≡ false) × IsFound prims q mark f → (heavy : Bool) → ((m : Option Mark) → IsFound prims q m f → heavy ≡ is_heavy_page prims q m) → heavy ≡ false
+    → q.single ≡ true → is_many f ≡ true → IsRefused prims q mark fault.NotUnique
+page_many prims q mark f some (light, found) heavy heavy_is not_heavy single many =
+    many_refused prims q mark light (sym (heavy_is mark found) ∙ not_heavy) (ap (λ b. b && nat_lt 1 (length (rows_after prims q mark))) single ∙ sym (many_is prims q mark f some found) ∙ many)
+
+-- the reply line of a page and of what is printed of it
+pub answered : (prims : List Primitive) (q : Asked) (mark : Option Mark) (f : Found) (printed : Result Json Path) (dateline line : ℕ) (with_cursor : Bool) → IsAnswered prims q mark f printed
+    → result_line dateline line (if with_cursor then Some (page_cursor dateline (map defined f.rows) f.more) else None) printed ≡ asked_line prims dateline line with_cursor mark q
+answered prims q mark f printed dateline line with_cursor is =
+    ap (λ rs. result_line dateline line (if with_cursor then Some (page_cursor dateline rs f.more) else None) printed) is.found.rows
+    ∙ ap (λ b. result_line dateline line (if with_cursor then Some (page_cursor dateline (page prims q mark) b) else None) printed) is.found.more
+    ∙ ap (λ r. result_line dateline line (if with_cursor then Some (page_cursor dateline (page prims q mark) (has_more prims q mark)) else None) r) is.prints
+    ∙ sym (rw (is.light, is.light_page) refl)

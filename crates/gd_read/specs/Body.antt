@@ -25,9 +25,9 @@ use Rattle.gd_read.specs.declared.asked.Page.{Page}
 abbrev pub is_many : Found → Bool
 is_many f = f.more || nat_lt 1 (length f.rows)
 
--- what a page prints from: how many rows it has, where they are counted, or their trees
+-- what a page prints from: the trees of its rows, unless they are counted
 abbrev pub IsBody : List Primitive → Asked → Template → List defs.Row → Body → Type 0
-IsBody prims q t rows (Count n) = (q.count ≡ true) × (n ≡ length rows)
+IsBody prims q t rows Count = q.count ≡ true
 IsBody prims q t rows (Trees ts) = (q.count ≡ false) × (map tree_view ts.items ≡ map (λ r. tree_of prims t r.object) rows)
 
 -- the page of a query behind a mark, where nothing weighs too much, and one row is found at most where one is asked
@@ -55,3 +55,10 @@ IsRefused prims q mark f = (dateline line : ℕ) (with_cursor : Bool) → reply.
 abbrev pub printed_view : Result Json Path → Result tree.Json reply.Path
 printed_view (Ok j) = Ok (json_view j)
 printed_view (Err path) = Err path
+
+-- nothing weighs too much, these are the rows of the page, and this is what the root prints of them
+pub record IsAnswered (prims : List Primitive) (q : Asked) (mark : Option Mark) (f : Found) (printed : Result tree.Json reply.Path) : Type 0 where
+  pub light : reply.has_heavy_candidate prims q ≡ false
+  pub light_page : reply.is_heavy_page prims q mark ≡ false
+  pub found : IsFound prims q mark f
+  pub prints : printed ≡ reply.result_json prims q (reply.rows_after prims q mark) (reply.page prims q mark)

@@ -1,16 +1,18 @@
 //! The page of what is asked, and its reply line.
-ghost use Rattle.std.specs.Prelude.{◌≡◌, ◌≢◌, ◌<◌, ◌≤◌, ◌^◌, ◌&&◌, ℕ, Bool, Option, None, length, map, nat_lt, option_map, IfOk, MatchResult};
+ghost use Rattle.std.specs.Prelude.{◌≡◌, ◌≢◌, ◌<◌, ◌≤◌, ◌^◌, ◌&&◌, ℕ, Bool, Option, None, length, map, nat_lt, option_map, IfOk, MatchResult, List, if◌then◌else◌};
 ghost use Rattle.gd_grammar.specs.Mark.{Mark, cursor_text};
 ghost use Rattle.gd_json.specs.View.{view as json_view};
 ghost use Rattle.gd_tree.specs.Json as tree;
 ghost use Rattle.gd_prim.specs.History.{AreTimed};
+ghost use Rattle.gd_prim.specs.declared.Primitive.{Primitive};
+ghost use Rattle.gd_defs.specs.Asked.{Asked as DefinedAsked};
 ghost use Rattle.gd_defs.specs.Lines.{count_json};
 ghost use Rattle.gd_defs.specs.Reply as reply;
 ghost use Rattle.gd_plan.specs.Asked.{asked_view};
 ghost use Rattle.gd_template.specs.Built.{view as template_view};
 ghost use Rattle.gd_window.specs.Laws.{defined, places};
 ghost use Rattle.gd_read.specs.Scanned.{Answers, IsFound, mark_of};
-ghost use Rattle.gd_read.specs.Body.{IsPage, IsRefused, IsBody, printed_view, is_many, fault_line};
+ghost use Rattle.gd_read.specs.Body.{IsPage, IsRefused, IsBody, printed_view, is_many, fault_line, IsAnswered};
 
 use crate::fault::ReadFault;
 use crate::page::{is_heavy_page, trees};
@@ -30,10 +32,10 @@ use gd_window::keys::Key;
 use gd_window::row::Row;
 use std::alloc::Global;
 
-/// What a page prints from: how many rows it has, where they are counted, or their trees.
+/// What a page prints from: the trees of its rows, or nothing but how many they are, where they are counted.
 #[derive(Drop)]
 pub enum Body {
-    Count(u32),
+    Count,
     Trees(Vec<Tree>),
 }
 
@@ -61,10 +63,10 @@ fn body_of(
 ) -> Result<Body, Memory>
     ensures { IfOk result (λ body. IsBody linked.now (asked_view asked.now) (template_view template.now) (map defined found.now.rows) body) }
 {
-    let rows = found.rows.as_slice();
     if asked.count {
-        return Ok(Body::Count(rows.len() as u32));
+        return Ok(Body::Count);
     }
+    let rows = found.rows.as_slice();
     Ok(Body::Trees(trees(alloc, linked, template, rows)?))
 }
 
@@ -167,7 +169,7 @@ pub fn result_line(
     }
 }
 
-/// The refusal of a read that has no page, or the want of memory.
+/// The refusal of a read that has no page.
 pub fn refusal_line(
     alloc: Global,
     dateline: u32,
@@ -175,7 +177,8 @@ pub fn refusal_line(
     fault: ReadFault,
 ) -> Result<Vec<u8>, Memory>
     requires { line < 2 ^ 63 }
-    ensures { IfOk result (λ bytes. (fault ≢ ReadFault.Memory) × (bytes.items ≡ fault_line dateline line fault)) }
+    ensures refused { IfOk result (λ bytes. bytes.items ≡ fault_line dateline line fault) }
+    ensures memory { IfOk result (λ _. fault ≢ ReadFault.Memory) }
 {
     match fault {
         ReadFault::TooWideAnswer { weight } => {
@@ -187,4 +190,38 @@ pub fn refusal_line(
         }
         ReadFault::Memory => Err(Memory),
     }
+}
+
+/// The cursor of a page, if one is asked for.
+fn asked_cursor(
+    alloc: Global,
+    dateline: u32,
+    with_cursor: bool,
+    found: &Found,
+) -> Result<Option<Json>, Memory>
+    ensures { IfOk result (λ cursor. option_map json_view cursor
+        ≡ (if with_cursor then Some (reply.page_cursor dateline (map defined found.now.rows) found.now.more) else None)) }
+{
+    if with_cursor {
+        Ok(Some(page_cursor(alloc, dateline, found)?))
+    } else {
+        Ok(None)
+    }
+}
+
+/// The reply line to what is asked, from its page and from what the root prints of it.
+pub fn answer_line(
+    alloc: Global,
+    dateline: u32,
+    line: u64,
+    with_cursor: bool,
+    found: &Found,
+    printed: Result<Json, Path>,
+) -> Result<Vec<u8>, Memory>
+    requires { line < 2 ^ 63 }
+    ensures { (prims : List Primitive) → (q : DefinedAsked) → (mark : Option Mark) → IsAnswered prims q mark found.now (printed_view printed)
+        → IfOk result (λ bytes. bytes.items ≡ reply.asked_line prims dateline line with_cursor mark q) }
+{
+    let cursor = asked_cursor(alloc, dateline, with_cursor, found)?;
+    result_line(alloc, dateline, line, cursor, printed)
 }
