@@ -1,2 +1,6 @@
-pub mod Tests
+pub mod Gathers
+pub mod Plans
+pub mod SortWords
 pub mod Sorts
+pub mod Tests
+pub mod Walks

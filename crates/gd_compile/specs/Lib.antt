@@ -1,3 +1,4 @@
 pub mod Fault
 pub mod Seen
+pub mod Walk
 pub mod Words

@@ -2,6 +2,7 @@
 ghost use Rattle.std.specs.Prelude.{◌≡◌, ◌≤◌, ◌++◌, ◌∷◌, [], map, OnOk};
 ghost use Rattle.gd_prim.specs.History.{prims_of};
 ghost use Rattle.gd_defs.specs.Asked as defs;
+ghost use Rattle.gd_mql.specs.Clauses.{sort_view};
 ghost use Rattle.gd_mql.specs.Directives.{sort_word_view};
 ghost use Rattle.gd_compile.specs.Fault.{Finds};
 ghost use Rattle.gd_plan.specs.Seen.{expects_view};
@@ -13,6 +14,7 @@ use crate::words::{is_guid, is_id, is_timestamp};
 use gd_base::id::Id;
 use gd_base::memory::Memory;
 use gd_base::steps::Steps;
+use gd_mql::clause::SortWords;
 use gd_mql::directive::SortWord;
 use gd_plan::asked::SortKey;
 use gd_plan::expects::{Expects, expects_of};
@@ -79,7 +81,8 @@ pub fn sort_key<L>(
     }
 }
 
-fn same(context: &Option<Id>) -> Option<Id>
+/// The same context again.
+pub(crate) fn same(context: &Option<Id>) -> Option<Id>
     ensures { result ≡ context.now }
 {
     match context {
@@ -96,21 +99,24 @@ fn push_key(keys: &mut Vec<SortKey>, key: SortKey) -> Result<(), Memory>
 }
 
 /// The sort keys of the words of a directive `sort`, in order; the first word that is none is refused as `sort_key` says.
+#[tactic(auto, using(crate::proofs::SortWords::few_words, crate::proofs::SortWords::word_there))]
 pub fn sort_keys<L>(
     alloc: Global,
     view: &View<'_>,
     context: Option<Id>,
     path: &[&str],
-    words: &[SortWord<'_>],
+    words: &SortWords<'_>,
     steps: &mut Steps<L>,
 ) -> Result<Vec<SortKey>, Unknown>
-    ensures keys { Finds (λ keys. map sort_key_view keys.items) (defs.sort_keys (prims_of view.now) context (map (λ name. name.now) path.now) (map sort_word_view words.now)) result }
+    ensures keys { Finds (λ keys. map sort_key_view keys.items) (defs.sort_keys (prims_of view.now) context (map (λ name. name.now) path.now) (sort_view words.now)) result }
     ensures later { steps.old ≤ steps.new }
 {
     let mut keys = Vec::new(alloc);
-    for word in words {
-        let key = sort_key(alloc, view, same(&context), path, word, steps)?;
+    let mut index = 0;
+    while let Some(word) = words.word(index) {
+        let key = sort_key(alloc, view, same(&context), path, &word, steps)?;
         push_key(&mut keys, key)?;
+        index += 1;
     }
     Ok(keys)
 }

@@ -46,7 +46,7 @@ pub(crate) fn is_timestamp(word: &str) -> bool
     word == "timestamp" || word == "/type/object/timestamp"
 }
 
-fn is_link(word: &str) -> bool
+pub(crate) fn is_link(word: &str) -> bool
     ensures { result ≡ query.is_link word.now }
 {
     word == "link"

@@ -151,3 +151,8 @@ answered prims q mark f printed dateline line with_cursor is =
     ∙ ap (λ b. result_line dateline line (if with_cursor then Some (page_cursor dateline (page prims q mark) b) else None) printed) is.found.more
     ∙ ap (λ r. result_line dateline line (if with_cursor then Some (page_cursor dateline (page prims q mark) (has_more prims q mark)) else None) r) is.prints
     ∙ sym (rw (is.light, is.light_page) refl)
+
+-- the same for the cursor that was made
+pub answered_by : (prims : List Primitive) (q : Asked) (mark : Option Mark) (f : Found) (printed : Result Json Path) (dateline line : ℕ) (with_cursor : Bool) (cursor : Option Json) → cursor ≡ (if with_cursor then Some (page_cursor dateline (map defined f.rows) f.more) else None)
+    → IsAnswered prims q mark f printed → result_line dateline line cursor printed ≡ asked_line prims dateline line with_cursor mark q
+answered_by prims q mark f printed dateline line with_cursor cursor made is = ap (λ c. result_line dateline line c printed) made ∙ answered prims q mark f printed dateline line with_cursor is
