@@ -10,4 +10,4 @@ mod write;
 
 pub use read::cursor_from;
 pub use stop::FrozenFault;
-pub use write::cursor_text;
+pub use write::{cursor_text, mark_text};

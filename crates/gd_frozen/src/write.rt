@@ -1,6 +1,6 @@
 //! Texts of cursors.
-ghost use Rattle.std.specs.Prelude.{◌≡◌, ℕ, List, ◌++◌, OnOk, IfOk, codes, decimal, flat_map};
-ghost use Rattle.gd_grammar.specs.Mark.{place_text};
+ghost use Rattle.std.specs.Prelude.{◌≡◌, ℕ, List, ◌++◌, OnOk, IfOk, codes, decimal, flat_map, string_bytes};
+ghost use Rattle.gd_grammar.specs.Mark.{place_text, cursor_text as cursor_text_of};
 ghost use Rattle.gd_bytes.specs.Cursor as defined;
 ghost use Rattle.gd_frozen.specs.Meant.{meant};
 
@@ -11,35 +11,51 @@ use itoa::Buffer;
 use std::alloc::Global;
 
 /// Appends a text and, behind it, a number in decimal digits.
-fn push_number(out: &mut Vec<u8>, front: &str, n: u32) -> Result<(), Memory>
-    ensures { OnOk result (out.new.items ≡ out.old.items ++ front.now ++ decimal n) }
+fn push_number(out: &mut String, front: &str, n: u32) -> Result<(), Memory>
+    ensures { OnOk result (string_bytes out.new ≡ string_bytes out.old ++ front.now ++ decimal n) }
 {
-    out.extend_from_slice(front.as_bytes())?;
-    out.extend_from_slice(Buffer::new().format(n).as_bytes())?;
+    out.push_str(front)?;
+    out.push_str(Buffer::new().format(n))?;
     Ok(())
 }
 
 /// Appends the place of a key.
-fn push_place(out: &mut Vec<u8>, place: Option<Id>) -> Result<(), Memory>
-    ensures { OnOk result (out.new.items ≡ out.old.items ++ (codes ":" ++ place_text place)) }
+fn push_place(out: &mut String, place: Option<Id>) -> Result<(), Memory>
+    ensures { OnOk result (string_bytes out.new ≡ string_bytes out.old ++ (codes ":" ++ place_text place)) }
 {
     match place {
         Some(id) => push_number(out, ":", id.place()),
         None => {
-            out.extend_from_slice(b":-")?;
+            out.push_str(":-")?;
             Ok(())
         }
     }
 }
 
 /// Appends the places of keys.
-fn push_places(out: &mut Vec<u8>, places: &[Option<Id>]) -> Result<(), Memory>
-    ensures { OnOk result (out.new.items ≡ out.old.items ++ flat_map (λ place. codes ":" ++ place_text place) places.now) }
+fn push_places(out: &mut String, places: &[Option<Id>]) -> Result<(), Memory>
+    ensures { OnOk result (string_bytes out.new ≡ string_bytes out.old ++ flat_map (λ place. codes ":" ++ place_text place) places.now) }
 {
     for place in places {
         push_place(out, *place)?;
     }
     Ok(())
+}
+
+/// The text of a cursor: of its dateline, its object and the places of its keys. `Memory`: an allocation was refused.
+pub fn mark_text(
+    alloc: Global,
+    dateline: u32,
+    object: Id,
+    keys: &[Option<Id>],
+) -> Result<String, Memory>
+    ensures { IfOk result (λ text. string_bytes text ≡ cursor_text_of dateline (record { object = object; keys = keys.now })) }
+{
+    let mut out = String::new(alloc);
+    push_number(&mut out, "c1:", dateline)?;
+    push_number(&mut out, ":", object.place())?;
+    push_places(&mut out, keys)?;
+    Ok(out)
 }
 
 /// The text of a cursor whose dateline is at most 4,194,303 and whose places are at most 2,097,151. `cursor_from` gives
@@ -50,9 +66,11 @@ pub fn cursor_text(alloc: Global, cursor: &Cursor) -> Result<Vec<u8>, Memory>
     ensures one { (bytes : List ℕ) → defined.IsCursorText (meant cursor.now) bytes → IfOk result (λ text. text.items ≡ bytes) }
     ensures again { IfOk result (λ text. defined.cursor_of text.items ≡ Ok (meant cursor.now)) }
 {
-    let mut out = Vec::new(alloc);
-    push_number(&mut out, "c1:", cursor.dateline)?;
-    push_number(&mut out, ":", cursor.object.place())?;
-    push_places(&mut out, cursor.keys.as_slice())?;
-    Ok(out)
+    let text = mark_text(
+        alloc,
+        cursor.dateline,
+        cursor.object,
+        cursor.keys.as_slice(),
+    )?;
+    Ok(text.into_bytes())
 }

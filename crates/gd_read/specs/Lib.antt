@@ -1,3 +1,6 @@
-pub mod Form
-pub mod Target
 pub mod Asks
+pub mod Body
+pub mod Form
+pub mod KeysAt
+pub mod Scanned
+pub mod Target

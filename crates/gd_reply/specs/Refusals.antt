@@ -1,13 +1,25 @@
 -- What a refusal prints.
 use Rattle.std.specs.Prelude.{[], ◌∷◌, ◌<◌, ◌^◌, codes}
 use Rattle.gd_tree.specs.Json.{text}
-use Rattle.gd_defs.specs.Lines.{Refusal as Printed, refusal as printed, count_json, too_wide, too_large}
+use Rattle.gd_defs.specs.Lines.{Refusal as Printed, refusal as printed, refused_at, count_json, too_wide, too_large, bad_cursor, cursor_ahead}
+use Rattle.gd_defs.specs.Query as query
+use Rattle.gd_defs.specs.Query.{Code}
 use Rattle.gd_defs.specs.Reply.{bad_query_refusal}
 use Rattle.gd_runs.specs.Request.{what_text}
 use Rattle.gd_runs.specs.Input.{json_refusal}
 use Rattle.gd_mql.specs.Line.{code_view}
+use Rattle.gd_reply.specs.declared.refusal.Misfit.{Misfit}
+use Rattle.gd_reply.specs.declared.refusal.Misfit.TheVariants as misfit
 use Rattle.gd_reply.specs.declared.refusal.Refusal.{Refusal}
 use Rattle.gd_reply.specs.declared.refusal.Refusal.TheVariants as refusal
+
+-- the code of a query that does not go with what its words stand for
+abbrev pub misfit_view : Misfit → Code
+misfit_view misfit.BadValue = query.bad_value
+misfit_view misfit.BadOperator = query.bad_operator
+misfit_view misfit.ValueReversed = query.value_reversed
+misfit_view misfit.ObjectForm = query.object_form
+misfit_view misfit.BadSort = query.bad_sort
 
 -- the error with its information
 abbrev pub refusal_of : Refusal → Printed
@@ -17,6 +29,11 @@ refusal_of refusal.BadLine = printed (codes "BadLine") []
 refusal_of (refusal.BadQuery code path) = bad_query_refusal (code_view code) path
 refusal_of (refusal.Full what count) = printed (codes "Full") ((codes "count", count_json count) ∷ (codes "what", text (what_text what)) ∷ [])
 refusal_of (refusal.NoSuchId path) = printed (codes "NoSuchId") ((codes "path", text path) ∷ [])
+refusal_of (refusal.NoSuchProperty path) = refused_at (codes "NoSuchProperty") path
+refusal_of (refusal.Misfit m path) = bad_query_refusal (misfit_view m) path
+refusal_of (refusal.NotUnique path) = refused_at (codes "NotUnique") path
+refusal_of (refusal.BadCursor offset) = bad_cursor offset
+refusal_of (refusal.CursorAhead asked have) = cursor_ahead asked have
 refusal_of (refusal.TooWideAnswer weight) = too_wide weight
 refusal_of (refusal.ReplyTooLarge bytes) = too_large bytes
 refusal_of refusal.Memory = printed (codes "Memory") []
@@ -25,4 +42,5 @@ refusal_of refusal.Memory = printed (codes "Memory") []
 abbrev pub CountsFit : Refusal → Type 0
 CountsFit (refusal.Full what count) = count < 2 ^ 63
 CountsFit (refusal.ReplyTooLarge bytes) = bytes < 2 ^ 63
+CountsFit (refusal.BadCursor offset) = offset < 2 ^ 63
 CountsFit _ = Unit {0}

@@ -84,6 +84,27 @@ pub fn ok_line(alloc: Global, dateline: u32, line: u64, outcome: &Json) -> Resul
     Ok(OkLine { bytes, outcome })
 }
 
+/// The reply line of an answer with a cursor: the text of it, or none where nothing follows.
+pub fn ok_cursor_line(
+    alloc: Global,
+    dateline: u32,
+    line: u64,
+    cursor: Json,
+    outcome: Json,
+) -> Result<Vec<u8>, Memory>
+    requires { line < 2 ^ 63 }
+    ensures { IfOk result (λ bytes. bytes.items
+        ≡ printed.ok_cursor_line dateline line (view cursor) (view outcome)) }
+{
+    let mut members = Vec::new(alloc);
+    push_text(alloc, &mut members, "code", "/api/status/ok")?;
+    push_member(alloc, &mut members, "cursor", cursor)?;
+    push_count(alloc, &mut members, "dateline", u64::from(dateline))?;
+    push_count(alloc, &mut members, "line", line)?;
+    push_member(alloc, &mut members, "result", outcome)?;
+    object_line(alloc, members)
+}
+
 /// Appends what each refusal tells: its name, its information and the number of its line.
 fn push_refusal(
     alloc: Global,

@@ -6,7 +6,7 @@ ghost use Rattle.gd_defs.specs.Lines.{object_of, count_json, texts};
 ghost use Rattle.gd_defs.specs.Reply.{code_text};
 ghost use Rattle.gd_runs.specs.Request.{what_text};
 ghost use Rattle.gd_mql.specs.Line.{code_view};
-ghost use Rattle.gd_reply.specs.Refusals.{refusal_of, CountsFit};
+ghost use Rattle.gd_reply.specs.Refusals.{refusal_of, misfit_view, CountsFit};
 
 use crate::members::{list, object, push_count, push_member, push_text};
 use gd_base::memory::Memory;
@@ -15,6 +15,21 @@ use gd_json::value::{Json, JsonText};
 use gd_mql::fault::{Code, Path};
 use gd_prim::What;
 use std::alloc::Global;
+
+/// How a query of a right form does not go with what its words stand for.
+#[derive(Clone, Copy, Debug, PartialEq, Eq)]
+pub enum Misfit {
+    /// The operand is no value of what is asked.
+    BadValue,
+    /// The operator does not stand on answers of this kind.
+    BadOperator,
+    /// A property that holds values is asked for backwards.
+    ValueReversed,
+    /// A form on a value or a key has a member that may not stand there.
+    ObjectForm,
+    /// Rows are not sorted by this word.
+    BadSort,
+}
 
 /// Why a line is refused, with what its reply tells of it.
 #[derive(Drop)]
@@ -31,6 +46,16 @@ pub enum Refusal {
     Full { what: What, count: u64 },
     /// No object has this id.
     NoSuchId { path: JsonText },
+    /// No property is meant by the word of the name at the end of this path.
+    NoSuchProperty { path: Path },
+    /// What stands at the end of this path does not go with what its words stand for.
+    Misfit { misfit: Misfit, path: Path },
+    /// More than one answer stands where one is asked, at the end of this path.
+    NotUnique { path: Path },
+    /// The text of a cursor is none, and so many of its bytes begin one.
+    BadCursor { offset: u64 },
+    /// The dateline of a cursor is above the one that there is.
+    CursorAhead { asked: u32, have: u32 },
     /// An answer or a page weighs at least so much.
     TooWideAnswer { weight: u32 },
     /// The reply line would have so many bytes.
@@ -59,9 +84,13 @@ pub fn error_name(refusal: &Refusal) -> &'static str
         Refusal::LineTooLong => "LineTooLong",
         Refusal::Json(fault) => json_name(*fault),
         Refusal::BadLine => "BadLine",
-        Refusal::BadQuery { .. } => "BadQuery",
+        Refusal::BadQuery { .. } | Refusal::Misfit { .. } => "BadQuery",
         Refusal::Full { .. } => "Full",
         Refusal::NoSuchId { .. } => "NoSuchId",
+        Refusal::NoSuchProperty { .. } => "NoSuchProperty",
+        Refusal::NotUnique { .. } => "NotUnique",
+        Refusal::BadCursor { .. } => "BadCursor",
+        Refusal::CursorAhead { .. } => "CursorAhead",
         Refusal::TooWideAnswer { .. } => "TooWideAnswer",
         Refusal::ReplyTooLarge { .. } => "ReplyTooLarge",
         Refusal::Memory => "Memory",
@@ -83,6 +112,18 @@ fn code_name(code: Code) -> &'static str
         Code::BadConnect => "bad_connect",
         Code::Unbuilt => "unbuilt",
         Code::BadValue => "bad_value",
+    }
+}
+
+fn misfit_name(misfit: Misfit) -> &'static str
+    ensures { result.now ≡ code_text (misfit_view misfit) }
+{
+    match misfit {
+        Misfit::BadValue => "bad_value",
+        Misfit::BadOperator => "bad_operator",
+        Misfit::ValueReversed => "value_reversed",
+        Misfit::ObjectForm => "object_form",
+        Misfit::BadSort => "bad_sort",
     }
 }
 
@@ -123,6 +164,34 @@ fn query_info(alloc: Global, code: Code, path: &Path) -> Result<Json, Memory>
     let mut members = Vec::new(alloc);
     push_text(alloc, &mut members, "code", code_name(code))?;
     push_member(alloc, &mut members, "path", path_list(alloc, path)?)?;
+    Ok(object(members))
+}
+
+fn misfit_info(alloc: Global, misfit: Misfit, path: &Path) -> Result<Json, Memory>
+    ensures { IfOk result (λ json. view json ≡ object_tree (object_of ((codes "code", text_of (code_text (misfit_view misfit)))
+        ∷ (codes "path", list_of (texts path.now)) ∷ []))) }
+{
+    let mut members = Vec::new(alloc);
+    push_text(alloc, &mut members, "code", misfit_name(misfit))?;
+    push_member(alloc, &mut members, "path", path_list(alloc, path)?)?;
+    Ok(object(members))
+}
+
+fn path_info(alloc: Global, path: &Path) -> Result<Json, Memory>
+    ensures { IfOk result (λ json. view json ≡ object_tree (object_of ((codes "path", list_of (texts path.now)) ∷ []))) }
+{
+    let mut members = Vec::new(alloc);
+    push_member(alloc, &mut members, "path", path_list(alloc, path)?)?;
+    Ok(object(members))
+}
+
+fn ahead_info(alloc: Global, asked: u32, have: u32) -> Result<Json, Memory>
+    ensures { IfOk result (λ json. view json ≡ object_tree (object_of ((codes "asked", count_json asked)
+        ∷ (codes "have", count_json have) ∷ []))) }
+{
+    let mut members = Vec::new(alloc);
+    push_count(alloc, &mut members, "asked", u64::from(asked))?;
+    push_count(alloc, &mut members, "have", u64::from(have))?;
     Ok(object(members))
 }
 
@@ -168,5 +237,9 @@ pub fn info(alloc: Global, refusal: &Refusal) -> Result<Json, Memory>
         Refusal::NoSuchId { path } => text_info(alloc, "path", path),
         Refusal::TooWideAnswer { weight } => count_info(alloc, "weight", u64::from(*weight)),
         Refusal::ReplyTooLarge { bytes } => count_info(alloc, "bytes", *bytes),
+        Refusal::NoSuchProperty { path } | Refusal::NotUnique { path } => path_info(alloc, path),
+        Refusal::Misfit { misfit, path } => misfit_info(alloc, *misfit, path),
+        Refusal::BadCursor { offset } => count_info(alloc, "offset", *offset),
+        Refusal::CursorAhead { asked, have } => ahead_info(alloc, *asked, *have),
     }
 }
