@@ -1,7 +1,8 @@
 //! A list of primitives with its indexes.
-ghost use Rattle.std.specs.Prelude.{◌≡◌, ◌+◌, ◌≤◌, [], ◌++◌, None, length, take, slice_get, IsTrue, IfOk, OnOk, OnErr};
+ghost use Rattle.std.specs.Prelude.{◌≡◌, ◌+◌, ◌-◌, ◌^◌, ◌<◌, ◌≤◌, [], ◌++◌, None, Some, length, take, slice_get, min, IsTrue, IfOk, OnOk, OnErr};
 ghost use Rattle.std.specs.List.{last_or};
 ghost use Rattle.gd_base.specs.Counts.{Rose};
+ghost use Rattle.gd_prim.specs.End.{places_with};
 ghost use Rattle.gd_prim.specs.Live as graph;
 ghost use Rattle.gd_store.specs.Indexed.{may_enter};
 ghost use Rattle.gd_store.specs.Keys.{is_key_link, is_key_of};
@@ -12,7 +13,7 @@ use gd_base::memory::Memory;
 use gd_base::steps::Steps;
 use gd_base::text::Text;
 use gd_prim::well_formed::Prior;
-use gd_prim::{Primitive, Prims};
+use gd_prim::{End, Primitive, Prims};
 use std::alloc::Global;
 use std::marker::Model;
 
@@ -163,6 +164,26 @@ impl IndexedPrims {
     {
         steps.tick();
         self.indexes.key_of(object, k, Id(end), steps)
+    }
+
+    /// How many primitives below `below` have this node at the end.
+    pub(crate) fn link_count<L>(&self, end: End, node: Id, below: u32, steps: &mut Steps<L>) -> u32
+        ensures count { result ≡ length (places_with end node (take below self.now)) }
+        ensures work { steps.new ≤ steps.old + 22 }
+        ensures later { steps.old ≤ steps.new }
+        ensures counted { Rose steps.old steps.new }
+    {
+        self.indexes.link_count(end, node, Id(below), steps)
+    }
+
+    /// The k-th place, from 0 in rising order, whose primitive has this node at the end.
+    pub(crate) fn link_at<L>(&self, end: End, node: Id, k: u32, steps: &mut Steps<L>) -> Id
+        requires { k < length (places_with end node self.now) }
+        ensures place { slice_get (places_with end node self.now) k ≡ Some result }
+        ensures work { steps.new ≡ min (steps.old + 1) (2 ^ 64 - 1) }
+        ensures later { steps.old ≤ steps.new }
+    {
+        self.indexes.link_at(end, node, k, steps)
     }
 }
 

@@ -1,7 +1,8 @@
 //! The store.
-ghost use Rattle.std.specs.Prelude.{◌≡◌, ◌^◌, ◌+◌, ◌-◌, ◌<◌, ◌≤◌, [], ◌∷◌, ◌++◌, None, Some, length, take, drop, slice_get, option_map, sum_by, nat_lt, if◌then◌else◌, Ok, Err, IsTrue, IfOk, IfErr, OnOk, OnErr, MatchResult};
+ghost use Rattle.std.specs.Prelude.{◌≡◌, ◌^◌, ◌+◌, ◌-◌, ◌<◌, ◌≤◌, [], ◌∷◌, ◌++◌, None, Some, length, take, drop, slice_get, min, option_map, sum_by, nat_lt, if◌then◌else◌, Ok, Err, IsTrue, IfOk, IfErr, OnOk, OnErr, MatchResult};
 ghost use Rattle.std.specs.List.{last_or};
 ghost use Rattle.gd_base.specs.Counts.{Rose};
+ghost use Rattle.gd_prim.specs.End.{places_with};
 ghost use Rattle.gd_prim.specs.History.{prims_of, prims_at, is_history, AreHeld, AreTimed};
 ghost use Rattle.gd_prim.specs.Live as graph;
 ghost use Rattle.gd_prim.specs.WellFormed.{bad_place};
@@ -19,7 +20,7 @@ use gd_base::text::Text;
 use gd_prim::builtin::builtin;
 use gd_prim::limits::{MAX_BATCH, MAX_PRIMS, MAX_REQUESTS, MAX_TEXT, batch_text_bytes};
 use gd_prim::well_formed::{BadBatch, is_well_formed_behind};
-use gd_prim::{Batch, Primitive, Prims, What};
+use gd_prim::{Batch, End, Primitive, Prims, What};
 use std::alloc::Global;
 use std::marker::Model;
 use thiserror::Error;
@@ -359,6 +360,41 @@ impl Store {
         ensures counted { Rose steps.old steps.new }
     {
         self.prims.key_of(object, k, self.end(dateline), steps)
+    }
+
+    /// How many primitives below a dateline have this node at the end.
+    pub(crate) fn link_count<L>(
+        &self,
+        dateline: u32,
+        end: End,
+        node: Id,
+        steps: &mut Steps<L>,
+    ) -> u32
+        requires { dateline ≤ length self.now }
+        ensures count { result ≡ length (places_with end node (prims_at self.now dateline)) }
+        ensures work { steps.new ≤ steps.old + 22 }
+        ensures later { steps.old ≤ steps.new }
+        ensures counted { Rose steps.old steps.new }
+    {
+        self.prims.link_count(end, node, self.end(dateline), steps)
+    }
+
+    /// The k-th place below a dateline, from 0 in rising order, whose primitive has this node at the end.
+    pub(crate) fn link_at<L>(
+        &self,
+        dateline: u32,
+        end: End,
+        node: Id,
+        k: u32,
+        steps: &mut Steps<L>,
+    ) -> Id
+        requires there { dateline ≤ length self.now }
+        requires within { k < length (places_with end node (prims_at self.now dateline)) }
+        ensures place { slice_get (places_with end node (prims_at self.now dateline)) k ≡ Some result }
+        ensures work { steps.new ≡ min (steps.old + 1) (2 ^ 64 - 1) }
+        ensures later { steps.old ≤ steps.new }
+    {
+        self.prims.link_at(end, node, k, steps)
     }
 
     /// The store as it was at a dateline, which is a number of whole requests.

@@ -8,7 +8,6 @@ ghost use Rattle.gd_prim.specs.Live as graph;
 ghost use Rattle.gd_prim.specs.WellFormed.{may_hold};
 ghost use Rattle.gd_store.specs.Keys.{is_key_link, is_key_of};
 
-use crate::scan::{count_with, place_with};
 use crate::store::Store;
 use gd_base::id::Id;
 use gd_base::steps::Steps;
@@ -159,11 +158,13 @@ impl<'a> View<'a> {
     /// How many primitives have this node at the end. It takes no memory.
     pub fn list_len<L>(&self, end: End, node: Id, steps: &mut Steps<L>) -> u32
         ensures len { result ≡ length (places_with end node (prims_of self.now)) }
+        ensures few { steps.new ≤ steps.old + 22 }
         ensures work { steps.new ≤ steps.old + length (prims_of self.now) }
         ensures later { steps.old ≤ steps.new }
         ensures counted { Rose steps.old steps.new }
     {
-        count_with(self.prims(), end, node, steps)
+        let store = self.store;
+        store.link_count(self.dateline, end, node, steps)
     }
 
     /// The k-th place, from 0 in rising order, whose primitive has this node at the end. It takes no memory.
@@ -171,10 +172,12 @@ impl<'a> View<'a> {
         requires { k < length (places_with end node (prims_of self.now)) }
         ensures place { slice_get (places_with end node (prims_of self.now)) k ≡ Some result }
         ensures below { result < length (prims_of self.now) }
+        ensures one { steps.new ≡ min (steps.old + 1) (2 ^ 64 - 1) }
         ensures work { steps.new ≤ steps.old + length (prims_of self.now) }
         ensures later { steps.old ≤ steps.new }
         ensures counted { Rose steps.old steps.new }
     {
-        place_with(self.prims(), end, node, k, steps)
+        let store = self.store;
+        store.link_at(self.dateline, end, node, k, steps)
     }
 }
