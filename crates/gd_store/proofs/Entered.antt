@@ -163,7 +163,7 @@ above_where t before ids id is place =
     let here : 0 + length before ≡ id = omega (arith, place) in
     subst (λ ys. IsAbove ys id) (sym is) (subst (IsAbove (places_where t before)) here (places_above t 0 before))
 
-taken_back : (b : Bool) (id : ℕ) (ids : List ℕ) → without_entry b (with_entry b id ids) ≡ ids
+pub taken_back : (b : Bool) (id : ℕ) (ids : List ℕ) → without_entry b (with_entry b id ids) ≡ ids
 taken_back true id ids = all_but_last ids id
   where
     all_but_last : (xs : List ℕ) (x : ℕ) → take (length (xs ++ x ∷ []) - 1) (xs ++ x ∷ []) ≡ xs

@@ -10,6 +10,7 @@ use Rattle.gd_versions.specs.Versions.{successor_of}
 use Rattle.gd_keys.specs.Keys.{KeysValue, key_list, object_list}
 use Rattle.gd_linkage.specs.Linkage.{LinkageValue, list_of}
 use Rattle.gd_store.specs.Keys.{is_key_link, is_key_of}
+use Rattle.gd_store.specs.Valued.{AreValues}
 use Rattle.gd_store.specs.declared.indexes.Indexes.{Indexes}
 
 -- the primitive may be entered behind these: its previous one, if there is one, is current among them
@@ -39,6 +40,7 @@ pub record AreIndexes (indexes : Indexes) (prims : List Primitive) : Type 0 wher
   pub successors : AreSuccessors indexes.versions prims
   pub keys : AreKeys indexes.keys prims
   pub links : AreLinks indexes.linkage prims
+  pub values : AreValues indexes.values prims
 
 -- the indexes are those of the list, and it could be entered
 pub record IsIndexed (indexes : Indexes) (prims : List Primitive) : Type 0 where
