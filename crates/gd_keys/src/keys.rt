@@ -4,11 +4,11 @@ ghost use Rattle.std.specs.Option.{ForSome, option_copied};
 ghost use Rattle.gd_postings.specs.Postings.{IsAbove};
 ghost use Rattle.gd_keys.specs.Keys.{key_list, object_list, is_under, is_of, with_entry, without_entry, last_of, SameIds};
 
-use crate::names::Names;
-use crate::objects::Objects;
 use gd_base::id::Id;
 use gd_base::memory::Memory;
 use gd_base::text::Text;
+use gd_lists::nodes::NodeLists;
+use gd_lists::pairs::PairLists;
 use gd_postings::postings::Postings;
 use std::alloc::Global;
 use std::marker::Model;
@@ -17,14 +17,14 @@ use std::marker::Model;
 /// lists through `key_list` and `object_list`. A list that was never made is as an empty one.
 #[derive(Drop)]
 pub struct Keys {
-    by_key: Names,
-    by_object: Objects,
+    by_key: PairLists,
+    by_object: NodeLists,
     empty: Postings,
 }
 
 impl Model for Keys {
     ghost use Rattle.std.specs.Prelude.{◌≡◌};
-    ghost use Rattle.gd_keys.specs.Lists.{nothing};
+    ghost use Rattle.gd_lists.specs.Lists.{nothing};
     ghost use Rattle.gd_keys.specs.Keys.{KeysValue};
 
     ghost Value = { KeysValue };
@@ -41,8 +41,8 @@ impl Keys {
         ensures by_object { (o : ℕ) → (object_list result o).ids ≡ [] }
     {
         Keys {
-            by_key: Names::new(alloc),
-            by_object: Objects::new(alloc),
+            by_key: PairLists::new(alloc),
+            by_object: NodeLists::new(alloc),
             empty: Postings::new(alloc),
         }
     }

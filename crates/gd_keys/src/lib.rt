@@ -2,6 +2,3 @@
 #![tactic(auto)]
 
 pub mod keys;
-mod names;
-mod objects;
-mod texts;

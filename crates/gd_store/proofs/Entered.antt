@@ -14,7 +14,10 @@ use Rattle.gd_postings.specs.Postings.{IsAbove, ids_below}
 use Rattle.gd_versions.specs.Versions.{successor_of}
 use Rattle.gd_keys.specs.Keys.{KeysValue, key_list, object_list, is_under, is_of, with_entry, without_entry, last_of, SameIds}
 use Rattle.gd_store.specs.Keys.{is_key_link, is_key_of}
-use Rattle.gd_store.specs.Indexed.{may_come, may_enter, AreSuccessors, AreKeys, AreIndexes, IsIndexed, below_end}
+use Rattle.gd_prim.specs.declared.End.{End}
+use Rattle.gd_prim.specs.End.{end_of, places_with}
+use Rattle.gd_linkage.specs.Linkage.{LinkageValue, list_of, SamePlaces, IsBehind, HasEntries}
+use Rattle.gd_store.specs.Indexed.{may_come, may_enter, AreSuccessors, AreKeys, AreLinks, AreIndexes, IsIndexed, below_end}
 use Rattle.gd_store.specs.declared.indexes.Indexes.{Indexes}
 use Rattle.gd_store.proofs.Follows.{first, second, both}
 use Rattle.gd_store.proofs.Places.{places_more, places_above, places_front, first_more, first_none, first_cut, first_some}
@@ -160,7 +163,7 @@ above_where t before ids id is place =
     let here : 0 + length before ≡ id = omega (arith, place) in
     subst (λ ys. IsAbove ys id) (sym is) (subst (IsAbove (places_where t before)) here (places_above t 0 before))
 
-taken_back : (b : Bool) (id : ℕ) (ids : List ℕ) → without_entry b (with_entry b id ids) ≡ ids
+pub taken_back : (b : Bool) (id : ℕ) (ids : List ℕ) → without_entry b (with_entry b id ids) ≡ ids
 taken_back true id ids = all_but_last ids id
   where
     all_but_last : (xs : List ℕ) (x : ℕ) → take (length (xs ++ x ∷ []) - 1) (xs ++ x ∷ []) ≡ xs
@@ -283,6 +286,47 @@ keys_taken old new prims place p text is passed value are by_key by_object =
 pub keys_left : (keys : KeysValue) (prims : List Primitive) (place : ℕ) (p : Primitive) → slice_get prims place ≡ Some p → refers p.typ 15 ≡ false
     → AreKeys keys (take (place + 1) prims) → AreKeys keys (take place prims)
 keys_left keys prims place p is refused are = keys_same_less keys (take place prims) p refused (subst (AreKeys keys) (front_more prims place p is) are)
+
+-- ---- nodes
+
+-- one more
+links_more : (prims : List Primitive) (place : ℕ) (p : Primitive) (end : End) (node : ℕ) → slice_get prims place ≡ Some p → place < length prims
+    → places_with end node (take (place + 1) prims) ≡ with_entry (is_of (end_of end p) node) place (places_with end node (take place prims))
+links_more prims place p end node is there =
+    ap (places_with end node) (front_more prims place p is)
+    ∙ where_more (λ q. refers (end_of end q) node) (take place prims) p (is_of (end_of end p) node) place (namespace_is (end_of end p) node) (sym (length_front prims place (omega arith)))
+
+-- its place is behind the lists that it is entered in
+pub links_behind : (old mid : LinkageValue) (prims : List Primitive) (place : ℕ) (p : Primitive) → place < length prims → AreLinks old (take place prims) → SamePlaces old mid → IsBehind p place mid
+links_behind old mid prims place p there are same = λ end node is.
+    above_where (λ q. refers (end_of end q) node) (take place prims) (list_of end node mid).ids place (same end node ∙ are end node) (sym (length_front prims place (omega arith)))
+
+pub links_entered : (old mid new : LinkageValue) (prims : List Primitive) (place : ℕ) (p : Primitive) → slice_get prims place ≡ Some p → place < length prims → AreLinks old (take place prims) → SamePlaces old mid
+    → ((end : End) (node : ℕ) → (list_of end node new).ids ≡ with_entry (is_of (end_of end p) node) place (list_of end node mid).ids)
+    → AreLinks new (take (place + 1) prims)
+links_entered old mid new prims place p is there are same add = λ end node.
+    add end node ∙ ap (with_entry (is_of (end_of end p) node) place) (same end node ∙ are end node) ∙ sym (links_more prims place p end node is there)
+
+-- the same places
+pub links_as : (old new : LinkageValue) (prims : List Primitive) → AreLinks old prims → SamePlaces old new → AreLinks new prims
+links_as old new prims are same = λ end node. same end node ∙ are end node
+
+-- the lists that the last primitive was entered in end with it
+pub links_there : (linkage : LinkageValue) (prims : List Primitive) (place : ℕ) (p : Primitive) → slice_get prims place ≡ Some p → place < length prims → AreLinks linkage (take (place + 1) prims) → HasEntries p linkage
+links_there linkage prims place p is there are = λ end node has.
+    let named : is_of (end_of end p) node ≡ true = ap (λ o. is_of o node) has ∙ eq-eqb node node refl in
+    entry_some (list_of end node linkage).ids place
+    (entry_last (list_of end node linkage).ids (places_with end node (take place prims)) place
+    (are end node ∙ links_more prims place p end node is there ∙ ap (λ b. with_entry b place (places_with end node (take place prims))) named))
+
+pub links_taken : (old new : LinkageValue) (prims : List Primitive) (place : ℕ) (p : Primitive) → slice_get prims place ≡ Some p → place < length prims → AreLinks old (take (place + 1) prims)
+    → ((end : End) (node : ℕ) → (list_of end node new).ids ≡ without_entry (is_of (end_of end p) node) (list_of end node old).ids)
+    → AreLinks new (take place prims)
+links_taken old new prims place p is there are back = λ end node.
+    back end node ∙ ap (without_entry (is_of (end_of end p) node)) (are end node ∙ links_more prims place p end node is there)
+    ∙ taken_back (is_of (end_of end p) node) place (places_with end node (take place prims))
+
+-- ---- versions
 
 -- the previous one of a primitive is below its place
 pub previous_small : (prims : List Primitive) (place : ℕ) (p : Primitive) (q : ℕ) → slice_get prims place ≡ Some p → place < length prims → may_enter [] prims ≡ true → p.previous ≡ Some q → q < place

@@ -1,5 +1,5 @@
 -- The primitives of a list of batches and of its front.
-use Rattle.std.proofs.Common.{◌≡◌, ℕ, List, ◌++◌, length, take, drop, refl, sym, ap, ◌∙◌, append_assoc, length-append, ◌+◌, ◌≤◌, arith}
+use Rattle.std.proofs.Common.{◌≡◌, ℕ, List, ◌++◌, length, take, drop, refl, sym, ap, ◌∙◌, append_assoc, length-append, subst, ◌+◌, ◌≤◌, arith}
 use Rattle.std.specs.Prelude.{flat_map}
 use Rattle.std.proofs.lemmas.List.{take-append-drop}
 use Rattle.std.proofs.lemmas.Grind.{flat_map-append}
@@ -32,3 +32,7 @@ front_le_all bs n =
 pub seventy : (bs : List Batch) → length (prims_at bs 0) ≡ 70
 unfolding prims_of
 seventy bs = refl
+
+-- so there are always so many
+pub past_seventy : (bs : List Batch) → 70 ≤ length (prims_of bs)
+past_seventy bs = subst (λ n. n ≤ length (prims_of bs)) (seventy bs) (front_le_all bs 0)

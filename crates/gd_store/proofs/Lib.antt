@@ -6,4 +6,5 @@ pub mod History
 pub mod Places
 pub mod Rising
 pub mod Stored
+pub mod Valued
 pub mod Within

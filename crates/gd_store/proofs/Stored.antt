@@ -37,6 +37,10 @@ pub front_at : (prims : List Primitive) (requests : List Request) (text : ℕ) (
 front_at prims requests text bs end n stored view is =
     ap (λ k. take k prims) is ∙ ap (take (length (prims_at bs n))) (sym (all_of_batches prims requests text stored) ∙ ap prims_of view) ∙ front_of_all bs n
 
+pub front_is : (prims : List Primitive) (requests : List Request) (text : ℕ) (bs : List Batch) (n : ℕ) → IsStored prims requests text → batches prims requests ≡ bs
+    → take (length (prims_at bs n)) prims ≡ prims_at bs n
+front_is prims requests text bs n stored view = front_at prims requests text bs (length (prims_at bs n)) n stored view refl
+
 -- a batch that is well formed and passes no limit may be entered behind it
 pub batch_fits : (prims more : List Primitive) (requests : List Request) (text : ℕ) (bs : List Batch) (b : Batch) → IsStored prims requests text → batches prims requests ≡ bs
     → more ≡ b.prims → first_full (limits (prims_of bs) (length bs) b.prims) ≡ None → length prims + length more ≤ 2_097_151

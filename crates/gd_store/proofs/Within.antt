@@ -1,11 +1,14 @@
 -- The places that a test finds are below the end of the list.
-use Rattle.std.proofs.Common.{◌≡◌, ℕ, zero, suc, ◌+◌, ◌<◌, Bool, List, [], ◌∷◌, length, refl, ◌∙◌, sym, arith}
-use Rattle.std.specs.Prelude.{Option, None, Some, slice_get, IfSome}
+use Rattle.std.proofs.Common.{◌≡◌, ℕ, zero, suc, ◌+◌, ◌<◌, ◌≤◌, Bool, true, false, List, [], ◌∷◌, length, take, refl, ◌∙◌, sym, subst, arith}
+use Rattle.std.specs.Prelude.{Option, None, Some, slice_get, IfSome, if◌then◌else◌}
 use Rattle.std.specs.List.{last_or}
 use Rattle.gd_prim.specs.declared.Primitive.{Primitive}
 use Rattle.gd_prim.specs.Live.{refers, places_where, successor}
 use Rattle.gd_postings.specs.Postings.{IsAbove}
-use Rattle.gd_store.proofs.Entered.{above_where}
+use Rattle.std.specs.List.{cons_option}
+use Rattle.gd_store.specs.Scan.{places_from}
+use Rattle.gd_store.proofs.Entered.{above_where, below_where}
+use Rattle.gd_store.proofs.Rising.{fewer_below}
 use Rattle.gd_store.proofs.Places.{first_within}
 
 -- one of a list is less than what is above the list
@@ -56,3 +59,35 @@ successor_within prims place o is = if_some o (length prims) less
     less x some =
         let within : x < 0 + length prims = first_within (λ p. refers p.previous place) 0 prims x (sym is ∙ some) in
         omega (arith, within)
+
+-- ---- a front of the list
+
+-- no more pass there
+front_fewer : (t : Primitive → Bool) (n : ℕ) (prims : List Primitive) → length (places_where t (take n prims)) ≤ length (places_where t prims)
+front_fewer t n prims = subst (λ ids. length ids ≤ length (places_where t prims)) (below_where t n prims (places_where t prims) refl) (fewer_below (places_where t prims) n)
+
+kth_of : (b : Bool) (place k x : ℕ) (front all : List ℕ) → ((j : ℕ) → j < length front → slice_get all j ≡ Some x → slice_get front j ≡ Some x)
+    → k < length (cons_option (if b then Some place else None) front) → slice_get (cons_option (if b then Some place else None) all) k ≡ Some x
+    → slice_get (cons_option (if b then Some place else None) front) k ≡ Some x
+kth_of true place zero x front all rest within is = is
+kth_of true place (suc k) x front all rest within is = rest k (omega (arith, within)) is
+kth_of false place k x front all rest within is = rest k within is
+
+kth_from : (t : Primitive → Bool) (place n : ℕ) (prims : List Primitive) (x k : ℕ) → k < length (places_from t place (take n prims)) → slice_get (places_from t place prims) k ≡ Some x
+    → slice_get (places_from t place (take n prims)) k ≡ Some x
+kth_from t place zero prims x k within is = absurd (omega (arith, within))
+kth_from t place (suc n) [] x k within is = is
+kth_from t place (suc n) (p ∷ prims) x k within is =
+    kth_of (t p) place k x (places_from t (place + 1) (take n prims)) (places_from t (place + 1) prims) (kth_from t (place + 1) n prims x) within is
+
+-- what has a place in a front has one in the list
+pub within_all : (t : Primitive → Bool) (n : ℕ) (prims front : List Primitive) (k : ℕ) → take n prims ≡ front → k < length (places_where t front) → k < length (places_where t prims)
+within_all t n prims front k is within =
+    let fewer : length (places_where t front) ≤ length (places_where t prims) = subst (λ xs. length (places_where t xs) ≤ length (places_where t prims)) is (front_fewer t n prims) in
+    omega (arith, fewer, within)
+
+-- and the first ones of all are those there
+pub front_kth : (t : Primitive → Bool) (n : ℕ) (prims front : List Primitive) (k x : ℕ) → take n prims ≡ front → k < length (places_where t front) → slice_get (places_where t prims) k ≡ Some x
+    → slice_get (places_where t front) k ≡ Some x
+front_kth t n prims front k x is within found =
+    subst (λ xs. slice_get (places_where t xs) k ≡ Some x) is (kth_from t 0 n prims x k (subst (λ xs. k < length (places_where t xs)) (sym is) within) found)

@@ -1,12 +1,16 @@
 -- What the indexes of a list of primitives hold.
 use Rattle.std.specs.Prelude.{◌≡◌, ℕ, List, [], ◌∷◌, ◌++◌, length, Bool, true, ◌&&◌, nat_lt, Option, Some, None, option_and_then, if◌then◌else◌, IsTrue}
 use Rattle.gd_prim.specs.declared.Primitive.{Primitive}
+use Rattle.gd_prim.specs.declared.End.{End}
+use Rattle.gd_prim.specs.End.{places_with}
 use Rattle.gd_prim.specs.Limits.{max_prims}
 use Rattle.gd_prim.specs.Live.{successor, places_where}
 use Rattle.gd_prim.specs.WellFormed.{refers_below, succeeds_current}
 use Rattle.gd_versions.specs.Versions.{successor_of}
 use Rattle.gd_keys.specs.Keys.{KeysValue, key_list, object_list}
+use Rattle.gd_linkage.specs.Linkage.{LinkageValue, list_of}
 use Rattle.gd_store.specs.Keys.{is_key_link, is_key_of}
+use Rattle.gd_store.specs.Valued.{AreValues}
 use Rattle.gd_store.specs.declared.indexes.Indexes.{Indexes}
 
 -- the primitive may be entered behind these: its previous one, if there is one, is current among them
@@ -27,10 +31,16 @@ pub record AreKeys (keys : KeysValue) (prims : List Primitive) : Type 0 where
   pub by_key : (namespace : ℕ) (key : List ℕ) → (key_list keys namespace key).ids ≡ places_where (is_key_link namespace key) prims
   pub by_object : (object : ℕ) → (object_list keys object).ids ≡ places_where (is_key_of object) prims
 
--- both
+-- the places that name a node, by the end at which they do
+abbrev pub AreLinks : LinkageValue → List Primitive → Type 0
+AreLinks linkage prims = (end : End) (node : ℕ) → (list_of end node linkage).ids ≡ places_with end node prims
+
+-- all of these
 pub record AreIndexes (indexes : Indexes) (prims : List Primitive) : Type 0 where
   pub successors : AreSuccessors indexes.versions prims
   pub keys : AreKeys indexes.keys prims
+  pub links : AreLinks indexes.linkage prims
+  pub values : AreValues indexes.values prims
 
 -- the indexes are those of the list, and it could be entered
 pub record IsIndexed (indexes : Indexes) (prims : List Primitive) : Type 0 where

@@ -2,4 +2,5 @@ pub mod Indexed
 pub mod Keys
 pub mod Scan
 pub mod Stored
+pub mod Valued
 pub mod Viewed

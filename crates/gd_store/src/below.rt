@@ -1,11 +1,26 @@
 //! What a posting list holds below a place.
-ghost use Rattle.std.specs.Prelude.{◌≡◌, ◌+◌, ◌≤◌, None, slice_get};
+ghost use Rattle.std.specs.Prelude.{◌≡◌, ◌+◌, ◌≤◌, None, length, slice_get};
 ghost use Rattle.std.specs.List.{last_or};
+ghost use Rattle.gd_base.specs.Counts.{Rose};
 ghost use Rattle.gd_postings.specs.Postings.{ids_below};
 
 use gd_base::id::Id;
 use gd_base::steps::Steps;
 use gd_postings::postings::Postings;
+
+/// How many identities are less than `end`.
+pub(crate) fn count_below<L>(list: &Postings, end: Id, steps: &mut Steps<L>) -> u32
+    ensures count { result ≡ length (ids_below end list.now.ids) }
+    ensures work { steps.new ≤ steps.old + 22 }
+    ensures later { steps.old ≤ steps.new }
+    ensures counted { Rose steps.old steps.new }
+{
+    if list.len() == 0 {
+        steps.tick();
+        return 0;
+    }
+    list.len_below(end, steps)
+}
 
 /// The last identity that is less than `end`, if there is one.
 pub(crate) fn last_below<L>(list: &Postings, end: Id, steps: &mut Steps<L>) -> Option<Id>

@@ -1,18 +1,21 @@
 //! A list of primitives with its indexes.
-ghost use Rattle.std.specs.Prelude.{◌≡◌, ◌+◌, ◌≤◌, [], ◌++◌, None, length, take, slice_get, IsTrue, IfOk, OnOk, OnErr};
+ghost use Rattle.std.specs.Prelude.{◌≡◌, ◌+◌, ◌-◌, ◌^◌, ◌<◌, ◌≤◌, [], ◌++◌, None, Some, length, take, slice_get, min, IsTrue, IfOk, OnOk, OnErr};
 ghost use Rattle.std.specs.List.{last_or};
 ghost use Rattle.gd_base.specs.Counts.{Rose};
+ghost use Rattle.gd_prim.specs.End.{places_with};
 ghost use Rattle.gd_prim.specs.Live as graph;
 ghost use Rattle.gd_store.specs.Indexed.{may_enter};
 ghost use Rattle.gd_store.specs.Keys.{is_key_link, is_key_of};
+ghost use Rattle.gd_store.specs.Valued.{number_in, places_of_number};
 
 use crate::indexes::Indexes;
+use gd_base::datum::Datum;
 use gd_base::id::Id;
 use gd_base::memory::Memory;
 use gd_base::steps::Steps;
 use gd_base::text::Text;
 use gd_prim::well_formed::Prior;
-use gd_prim::{Primitive, Prims};
+use gd_prim::{End, Primitive, Prims};
 use std::alloc::Global;
 use std::marker::Model;
 
@@ -163,6 +166,62 @@ impl IndexedPrims {
     {
         steps.tick();
         self.indexes.key_of(object, k, Id(end), steps)
+    }
+
+    /// How many primitives below `below` have this node at the end.
+    pub(crate) fn link_count<L>(&self, end: End, node: Id, below: u32, steps: &mut Steps<L>) -> u32
+        ensures count { result ≡ length (places_with end node (take below self.now)) }
+        ensures work { steps.new ≤ steps.old + 22 }
+        ensures later { steps.old ≤ steps.new }
+        ensures counted { Rose steps.old steps.new }
+    {
+        self.indexes.link_count(end, node, Id(below), steps)
+    }
+
+    /// The k-th place, from 0 in rising order, whose primitive has this node at the end.
+    pub(crate) fn link_at<L>(&self, end: End, node: Id, k: u32, steps: &mut Steps<L>) -> Id
+        requires { k < length (places_with end node self.now) }
+        ensures place { slice_get (places_with end node self.now) k ≡ Some result }
+        ensures work { steps.new ≡ min (steps.old + 1) (2 ^ 64 - 1) }
+        ensures later { steps.old ≤ steps.new }
+    {
+        self.indexes.link_at(end, node, k, steps)
+    }
+
+    /// The number of a value among those of the primitives below `end`, if it is one.
+    pub(crate) fn number_of<L>(
+        &self,
+        value: &Datum,
+        end: u32,
+        steps: &mut Steps<L>,
+    ) -> Option<usize>
+        ensures number { result ≡ number_in value.now (take end self.now) }
+        ensures work { steps.new ≤ steps.old + 2 }
+        ensures later { steps.old ≤ steps.new }
+        ensures counted { Rose steps.old steps.new }
+    {
+        steps.tick();
+        self.indexes.number_of(value, Id(end), steps)
+    }
+
+    /// How many primitives below `end` have the value with a number.
+    pub(crate) fn value_count<L>(&self, number: u32, end: u32, steps: &mut Steps<L>) -> u32
+        ensures count { result ≡ length (places_of_number number (take end self.now)) }
+        ensures work { steps.new ≤ steps.old + 22 }
+        ensures later { steps.old ≤ steps.new }
+        ensures counted { Rose steps.old steps.new }
+    {
+        self.indexes.value_count(number, Id(end), steps)
+    }
+
+    /// The k-th place, from 0 in rising order, whose primitive has the value with a number.
+    pub(crate) fn value_place<L>(&self, number: u32, k: u32, steps: &mut Steps<L>) -> Id
+        requires { k < length (places_of_number number self.now) }
+        ensures place { slice_get (places_of_number number self.now) k ≡ Some result }
+        ensures work { steps.new ≡ min (steps.old + 1) (2 ^ 64 - 1) }
+        ensures later { steps.old ≤ steps.new }
+    {
+        self.indexes.value_place(number, k, steps)
     }
 }
 

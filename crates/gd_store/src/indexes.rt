@@ -1,5 +1,6 @@
-//! Indexes of a list of primitives: which one succeeds which, and where the key links are.
-ghost use Rattle.std.specs.Prelude.{◌≡◌, ◌+◌, ◌<◌, ◌≤◌, [], None, length, take, slice_get, is_some, IsTrue, OnOk, OnErr};
+//! Indexes of a list of primitives: which one succeeds which, where the key links are, which places name a node, and
+//! which have a value.
+ghost use Rattle.std.specs.Prelude.{◌≡◌, ◌+◌, ◌-◌, ◌^◌, ◌<◌, ◌≤◌, [], None, Some, length, take, slice_get, min, position, is_some, if◌then◌else◌, IsTrue, OnOk, OnErr};
 ghost use Rattle.std.specs.List.{last_or};
 ghost use Rattle.std.specs.Option.{option_copied};
 ghost use Rattle.gd_base.specs.Counts.{Rose};
@@ -7,28 +8,36 @@ ghost use Rattle.gd_prim.specs.Live as graph;
 ghost use Rattle.gd_postings.specs.Postings.{ids_below};
 ghost use Rattle.gd_versions.specs.Versions.{successor_of};
 ghost use Rattle.gd_keys.specs.Keys.{key_list, object_list};
-ghost use Rattle.gd_store.specs.Indexed.{AreSuccessors, AreKeys, AreIndexes, may_enter, below_end};
+ghost use Rattle.gd_linkage.specs.Linkage.{list_of};
+ghost use Rattle.gd_store.specs.Indexed.{AreSuccessors, AreKeys, AreLinks, AreIndexes, may_enter, below_end};
+ghost use Rattle.gd_base.specs.Order.{datum_eq};
+ghost use Rattle.gd_valueidx.specs.Values.{value_list, values_in, number_list};
+ghost use Rattle.gd_store.specs.Valued.{AreValues};
 
-use crate::below::{at_below, last_below};
+use crate::below::{at_below, count_below, last_below};
 use gd_base::datum::Datum;
 use gd_base::id::Id;
 use gd_base::memory::Memory;
 use gd_base::steps::Steps;
 use gd_base::text::Text;
 use gd_keys::keys::Keys;
-use gd_prim::Primitive;
+use gd_linkage::linkage::Linkage;
 use gd_prim::live::refers;
+use gd_prim::{End, Primitive};
+use gd_valueidx::values::Values;
 use gd_versions::versions::Versions;
 use std::alloc::Global;
 
 /// The property of key links.
 const KEY: Id = Id(15);
 
-/// Which primitive of a list succeeds which, and the places of its key links.
+/// Which primitive of a list succeeds which, the places of its key links, and the places by nodes and by values.
 #[derive(Drop)]
 pub(crate) struct Indexes {
     versions: Versions,
     keys: Keys,
+    linkage: Linkage,
+    values: Values,
 }
 
 /// The text that the value is.
@@ -73,6 +82,106 @@ fn take_out_key(keys: &mut Keys, prims: &[Primitive], place: usize)
     }
 }
 
+/// Enters the primitive at a place in the list of each node that it names, or for want of memory leaves each list as
+/// it was.
+fn enter_links(linkage: &mut Linkage, prims: &[Primitive], place: usize) -> Result<(), Memory>
+    requires there { place < length prims.now }
+    requires few { length prims.now ≤ 2_097_151 }
+    requires before { AreLinks linkage.old (take place prims.now) }
+    ensures ok { OnOk result (AreLinks linkage.new (take (place + 1) prims.now)) }
+    ensures err { OnErr result (AreLinks linkage.new (take place prims.now)) }
+{
+    let prim = &prims[place];
+    linkage.reserve(prim)?;
+    linkage.add(prim, Id(place as u32));
+    Ok(())
+}
+
+/// Takes the primitive at a place away again from the list of each node that it names. It is the last that was entered.
+fn take_out_links(linkage: &mut Linkage, prims: &[Primitive], place: usize)
+    requires there { place < length prims.now }
+    requires before { AreLinks linkage.old (take (place + 1) prims.now) }
+    ensures { AreLinks linkage.new (take place prims.now) }
+{
+    linkage.retract(&prims[place]);
+}
+
+/// Enters the primitive at a place in the lists of key links and of nodes, or for want of memory leaves each list as it
+/// was.
+fn enter_lists(
+    keys: &mut Keys,
+    linkage: &mut Linkage,
+    prims: &[Primitive],
+    place: usize,
+) -> Result<(), Memory>
+    requires there { place < length prims.now }
+    requires few { length prims.now ≤ 2_097_151 }
+    requires before_keys { AreKeys keys.old (take place prims.now) }
+    requires before_links { AreLinks linkage.old (take place prims.now) }
+    ensures ok_keys { OnOk result (AreKeys keys.new (take (place + 1) prims.now)) }
+    ensures ok_links { OnOk result (AreLinks linkage.new (take (place + 1) prims.now)) }
+    ensures err_keys { OnErr result (AreKeys keys.new (take place prims.now)) }
+    ensures err_links { OnErr result (AreLinks linkage.new (take place prims.now)) }
+{
+    enter_key(keys, prims, place)?;
+    if let Err(fault) = enter_links(linkage, prims, place) {
+        take_out_key(keys, prims, place);
+        return Err(fault);
+    }
+    Ok(())
+}
+
+/// Enters the primitive at a place in the list of its value, or for want of memory leaves each list as it was.
+fn enter_value(values: &mut Values, prims: &[Primitive], place: usize) -> Result<(), Memory>
+    requires there { place < length prims.now }
+    requires few { length prims.now ≤ 2_097_151 }
+    requires before { AreValues values.old (take place prims.now) }
+    ensures ok { OnOk result (AreValues values.new (take (place + 1) prims.now)) }
+    ensures err { OnErr result (AreValues values.new (take place prims.now)) }
+{
+    let prim = &prims[place];
+    values.add(&prim.value, Id(place as u32))?;
+    Ok(())
+}
+
+/// Takes the primitive at a place away again from the list of its value. It is the last that was entered.
+fn take_out_value(values: &mut Values, prims: &[Primitive], place: usize)
+    requires there { place < length prims.now }
+    requires before { AreValues values.old (take (place + 1) prims.now) }
+    ensures { AreValues values.new (take place prims.now) }
+{
+    let prim = &prims[place];
+    values.retract(&prim.value);
+}
+
+/// Enters the primitive at a place in all lists, or for want of memory leaves each list as it was.
+fn enter_all_lists(
+    keys: &mut Keys,
+    linkage: &mut Linkage,
+    values: &mut Values,
+    prims: &[Primitive],
+    place: usize,
+) -> Result<(), Memory>
+    requires there { place < length prims.now }
+    requires few { length prims.now ≤ 2_097_151 }
+    requires before_keys { AreKeys keys.old (take place prims.now) }
+    requires before_links { AreLinks linkage.old (take place prims.now) }
+    requires before_values { AreValues values.old (take place prims.now) }
+    ensures ok_keys { OnOk result (AreKeys keys.new (take (place + 1) prims.now)) }
+    ensures ok_links { OnOk result (AreLinks linkage.new (take (place + 1) prims.now)) }
+    ensures ok_values { OnOk result (AreValues values.new (take (place + 1) prims.now)) }
+    ensures err_keys { OnErr result (AreKeys keys.new (take place prims.now)) }
+    ensures err_links { OnErr result (AreLinks linkage.new (take place prims.now)) }
+    ensures err_values { OnErr result (AreValues values.new (take place prims.now)) }
+{
+    enter_value(values, prims, place)?;
+    if let Err(fault) = enter_lists(keys, linkage, prims, place) {
+        take_out_value(values, prims, place);
+        return Err(fault);
+    }
+    Ok(())
+}
+
 /// Enters the primitive at a place as the successor of its previous one, or for want of memory leaves each place's
 /// successor as it was.
 fn enter_version(versions: &mut Versions, prims: &[Primitive], place: usize) -> Result<(), Memory>
@@ -112,6 +221,8 @@ impl Indexes {
         Indexes {
             versions: Versions::new(alloc),
             keys: Keys::new(alloc),
+            linkage: Linkage::new(alloc),
+            values: Values::new(alloc),
         }
     }
 
@@ -126,7 +237,13 @@ impl Indexes {
         ensures err { OnErr result (AreIndexes self.new (take place prims.now)) }
     {
         enter_version(&mut self.versions, prims, place)?;
-        if let Err(fault) = enter_key(&mut self.keys, prims, place) {
+        if let Err(fault) = enter_all_lists(
+            &mut self.keys,
+            &mut self.linkage,
+            &mut self.values,
+            prims,
+            place,
+        ) {
             take_out_version(&mut self.versions, prims, place);
             return Err(fault);
         }
@@ -140,6 +257,8 @@ impl Indexes {
         requires before { AreIndexes self.old (take (place + 1) prims.now) }
         ensures { AreIndexes self.new (take place prims.now) }
     {
+        take_out_value(&mut self.values, prims, place);
+        take_out_links(&mut self.linkage, prims, place);
         take_out_key(&mut self.keys, prims, place);
         take_out_version(&mut self.versions, prims, place);
     }
@@ -197,6 +316,58 @@ impl Indexes {
         ensures later { steps.old ≤ steps.new }
     {
         at_below(self.keys.by_object(object), k, end, steps)
+    }
+
+    /// How many places below `below` name this node at this end.
+    pub(crate) fn link_count<L>(&self, end: End, node: Id, below: Id, steps: &mut Steps<L>) -> u32
+        ensures count { result ≡ length (ids_below below (list_of end node self.now.linkage).ids) }
+        ensures work { steps.new ≤ steps.old + 22 }
+        ensures later { steps.old ≤ steps.new }
+        ensures counted { Rose steps.old steps.new }
+    {
+        count_below(self.linkage.list(end, node), below, steps)
+    }
+
+    /// The k-th place, from 0, that names this node at this end.
+    pub(crate) fn link_at<L>(&self, end: End, node: Id, k: u32, steps: &mut Steps<L>) -> Id
+        requires { k < length (list_of end node self.now.linkage).ids }
+        ensures place { slice_get (list_of end node self.now.linkage).ids k ≡ Some result }
+        ensures work { steps.new ≡ min (steps.old + 1) (2 ^ 64 - 1) }
+        ensures later { steps.old ≤ steps.new }
+    {
+        self.linkage.list_at(end, node, k, steps)
+    }
+
+    /// The number of a value that has a place below `end`.
+    pub(crate) fn number_of<L>(&self, value: &Datum, end: Id, steps: &mut Steps<L>) -> Option<usize>
+        ensures number { result ≡ (if is_some (slice_get (ids_below end (value_list value.now self.now.values).ids) 0) then position (datum_eq value.now) (values_in self.now.values) else None) }
+        ensures work { steps.new ≤ steps.old + 1 }
+        ensures later { steps.old ≤ steps.new }
+    {
+        match at_below(self.values.list(value), 0, end, steps) {
+            Some(_) => self.values.number_of(value),
+            None => None,
+        }
+    }
+
+    /// How many places below `end` have the value with a number.
+    pub(crate) fn value_count<L>(&self, number: u32, end: Id, steps: &mut Steps<L>) -> u32
+        ensures count { result ≡ length (ids_below end (number_list number self.now.values).ids) }
+        ensures work { steps.new ≤ steps.old + 22 }
+        ensures later { steps.old ≤ steps.new }
+        ensures counted { Rose steps.old steps.new }
+    {
+        count_below(self.values.list_at(number as usize), end, steps)
+    }
+
+    /// The k-th place, from 0, that has the value with a number.
+    pub(crate) fn value_place<L>(&self, number: u32, k: u32, steps: &mut Steps<L>) -> Id
+        requires { k < length (number_list number self.now.values).ids }
+        ensures place { slice_get (number_list number self.now.values).ids k ≡ Some result }
+        ensures work { steps.new ≡ min (steps.old + 1) (2 ^ 64 - 1) }
+        ensures later { steps.old ≤ steps.new }
+    {
+        self.values.list_at(number as usize).at(k, steps)
     }
 
     /// The successor of a place, if it is below `end`.

@@ -4,6 +4,5 @@
 mod below;
 mod indexed;
 mod indexes;
-mod scan;
 pub mod store;
 pub mod view;

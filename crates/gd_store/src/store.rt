@@ -1,7 +1,8 @@
 //! The store.
-ghost use Rattle.std.specs.Prelude.{◌≡◌, ◌^◌, ◌+◌, ◌-◌, ◌<◌, ◌≤◌, [], ◌∷◌, ◌++◌, None, Some, length, take, drop, slice_get, option_map, sum_by, nat_lt, if◌then◌else◌, Ok, Err, IsTrue, IfOk, IfErr, OnOk, OnErr, MatchResult};
+ghost use Rattle.std.specs.Prelude.{◌≡◌, ◌^◌, ◌+◌, ◌-◌, ◌<◌, ◌≤◌, [], ◌∷◌, ◌++◌, None, Some, length, take, drop, slice_get, min, option_map, sum_by, nat_lt, if◌then◌else◌, Ok, Err, IsTrue, IfOk, IfErr, OnOk, OnErr, MatchResult};
 ghost use Rattle.std.specs.List.{last_or};
 ghost use Rattle.gd_base.specs.Counts.{Rose};
+ghost use Rattle.gd_prim.specs.End.{places_with};
 ghost use Rattle.gd_prim.specs.History.{prims_of, prims_at, is_history, AreHeld, AreTimed};
 ghost use Rattle.gd_prim.specs.Live as graph;
 ghost use Rattle.gd_prim.specs.WellFormed.{bad_place};
@@ -9,9 +10,11 @@ ghost use Rattle.gd_prim.specs.Limits.{limits, first_full, text_bytes};
 ghost use Rattle.gd_store.specs.Indexed.{may_enter};
 ghost use Rattle.gd_store.specs.Keys.{is_key_link, is_key_of};
 ghost use Rattle.gd_store.specs.Stored as stored;
+ghost use Rattle.gd_store.specs.Valued.{number_in, places_of_number};
 
 use crate::indexed::IndexedPrims;
 use crate::view::View;
+use gd_base::datum::Datum;
 use gd_base::id::Id;
 use gd_base::memory::Memory;
 use gd_base::steps::Steps;
@@ -19,7 +22,7 @@ use gd_base::text::Text;
 use gd_prim::builtin::builtin;
 use gd_prim::limits::{MAX_BATCH, MAX_PRIMS, MAX_REQUESTS, MAX_TEXT, batch_text_bytes};
 use gd_prim::well_formed::{BadBatch, is_well_formed_behind};
-use gd_prim::{Batch, Primitive, Prims, What};
+use gd_prim::{Batch, End, Primitive, Prims, What};
 use std::alloc::Global;
 use std::marker::Model;
 use thiserror::Error;
@@ -359,6 +362,88 @@ impl Store {
         ensures counted { Rose steps.old steps.new }
     {
         self.prims.key_of(object, k, self.end(dateline), steps)
+    }
+
+    /// How many primitives below a dateline have this node at the end.
+    pub(crate) fn link_count<L>(
+        &self,
+        dateline: u32,
+        end: End,
+        node: Id,
+        steps: &mut Steps<L>,
+    ) -> u32
+        requires { dateline ≤ length self.now }
+        ensures count { result ≡ length (places_with end node (prims_at self.now dateline)) }
+        ensures work { steps.new ≤ steps.old + 22 }
+        ensures later { steps.old ≤ steps.new }
+        ensures counted { Rose steps.old steps.new }
+    {
+        self.prims.link_count(end, node, self.end(dateline), steps)
+    }
+
+    /// The k-th place below a dateline, from 0 in rising order, whose primitive has this node at the end.
+    pub(crate) fn link_at<L>(
+        &self,
+        dateline: u32,
+        end: End,
+        node: Id,
+        k: u32,
+        steps: &mut Steps<L>,
+    ) -> Id
+        requires there { dateline ≤ length self.now }
+        requires within { k < length (places_with end node (prims_at self.now dateline)) }
+        ensures place { slice_get (places_with end node (prims_at self.now dateline)) k ≡ Some result }
+        ensures work { steps.new ≡ min (steps.old + 1) (2 ^ 64 - 1) }
+        ensures later { steps.old ≤ steps.new }
+    {
+        self.prims.link_at(end, node, k, steps)
+    }
+
+    /// The number of a value among those of the primitives below a dateline.
+    pub(crate) fn number_of<L>(
+        &self,
+        dateline: u32,
+        value: &Datum,
+        steps: &mut Steps<L>,
+    ) -> Option<u32>
+        requires { dateline ≤ length self.now }
+        ensures number { result ≡ number_in value.now (prims_at self.now dateline) }
+        ensures work { steps.new ≤ steps.old + 2 }
+        ensures later { steps.old ≤ steps.new }
+        ensures counted { Rose steps.old steps.new }
+    {
+        match self.prims.number_of(value, self.end(dateline), steps) {
+            Some(number) => Some(number as u32),
+            None => None,
+        }
+    }
+
+    /// How many primitives below a dateline have the value with a number.
+    pub(crate) fn value_count<L>(&self, dateline: u32, number: u32, steps: &mut Steps<L>) -> u32
+        requires { dateline ≤ length self.now }
+        ensures count { result ≡ length (places_of_number number (prims_at self.now dateline)) }
+        ensures work { steps.new ≤ steps.old + 22 }
+        ensures later { steps.old ≤ steps.new }
+        ensures counted { Rose steps.old steps.new }
+    {
+        self.prims.value_count(number, self.end(dateline), steps)
+    }
+
+    /// The k-th place below a dateline, from 0 in rising order, whose primitive has the value with a number.
+    pub(crate) fn value_place<L>(
+        &self,
+        dateline: u32,
+        number: u32,
+        k: u32,
+        steps: &mut Steps<L>,
+    ) -> Id
+        requires there { dateline ≤ length self.now }
+        requires within { k < length (places_of_number number (prims_at self.now dateline)) }
+        ensures place { slice_get (places_of_number number (prims_at self.now dateline)) k ≡ Some result }
+        ensures work { steps.new ≡ min (steps.old + 1) (2 ^ 64 - 1) }
+        ensures later { steps.old ≤ steps.new }
+    {
+        self.prims.value_place(number, k, steps)
     }
 
     /// The store as it was at a dateline, which is a number of whole requests.

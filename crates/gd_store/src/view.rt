@@ -7,9 +7,10 @@ ghost use Rattle.gd_prim.specs.History.{prims_of, is_history, AreHeld, AreTimed}
 ghost use Rattle.gd_prim.specs.Live as graph;
 ghost use Rattle.gd_prim.specs.WellFormed.{may_hold};
 ghost use Rattle.gd_store.specs.Keys.{is_key_link, is_key_of};
+ghost use Rattle.gd_store.specs.Valued.{number_in, places_of_number};
 
-use crate::scan::{count_with, place_with};
 use crate::store::Store;
+use gd_base::datum::Datum;
 use gd_base::id::Id;
 use gd_base::steps::Steps;
 use gd_base::text::Text;
@@ -159,11 +160,13 @@ impl<'a> View<'a> {
     /// How many primitives have this node at the end. It takes no memory.
     pub fn list_len<L>(&self, end: End, node: Id, steps: &mut Steps<L>) -> u32
         ensures len { result ≡ length (places_with end node (prims_of self.now)) }
+        ensures few { steps.new ≤ steps.old + 22 }
         ensures work { steps.new ≤ steps.old + length (prims_of self.now) }
         ensures later { steps.old ≤ steps.new }
         ensures counted { Rose steps.old steps.new }
     {
-        count_with(self.prims(), end, node, steps)
+        let store = self.store;
+        store.link_count(self.dateline, end, node, steps)
     }
 
     /// The k-th place, from 0 in rising order, whose primitive has this node at the end. It takes no memory.
@@ -171,10 +174,48 @@ impl<'a> View<'a> {
         requires { k < length (places_with end node (prims_of self.now)) }
         ensures place { slice_get (places_with end node (prims_of self.now)) k ≡ Some result }
         ensures below { result < length (prims_of self.now) }
+        ensures one { steps.new ≡ min (steps.old + 1) (2 ^ 64 - 1) }
         ensures work { steps.new ≤ steps.old + length (prims_of self.now) }
         ensures later { steps.old ≤ steps.new }
         ensures counted { Rose steps.old steps.new }
     {
-        place_with(self.prims(), end, node, k, steps)
+        let store = self.store;
+        store.link_at(self.dateline, end, node, k, steps)
+    }
+
+    /// The number of a value that a primitive below the dateline has: values are numbered from 0 in the order in which
+    /// they first come. None where no primitive has it. It takes no memory.
+    pub fn number_of<L>(&self, value: &Datum, steps: &mut Steps<L>) -> Option<u32>
+        ensures number { result ≡ number_in value.now (prims_of self.now) }
+        ensures work { steps.new ≤ steps.old + 2 }
+        ensures later { steps.old ≤ steps.new }
+        ensures counted { Rose steps.old steps.new }
+    {
+        let store = self.store;
+        store.number_of(self.dateline, value, steps)
+    }
+
+    /// How many primitives below the dateline have the value with this number: none where the number was not given. It
+    /// takes no memory.
+    pub fn value_len<L>(&self, number: u32, steps: &mut Steps<L>) -> u32
+        ensures len { result ≡ length (places_of_number number (prims_of self.now)) }
+        ensures work { steps.new ≤ steps.old + 22 }
+        ensures later { steps.old ≤ steps.new }
+        ensures counted { Rose steps.old steps.new }
+    {
+        let store = self.store;
+        store.value_count(self.dateline, number, steps)
+    }
+
+    /// The k-th place, from 0 in rising order, whose primitive has the value with this number. It takes no memory.
+    pub fn value_entry<L>(&self, number: u32, k: u32, steps: &mut Steps<L>) -> Id
+        requires { k < length (places_of_number number (prims_of self.now)) }
+        ensures place { slice_get (places_of_number number (prims_of self.now)) k ≡ Some result }
+        ensures below { result < length (prims_of self.now) }
+        ensures work { steps.new ≡ min (steps.old + 1) (2 ^ 64 - 1) }
+        ensures later { steps.old ≤ steps.new }
+    {
+        let store = self.store;
+        store.value_place(self.dateline, number, k, steps)
     }
 }

@@ -1,0 +1,4 @@
+//! Which places name a node, by the end at which they name it.
+#![tactic(auto)]
+
+pub mod linkage;

@@ -1,0 +1,127 @@
+//! Lists under nodes.
+ghost use Rattle.std.specs.Prelude.{◌≡◌, ℕ, ◌<◌, ◌≤◌, ◌==◌, [], ◌∷◌, ◌++◌, unwrap_or, length, OnOk};
+ghost use Rattle.std.specs.Option.{ForSome, option_copied};
+ghost use Rattle.gd_postings.specs.Postings.{IsAbove};
+ghost use Rattle.gd_lists.specs.Lists.{id_list, nothing};
+ghost use Rattle.gd_lists.specs.Entries.{is_of, with_entry, without_entry, spare_less};
+
+use gd_base::id::Id;
+use gd_base::memory::Memory;
+use gd_postings::postings::Postings;
+use std::alloc::Global;
+use std::collections::BTreeMap;
+use std::marker::Model;
+
+/// A list for each node. Contracts see the entries, in the order of the nodes.
+#[derive(Drop)]
+pub struct NodeLists {
+    lists: BTreeMap<Id, Postings>,
+    alloc: Global,
+}
+
+impl Model for NodeLists {
+    ghost use Rattle.std.specs.Prelude.{ℕ, List};
+    ghost use Rattle.gd_postings.specs.Postings.{Places};
+
+    ghost Value = { List (ℕ × Places) };
+
+    ghost view = { λ nodes. nodes.lists.entries };
+}
+
+impl NodeLists {
+    /// No lists.
+    pub fn new(alloc: Global) -> NodeLists
+        ensures { result ≡ [] }
+    {
+        NodeLists {
+            lists: BTreeMap::new(alloc),
+            alloc,
+        }
+    }
+
+    /// The list of a node, if one was made.
+    pub fn list(&self, node: Id) -> Option<&Postings>
+        ensures { unwrap_or (option_copied result) nothing ≡ id_list self.now node }
+    {
+        self.lists.get(&node)
+    }
+
+    /// Makes room for one identity more in the list of a node. It lowers the room of no list.
+    pub fn reserve(&mut self, node: Id) -> Result<(), Memory>
+        ensures room { OnOk result (0 < (id_list self.new node).spare) }
+        ensures same { (n : ℕ) → (id_list self.new n).ids ≡ (id_list self.old n).ids }
+        ensures kept { (n : ℕ) → (id_list self.old n).spare ≤ (id_list self.new n).spare }
+    {
+        match self.lists.get_mut(&node) {
+            Some(list) => list.reserve(1),
+            None => {
+                let mut list = Postings::new(self.alloc);
+                list.reserve(1)?;
+                self.lists.insert(node, list)?;
+                Ok(())
+            }
+        }
+    }
+
+    /// Adds an identity at the end of the list of a node, where room was made. It takes no memory.
+    pub fn push(&mut self, node: Id, id: Id)
+        requires room { 0 < (id_list self.old node).spare }
+        requires small { id < 2_097_151 }
+        requires above { IsAbove (id_list self.old node).ids id }
+        ensures ids { (n : ℕ) → (id_list self.new n).ids ≡ with_entry (node == n) id (id_list self.old n).ids }
+        ensures spare { (n : ℕ) → (id_list self.new n).spare ≡ spare_less (node == n) (id_list self.old n).spare }
+    {
+        match self.lists.get_mut(&node) {
+            Some(list) => list.push(id),
+            None => unreachable!(),
+        }
+    }
+
+    /// Takes the last identity of the list of a node away. It takes no memory.
+    pub fn pop(&mut self, node: Id)
+        requires { 0 < length (id_list self.old node).ids }
+        ensures { (n : ℕ) → (id_list self.new n).ids ≡ without_entry (node == n) (id_list self.old n).ids }
+    {
+        match self.lists.get_mut(&node) {
+            Some(list) => {
+                let _last = list.pop_last();
+            }
+            None => unreachable!(),
+        }
+    }
+
+    /// Makes room in the list of a node, where it is there. It lowers the room of no list.
+    pub fn make_room(&mut self, node: Option<Id>) -> Result<(), Memory>
+        ensures room { OnOk result (ForSome node (λ n. 0 < (id_list self.new n).spare)) }
+        ensures same { (n : ℕ) → (id_list self.new n).ids ≡ (id_list self.old n).ids }
+        ensures kept { (n : ℕ) → (id_list self.old n).spare ≤ (id_list self.new n).spare }
+    {
+        match node {
+            Some(node) => self.reserve(node),
+            None => Ok(()),
+        }
+    }
+
+    /// Adds an identity at the end of the list of a node, where it is there.
+    pub fn enter(&mut self, node: Option<Id>, id: Id)
+        requires room { ForSome node (λ n. 0 < (id_list self.old n).spare) }
+        requires small { id < 2_097_151 }
+        requires above { ForSome node (λ n. IsAbove (id_list self.old n).ids id) }
+        ensures ids { (n : ℕ) → (id_list self.new n).ids ≡ with_entry (is_of node n) id (id_list self.old n).ids }
+        ensures spare { (n : ℕ) → (id_list self.new n).spare ≡ spare_less (is_of node n) (id_list self.old n).spare }
+    {
+        if let Some(node) = node {
+            self.push(node, id);
+        }
+    }
+
+    /// Takes the last identity of the list of a node away, where it is there.
+    pub fn take_back(&mut self, node: Option<Id>)
+        requires { ForSome node (λ n. 0 < length (id_list self.old n).ids) }
+        ensures { (n : ℕ) → (id_list self.new n).ids ≡ without_entry (is_of node n) (id_list self.old n).ids }
+    {
+        if let Some(node) = node {
+            self.pop(node);
+        }
+    }
+}

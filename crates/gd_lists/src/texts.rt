@@ -1,0 +1,92 @@
+//! Lists under texts.
+ghost use Rattle.std.specs.Prelude.{◌≡◌, ℕ, ◌<◌, List, [], ◌∷◌, ◌++◌, unwrap_or, length, OnOk};
+ghost use Rattle.std.specs.Option.{option_copied};
+ghost use Rattle.std.specs.Str.{bytes_eq};
+ghost use Rattle.gd_postings.specs.Postings.{IsAbove};
+ghost use Rattle.gd_lists.specs.Lists.{text_list, nothing};
+ghost use Rattle.gd_lists.specs.Entries.{with_entry, without_entry};
+
+use gd_base::id::Id;
+use gd_base::memory::Memory;
+use gd_base::text::Text;
+use gd_postings::postings::Postings;
+use std::alloc::Global;
+use std::collections::BTreeMap;
+use std::marker::Model;
+
+/// A list for each text. Contracts see the entries, in the order of the texts.
+#[derive(Drop)]
+pub struct TextLists {
+    lists: BTreeMap<Text, Postings>,
+    alloc: Global,
+}
+
+impl Model for TextLists {
+    ghost use Rattle.std.specs.Prelude.{ℕ, List};
+    ghost use Rattle.gd_postings.specs.Postings.{Places};
+
+    ghost Value = { List (List ℕ × Places) };
+
+    ghost view = { λ texts. texts.lists.entries };
+}
+
+impl TextLists {
+    /// No lists.
+    pub fn new(alloc: Global) -> TextLists
+        ensures { result ≡ [] }
+    {
+        TextLists {
+            lists: BTreeMap::new(alloc),
+            alloc,
+        }
+    }
+
+    /// The list under a text, if one was made.
+    pub fn list(&self, text: &Text) -> Option<&Postings>
+        ensures { unwrap_or (option_copied result) nothing ≡ text_list self.now text.now }
+    {
+        self.lists.get(text)
+    }
+
+    /// Makes room for one identity more in the list under a text, which is copied where it is new.
+    pub fn reserve(&mut self, text: &Text) -> Result<(), Memory>
+        ensures room { OnOk result (0 < (text_list self.new text.now).spare) }
+        ensures same { (t : List ℕ) → (text_list self.new t).ids ≡ (text_list self.old t).ids }
+    {
+        match self.lists.get_mut(text) {
+            Some(list) => list.reserve(1),
+            None => {
+                let mut list = Postings::new(self.alloc);
+                list.reserve(1)?;
+                self.lists.insert(text.copy()?, list)?;
+                Ok(())
+            }
+        }
+    }
+
+    /// Adds an identity at the end of the list under a text, where room was made. It takes no memory.
+    pub fn push(&mut self, text: &Text, id: Id)
+        requires room { 0 < (text_list self.old text.now).spare }
+        requires small { id < 2_097_151 }
+        requires above { IsAbove (text_list self.old text.now).ids id }
+        ensures { (t : List ℕ) → (text_list self.new t).ids ≡ with_entry (bytes_eq t text.now) id (text_list self.old t).ids }
+    {
+        match self.lists.get_mut(text) {
+            Some(list) => list.push(id),
+            None => unreachable!(),
+        }
+    }
+
+    /// Takes the last identity of the list under a text away. It takes no memory.
+    pub fn pop(&mut self, text: &Text)
+        requires { 0 < length (text_list self.old text.now).ids }
+        ensures { (t : List ℕ) → (text_list self.new t).ids ≡ without_entry (bytes_eq t text.now) (text_list self.old t).ids }
+    {
+        match self.lists.get_mut(text) {
+            Some(list) => {
+                let _last = list.pop_last();
+            }
+            None => unreachable!(),
+        }
+    }
+}

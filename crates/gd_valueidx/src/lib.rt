@@ -1,0 +1,4 @@
+//! Values by number, and the places of each.
+#![tactic(auto)]
+
+pub mod values;

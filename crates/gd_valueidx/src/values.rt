@@ -1,0 +1,153 @@
+//! Values by number, and the places of each.
+ghost use Rattle.std.specs.Prelude.{◌≡◌, ℕ, ◌-◌, ◌<◌, ◌==◌, [], Some, length, slice_get, position, true, OnOk, OnErr};
+ghost use Rattle.std.specs.Option.{option_copied};
+ghost use Rattle.gd_base.specs.declared.datum.Datum as base;
+ghost use Rattle.gd_base.specs.Order.{datum_eq};
+ghost use Rattle.gd_postings.specs.Postings.{IsAbove};
+ghost use Rattle.gd_lists.specs.Entries.{with_entry, without_entry};
+ghost use Rattle.gd_valueidx.specs.Values.{value_list, values_in, number_list, with_value, without_value};
+
+use gd_base::datum::Datum;
+use gd_base::id::Id;
+use gd_base::memory::Memory;
+use gd_postings::postings::Postings;
+use indexmap::IndexMap;
+use std::alloc::Global;
+use std::marker::Model;
+
+/// Values in the order of their first entry, which is that of their numbers from 0, each with the rising list of its
+/// places. Contracts see the entries. A value that was never entered has an empty list.
+#[derive(Drop)]
+pub struct Values {
+    lists: IndexMap<Datum, Postings>,
+    empty: Postings,
+    alloc: Global,
+}
+
+impl Model for Values {
+    ghost use Rattle.std.specs.Prelude.{◌≡◌, List};
+    ghost use Rattle.gd_base.specs.declared.datum.Datum.{Datum};
+    ghost use Rattle.gd_postings.specs.Postings.{Places};
+    ghost use Rattle.gd_lists.specs.Lists.{nothing};
+
+    ghost Value = { List (Datum × Places) };
+
+    ghost view = { λ values. values.lists.entries };
+
+    ghost invariant = { λ values. values.empty ≡ nothing };
+}
+
+impl Values {
+    /// No values. It takes no memory.
+    pub fn new(alloc: Global) -> Values
+        ensures { result ≡ [] }
+    {
+        Values {
+            lists: IndexMap::new(alloc),
+            empty: Postings::new(alloc),
+            alloc,
+        }
+    }
+
+    /// The list of a value.
+    pub fn list(&self, value: &Datum) -> &Postings
+        ensures { result.now ≡ value_list value.now self.now }
+    {
+        match self.lists.get(value) {
+            Some(list) => list,
+            None => &self.empty,
+        }
+    }
+
+    /// The number of a value, if it has one.
+    pub fn number_of(&self, value: &Datum) -> Option<usize>
+        ensures { result ≡ position (datum_eq value.now) (values_in self.now) }
+    {
+        self.lists.get_index_of(value)
+    }
+
+    /// The value with a number, if the number was given.
+    pub fn value_at(&self, number: usize) -> Option<&Datum>
+        ensures { option_copied result ≡ slice_get (values_in self.now) number }
+    {
+        match self.lists.get_index(number) {
+            Some((value, _)) => Some(value),
+            None => None,
+        }
+    }
+
+    /// The list of the value with a number, which is empty where the number was not given.
+    pub fn list_at(&self, number: usize) -> &Postings
+        ensures { result.now ≡ number_list number self.now }
+    {
+        match self.lists.get_index(number) {
+            Some((_, list)) => list,
+            None => &self.empty,
+        }
+    }
+
+    /// Enters a place at the end of the list of a value, which gets the next number if it has none. Every other list
+    /// stays. `Memory` leaves the values and the places of each as they were.
+    pub fn add(&mut self, value: &Datum, id: Id) -> Result<(), Memory>
+        requires small { id < 2_097_151 }
+        requires above { IsAbove (value_list value.now self.old).ids id }
+        ensures lists { OnOk result ((v : base.Datum) → (value_list v self.new).ids ≡ with_entry (datum_eq value.now v) id (value_list v self.old).ids) }
+        ensures values { OnOk result (values_in self.new ≡ with_value value.now (values_in self.old)) }
+        ensures err_lists { OnErr result ((v : base.Datum) → (value_list v self.new).ids ≡ (value_list v self.old).ids) }
+        ensures err_values { OnErr result (values_in self.new ≡ values_in self.old) }
+    {
+        match self.lists.get_mut(value) {
+            Some(list) => {
+                list.reserve(1)?;
+                list.push(id);
+                Ok(())
+            }
+            None => {
+                let mut list = Postings::new(self.alloc);
+                list.reserve(1)?;
+                list.push(id);
+                let value = value.copy()?;
+                self.lists.insert(value, list)?;
+                Ok(())
+            }
+        }
+    }
+
+    /// Takes the last place of the list of a value away again. A value whose only place it was has the greatest number,
+    /// and loses it. Every other list stays. It takes no memory.
+    pub fn retract(&mut self, value: &Datum)
+        requires some { 0 < length (value_list value.now self.old).ids }
+        requires last { length (value_list value.now self.old).ids ≡ 1 → slice_get (values_in self.old) (length (values_in self.old) - 1) ≡ Some value.now }
+        ensures lists { (v : base.Datum) → (value_list v self.new).ids ≡ without_entry (datum_eq value.now v) (value_list v self.old).ids }
+        ensures values { values_in self.new ≡ without_value (length (value_list value.now self.old).ids == 1) (values_in self.old) }
+    {
+        if self.take_last(value) == 0 {
+            self.drop_last();
+        }
+    }
+
+    /// Takes the last place of the list of a value away, and says how many are left.
+    fn take_last(&mut self, value: &Datum) -> u32
+        requires { 0 < length (value_list value.now self.old).ids }
+        ensures lists { (v : base.Datum) → (value_list v self.new).ids ≡ without_entry (datum_eq value.now v) (value_list v self.old).ids }
+        ensures values { values_in self.new ≡ values_in self.old }
+        ensures left { result ≡ length (value_list value.now self.new).ids }
+    {
+        match self.lists.get_mut(value) {
+            Some(list) => {
+                let _last = list.pop_last();
+                list.len()
+            }
+            None => unreachable!(),
+        }
+    }
+
+    /// Takes the last value away, whose list is empty.
+    fn drop_last(&mut self)
+        requires { (v : base.Datum) → slice_get (values_in self.old) (length (values_in self.old) - 1) ≡ Some v → (value_list v self.old).ids ≡ [] }
+        ensures lists { (v : base.Datum) → (value_list v self.new).ids ≡ (value_list v self.old).ids }
+        ensures values { values_in self.new ≡ without_value true (values_in self.old) }
+    {
+        let _last = self.lists.pop();
+    }
+}
