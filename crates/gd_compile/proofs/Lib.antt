@@ -1,3 +1,4 @@
+pub mod Counted
 pub mod Gathers
 pub mod Plans
 pub mod SortWords

@@ -1,5 +1,5 @@
 -- What a clause asks, and what of it is put in front of the rest of its members.
-use Rattle.std.specs.Prelude.{◌≡◌, ◌≢◌, ℕ, ◌+◌, List, [], ◌∷◌, map, Bool, Option, option_map, unwrap_or, Result, Ok, Err, MatchResult}
+use Rattle.std.specs.Prelude.{◌≡◌, ◌≢◌, ℕ, ◌+◌, List, [], ◌∷◌, map, Bool, false, ◌||◌, Option, option_map, is_none, unwrap_or, Result, Ok, Err, MatchResult}
 use Rattle.std.specs.Option.{option_map_or}
 use Rattle.gd_grammar.specs.Chain.{◌>>=◌}
 use Rattle.gd_prim.specs.declared.Primitive.{Primitive}
@@ -84,3 +84,14 @@ parts_count (query.sort_by ws ms) = 1 + parts_count ms
 abbrev pub part_depth : Part → ℕ
 part_depth (part.Member n f) = form_depth (form_view f)
 part_depth (part.Sort ws) = 0
+
+-- a member of a clause asks a property
+abbrev pub asks_property : query.Members → Bool
+asks_property query.no_members = false
+asks_property (query.member n f ms) = is_none (defs.own_of n.word) || asks_property ms
+asks_property (query.sort_by ws ms) = asks_property ms
+
+-- a part is such a member
+abbrev pub part_asks : Part → Bool
+part_asks (part.Member n f) = is_none (defs.own_of n.word.now)
+part_asks (part.Sort ws) = false

@@ -1,5 +1,6 @@
 //! A whole query with its words looked up, and its template.
-ghost use Rattle.std.specs.Prelude.{◌≡◌, ◌≤◌, IfOk, MatchResult};
+ghost use Rattle.std.specs.Prelude.{◌≡◌, ◌≤◌, true, IfOk, MatchResult, OnOk};
+ghost use Rattle.gd_base.specs.Counts.{Rose};
 ghost use Rattle.gd_prim.specs.History.{prims_of};
 ghost use Rattle.gd_defs.specs.Asked as defs;
 ghost use Rattle.gd_defs.specs.Plan.{template_of};
@@ -9,6 +10,7 @@ ghost use Rattle.gd_plan.specs.Asked.{asked_view};
 ghost use Rattle.gd_template_laws.specs.Laws.{TemplateMeans};
 ghost use Rattle.gd_compile.specs.declared.fault.Unknown.TheVariants as fault;
 ghost use Rattle.gd_compile.specs.Fault.{Finds};
+ghost use Rattle.gd_compile.specs.Walk.{asks_property};
 
 use crate::asking::{asks_single, limit_from};
 use crate::fault::Unknown;
@@ -33,6 +35,9 @@ pub fn asked_query<L>(
 ) -> Result<Asked, Unknown>
     ensures asked { Finds asked_view (defs.asked_query (prims_of view.now) (query_view query.now)) result }
     ensures later { steps.old ≤ steps.new }
+
+    // Where a member of its root clause asks a property, something was looked at.
+    ensures counted { OnOk result (asks_property (query_view query.now).members ≡ true → Rose steps.old steps.new) }
 {
     let directives = query.root.directives();
     let clause = asked_clause(alloc, view, None, &[], &query.root, steps)?;
@@ -72,6 +77,9 @@ pub fn compile<L>(
     // The places that answer the template are the objects that meet the query, and each weighs what it weighs in the query.
     ensures means { IfOk result (λ plan. TemplateMeans (prims_of view.now) (asked_view plan)) }
     ensures later { steps.old ≤ steps.new }
+
+    // Where a member of the root clause asks a property, something was looked at.
+    ensures counted { OnOk result (asks_property (read_view request.now).query.members ≡ true → Rose steps.old steps.new) }
 {
     // Each primitive of a view may hold its value, which a template that means its query rests on.
     let _end = view.end();

@@ -1,6 +1,7 @@
 //! The clauses of a query, walked with their words looked up.
-ghost use Rattle.std.specs.Prelude.{◌≡◌, ◌≤◌, map, option_map};
+ghost use Rattle.std.specs.Prelude.{◌≡◌, ◌≤◌, true, OnOk, is_none, map, option_map};
 ghost use Rattle.std.specs.Option.{option_or};
+ghost use Rattle.gd_base.specs.Counts.{Rose};
 ghost use Rattle.gd_prim.specs.History.{prims_of};
 ghost use Rattle.gd_defs.specs.Asked as defs;
 ghost use Rattle.gd_defs.specs.Query as query;
@@ -10,7 +11,7 @@ ghost use Rattle.gd_mql.specs.Names.{name_view, operator_view};
 ghost use Rattle.gd_mql.specs.Clauses.{clause_view as clause_spelled, form_view, left, sort_view, with_part};
 ghost use Rattle.gd_plan.specs.Asked.{put};
 ghost use Rattle.gd_compile.specs.Fault.{Finds};
-ghost use Rattle.gd_compile.specs.Walk.{Adds, Leads, asked_below, asked_clause, asked_member, clause_view, object_form, tested_form};
+ghost use Rattle.gd_compile.specs.Walk.{Adds, Leads, asked_below, asked_clause, asked_member, asks_property, clause_view, object_form, part_asks, tested_form};
 
 use crate::asking::{ask_form, clause_form, operand_form};
 use crate::fault::Unknown;
@@ -123,6 +124,9 @@ fn asked<'a, L>(
 ) -> Result<AskedClause, Unknown>
     ensures asked { Finds clause_view (defs.asked (prims_of view.now) context (map (λ name. name.now) path.entry.now) (left members.entry.now)) result }
     ensures later { steps.old ≤ steps.new }
+
+    // Where a member asks a property, something was looked at.
+    ensures counted { OnOk result (asks_property (left members.entry.now) ≡ true → Rose steps.old steps.new) }
 {
     let mut gathered = Gathered::new(alloc);
     let mut rest = *members;
@@ -154,6 +158,7 @@ fn add_part<'a, L>(
 ) -> Result<(), Unknown>
     ensures part { (rest : query.Members) → Adds (defs.asked (prims_of view.now) context (map (λ name. name.now) path.entry.now) (with_part part.entry.now rest)) (defs.asked (prims_of view.now) context (map (λ name. name.now) path.entry.now) rest) gathered.old gathered.new result }
     ensures later { steps.old ≤ steps.new }
+    ensures counted { OnOk result (part_asks part.entry.now ≡ true → Rose steps.old steps.new) }
 {
     match part {
         Part::Member(name, form) => {
@@ -179,6 +184,7 @@ fn asked_member<'a, L>(
 ) -> Result<Member, Unknown>
     ensures member { Leads (asked_member (prims_of view.now) context (map (λ name. name.now) path.entry.now) (name_view name.entry.now) (form_view form.entry.now)) result }
     ensures later { steps.old ≤ steps.new }
+    ensures counted { OnOk result (is_none (defs.own_of name.entry.now.word.now) ≡ true → Rose steps.old steps.new) }
 {
     match own_of(name.word) {
         Some(own) => own_member(alloc, view, path, name, own, form, steps),
@@ -300,6 +306,7 @@ pub(crate) fn asked_clause<'a, L>(
 ) -> Result<AskedClause, Unknown>
     ensures asked { Finds clause_view (asked_clause (prims_of view.now) above (map (λ name. name.now) path.entry.now) (clause_spelled clause.entry.now).1) result }
     ensures later { steps.old ≤ steps.new }
+    ensures counted { OnOk result (asks_property (clause_spelled clause.entry.now).1 ≡ true → Rose steps.old steps.new) }
 {
     let members = clause.members();
     let context = context_of(alloc, view, above, type_text(&members), steps)?;

@@ -11,7 +11,8 @@ use Rattle.gd_mql.specs.declared.clause.Part.{Part}
 use Rattle.gd_plan.specs.Seen.{own_view}
 use Rattle.gd_plan.specs.Asked.{put}
 use Rattle.gd_compile.specs.Fault.{unknown_of}
-use Rattle.gd_compile.specs.Walk.{Adds, asked_member, in_front, led}
+use Rattle.gd_compile.specs.Walk.{Adds, asked_member, asks_property, in_front, led, part_asks}
+use Rattle.gd_compile.proofs.Counted.{asks_next, counted_next}
 use Rattle.gd_compile.proofs.Walks.{part_added, part_within, own_leads}
 use Rattle.gd_compile.proofs.walk.+asked.Goals as goal
 
@@ -71,4 +72,6 @@ asked-loop-part-preserved g t c =
           (c.in_ok-add_part.ensures.part rest));
       depth = omega (arith, deep, within, c.loop-part.invariant.depth);
       later = omega arith;
+      counted = counted_next (asks_property (left c.args.members.now)) (asks_property (left c.loop-part.rest)) (part_asks c.in-Some.part) (asks_property rest) c.args.steps.now c.loop-part.steps c.add_part.new.steps
+          c.loop-part.invariant.counted (λ asks. asks_next c.in-Some.part rest (sym (ap asks_property c.in-Some.ensures) ∙ asks)) c.in_ok-add_part.ensures.counted c.loop-part.invariant.later c.add_part.ensures.later;
     }
