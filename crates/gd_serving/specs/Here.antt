@@ -1,5 +1,5 @@
 -- What a request comes to over a run: it is of the built form and carried out, or it is refused as not built.
-use Rattle.std.specs.Prelude.{◌≡◌, ℕ, List, length, Bool, true, false, Option, Some, None, Ok}
+use Rattle.std.specs.Prelude.{◌≡◌, ℕ, List, length, true, false, Option, Some, None, Ok}
 use Rattle.gd_prim.specs.History.{prims_at}
 use Rattle.gd_defs.specs.Write.{WriteRequest}
 use Rattle.gd_runs.specs.Request.{ReadRequest, read, write, reply_of}

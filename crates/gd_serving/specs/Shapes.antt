@@ -1,8 +1,7 @@
 -- Parts of clauses, as far as the built form knows of them.
-use Rattle.std.specs.Prelude.{◌≡◌, ℕ, List, Bool, true, false, Option, Some, None, option_map}
+use Rattle.std.specs.Prelude.{◌≡◌, false, None}
 use Rattle.gd_tree.specs.Json.{text}
 use Rattle.gd_defs.specs.Query as query
-use Rattle.gd_json.specs.declared.value.JsonText.{JsonText}
 use Rattle.gd_mql.specs.Clauses.{with_part}
 use Rattle.gd_mql.specs.Names.{name_view}
 use Rattle.gd_mql.specs.declared.clause.Part.{Part}
