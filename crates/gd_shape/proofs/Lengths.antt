@@ -7,9 +7,7 @@ use Rattle.gd_tree.specs.Json as tree
 use Rattle.gd_tree.specs.Json.{escaped, quoted, number_text, compact, more_items, more_members, Items, Members}
 use Rattle.gd_json.specs.View.{view, items_view, members_view}
 use Rattle.gd_json.specs.declared.value.Json.{Json, Object, the_lemmas}
-
-left_at : {A : Type 0} (xs : List A) (i : ℕ) (x : A) → i < length xs → x ≡ get_or xs i x → drop i xs ≡ x ∷ drop (i + 1) xs
-left_at xs i x within is = rw (add-one, drop-cons xs i x) (ap (λ y. y ∷ drop (suc i) xs) (sym is))
+use Rattle.gd_shape.proofs.Left.{left_at}
 
 -- ---- texts and numbers
 
