@@ -5,7 +5,7 @@ use Rattle.gd_defs.specs.Query.{SortWord, is_word}
 use Rattle.gd_defs.specs.Property.{Property, Expects, a_value, a_key, an_object_of_system, a_plain_object, expects_of, property}
 use Rattle.gd_defs.specs.Asked as defs
 use Rattle.gd_compile.specs.declared.fault.Unknown.{Unknown}
-use Rattle.gd_compile.specs.declared.sort.SortKey.{SortKey}
+use Rattle.gd_plan.specs.declared.asked.SortKey.{SortKey}
 use Rattle.gd_compile.specs.Fault.{Finds}
 use Rattle.gd_plan.specs.Seen.{sort_key_view}
 use Rattle.gd_compile.specs.Words.{value_key}

@@ -6,7 +6,7 @@ use Rattle.gd_defs.specs.Property.{Expects}
 use Rattle.gd_defs.specs.Query.{Operator, no_operator, one_of, differs, below, at_most, above, at_least, words}
 use Rattle.gd_defs.specs.Asked.Tests.{test_of}
 use Rattle.gd_compile.specs.declared.fault.Unknown.{Unknown}
-use Rattle.gd_compile.specs.declared.test.Test.{Test}
+use Rattle.gd_plan.specs.declared.test.Test.{Test}
 use Rattle.gd_compile.specs.Fault.{Finds}
 use Rattle.gd_plan.specs.Seen.{test_view}
 use Rattle.gd_compile.specs.Seen.{compared_with, words_with, is_choice, is_words}

@@ -9,13 +9,13 @@ ghost use Rattle.gd_plan.specs.Seen.{sort_key_view};
 ghost use Rattle.gd_compile.specs.Words.{value_key, is_value};
 
 use crate::fault::{Code, Unknown, bad, no_property};
-use gd_plan::asked::SortKey;
-use gd_plan::expects::{Expects, expects_of};
 use crate::words::{is_guid, is_id, is_timestamp};
 use gd_base::id::Id;
 use gd_base::memory::Memory;
 use gd_base::steps::Steps;
 use gd_mql::directive::SortWord;
+use gd_plan::asked::SortKey;
+use gd_plan::expects::{Expects, expects_of};
 use gd_resolve::property::Property;
 use gd_resolve::words::named_property;
 use gd_store::view::View;

@@ -13,8 +13,6 @@ ghost use Rattle.gd_compile.specs.Seen.{compared, compared_with, words_with, is_
 
 use crate::fault::{Code, Unknown, bad};
 use crate::operand::{operand_data, operand_datum};
-use gd_plan::expects::Expects;
-use gd_plan::test::Test;
 use gd_base::datum::Datum;
 use gd_base::memory::Memory;
 use gd_base::steps::Steps;
@@ -23,6 +21,8 @@ use gd_datum::pattern::{Pattern, PatternFault};
 use gd_datum::value::Kind;
 use gd_json::value::Json;
 use gd_mql::name::Operator;
+use gd_plan::expects::Expects;
+use gd_plan::test::Test;
 use gd_store::view::View;
 use std::alloc::Global;
 

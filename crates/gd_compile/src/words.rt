@@ -14,15 +14,15 @@ ghost use Rattle.gd_plan.specs.Seen.{own_view};
 
 use crate::fault::{Code, Unknown, bad, no_property};
 use crate::operand::place_named;
-use gd_plan::asked::Own;
-use gd_plan::expects::{Expects, expects_of, holds_values};
 use crate::test::{allows, test_of};
-use gd_plan::test::Test;
 use gd_base::id::Id;
 use gd_base::steps::Steps;
 use gd_datum::value::Kind;
 use gd_json::value::Json;
 use gd_mql::name::{Name, Operator};
+use gd_plan::asked::Own;
+use gd_plan::expects::{Expects, expects_of, holds_values};
+use gd_plan::test::Test;
 use gd_resolve::property::{Property, expected_type};
 use gd_resolve::words::{Named, named_property};
 use gd_store::view::View;

@@ -1,3 +1,6 @@
 pub mod Seen
 pub mod Asked
+pub mod Linked
+pub mod Making
 pub mod Planned
+pub mod Subjects

@@ -1,5 +1,6 @@
 //! Clauses of a template.
-ghost use Rattle.std.specs.Prelude.{◌≡◌, ◌∷◌, [], Bool, List, map, option_map, IfOk};
+ghost use Rattle.std.specs.Prelude.{◌≡◌, ◌++◌, ◌∷◌, [], Bool, List, map, option_map, IfOk, OnOk};
+ghost use Rattle.std.specs.Option.{option_to_list};
 ghost use Rattle.gd_defs.specs.Asked as defs;
 ghost use Rattle.gd_defs.specs.Plan as plan;
 ghost use Rattle.gd_defs.specs.Query.{optional};
@@ -8,13 +9,14 @@ ghost use Rattle.gd_prim.specs.declared.End.TheVariants.{Typ};
 ghost use Rattle.gd_datum.specs.Values.{kind_of};
 ghost use Rattle.gd_template.specs.Built.{view as template_of};
 ghost use Rattle.gd_template.specs.Seen.{constraint_of};
-ghost use Rattle.gd_template.specs.View.{parts};
+ghost use Rattle.gd_template.specs.View.{parts, clauses_view};
 ghost use Rattle.gd_plan.specs.Seen.{sort_key_view};
 ghost use Rattle.gd_plan.specs.Planned.{with_clause};
+ghost use Rattle.gd_plan.specs.Making.{in_front};
 
+use crate::asked::SortKey;
 use crate::constraint::{asked_end, of_kind};
 use crate::expects::{Expects, expects_of};
-use crate::asked::SortKey;
 use gd_base::memory::Memory;
 use gd_datum::value::Kind;
 use gd_prim::End;
@@ -24,7 +26,7 @@ use gd_template::template::{Clause, Hop, Mode, Template};
 use std::alloc::Global;
 
 /// The template of these constraints that asks nothing of the places around.
-fn bare_template(alloc: Global, constraints: Vec<Constraint>) -> Template
+pub(crate) fn bare_template(alloc: Global, constraints: Vec<Constraint>) -> Template
     ensures { template_of result ≡ template.template (map constraint_of constraints.items) template.no_clauses }
 {
     match Template::new(constraints, Vec::new(alloc)) {
@@ -79,4 +81,29 @@ fn value_sort_clause(alloc: Global, property: &Property) -> Result<Option<Clause
         Expects::Value(kind) => Ok(Some(value_clause(alloc, property, kind)?)),
         _ => Ok(None),
     }
+}
+
+/// Puts a clause behind others, if there is one.
+pub(crate) fn push_clause(clauses: &mut Vec<Clause>, more: Option<Clause>) -> Result<(), Memory>
+    ensures { OnOk result (map parts clauses.new.items ≡ map parts clauses.old.items ++ option_to_list (option_map parts more)) }
+{
+    if let Some(clause) = more {
+        clauses.push(clause)?;
+    }
+    Ok(())
+}
+
+/// Puts the clauses of sort keys behind others, in order.
+pub(crate) fn push_sort_clauses(
+    alloc: Global,
+    clauses: &mut Vec<Clause>,
+    sort: &[SortKey],
+) -> Result<(), Memory>
+    ensures { OnOk result (clauses_view clauses.new.items ≡ in_front (map parts clauses.old.items) (plan.sort_clauses (map sort_key_view sort.now))) }
+{
+    for key in sort {
+        let clause = sort_clause(alloc, key)?;
+        push_clause(clauses, clause)?;
+    }
+    Ok(())
 }

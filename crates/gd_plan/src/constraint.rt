@@ -3,6 +3,7 @@ ghost use Rattle.std.specs.Prelude.{◌≡◌, ◌++◌, ◌∷◌, [], map, opt
 ghost use Rattle.std.specs.Option.{option_to_list};
 ghost use Rattle.gd_defs.specs.Plan as plan;
 ghost use Rattle.gd_defs.specs.Data.{equals, differs, is_one_of};
+ghost use Rattle.gd_defs.specs.Template as template;
 ghost use Rattle.gd_datum.specs.Values.{kind_of};
 ghost use Rattle.gd_template.specs.Seen.{constraint_of};
 ghost use Rattle.gd_plan.specs.Seen.{expects_view, test_view};
@@ -62,23 +63,64 @@ fn asks_kind(test: &Test) -> bool
     matches!(test, Test::Anything | Test::Differs(_))
 }
 
+/// Data again, in order.
+fn copies(alloc: Global, data: &[Datum]) -> Result<Vec<Datum>, Memory>
+    ensures { IfOk result (λ copies. copies.items ≡ «data».now) }
+{
+    let mut copies = Vec::with_capacity(alloc, data.len())?;
+    for datum in data {
+        copies.push(datum.copy()?)?;
+    }
+    Ok(copies)
+}
+
 /// What a test of a value asks beside its kind.
-fn value_constraint(test: Test) -> Option<Constraint>
-    ensures { option_map constraint_of result ≡ value_constraint (test_view test) }
+fn value_constraint(alloc: Global, test: &Test) -> Result<Option<Constraint>, Memory>
+    ensures { IfOk result (λ c. option_map constraint_of c ≡ value_constraint (test_view test.now)) }
 {
     match test {
-        Test::Anything => None,
-        Test::Equals(value) => Some(Constraint::ValueIs(value)),
-        Test::Differs(value) => Some(Constraint::ValueNot(value)),
-        Test::OneOf(values) => Some(Constraint::ValueIn(values)),
-        Test::Below { value, or_equal } => Some(Constraint::Below { value, or_equal }),
-        Test::Above { value, or_equal } => Some(Constraint::Above { value, or_equal }),
-        Test::Matches(pattern) => Some(Constraint::Matches(pattern)),
+        Test::Anything => Ok(None),
+        Test::Equals(value) => Ok(Some(Constraint::ValueIs(value.copy()?))),
+        Test::Differs(value) => Ok(Some(Constraint::ValueNot(value.copy()?))),
+        Test::OneOf(values) => among_values(alloc, values),
+        Test::Below { value, or_equal } => below(value, *or_equal),
+        Test::Above { value, or_equal } => above(value, *or_equal),
+        Test::Matches(pattern) => Ok(Some(Constraint::Matches(pattern.copy()?))),
     }
 }
 
+/// The constraint that a value is one of these.
+fn among_values(alloc: Global, values: &[Datum]) -> Result<Option<Constraint>, Memory>
+    ensures { IfOk result (λ c. option_map constraint_of c ≡ Some (template.value_in values.now)) }
+{
+    Ok(Some(Constraint::ValueIn(copies(alloc, values)?)))
+}
+
+/// The constraint that a value, or an object's moment, is below this one.
+fn below(value: &Datum, or_equal: bool) -> Result<Option<Constraint>, Memory>
+    ensures { IfOk result (λ c. option_map constraint_of c ≡ Some (template.below value.now or_equal)) }
+{
+    Ok(Some(Constraint::Below {
+        value: value.copy()?,
+        or_equal,
+    }))
+}
+
+/// The same above this one.
+fn above(value: &Datum, or_equal: bool) -> Result<Option<Constraint>, Memory>
+    ensures { IfOk result (λ c. option_map constraint_of c ≡ Some (template.above value.now or_equal)) }
+{
+    Ok(Some(Constraint::Above {
+        value: value.copy()?,
+        or_equal,
+    }))
+}
+
 /// Puts a constraint behind others, if there is one.
-fn push_some(constraints: &mut Vec<Constraint>, more: Option<Constraint>) -> Result<(), Memory>
+pub(crate) fn push_some(
+    constraints: &mut Vec<Constraint>,
+    more: Option<Constraint>,
+) -> Result<(), Memory>
     ensures { OnOk result (map constraint_of constraints.new.items ≡ map constraint_of constraints.old.items ++ option_to_list (option_map constraint_of more)) }
 {
     match more {
@@ -110,12 +152,13 @@ pub fn push_value_test(
     alloc: Global,
     constraints: &mut Vec<Constraint>,
     kind: Kind,
-    test: Test,
+    test: &Test,
 ) -> Result<(), Memory>
-    ensures { OnOk result (map constraint_of constraints.new.items ≡ map constraint_of constraints.old.items ++ plan.value_test (kind_of kind) (test_view test)) }
+    ensures { OnOk result (map constraint_of constraints.new.items ≡ map constraint_of constraints.old.items ++ plan.value_test (kind_of kind) (test_view test.now)) }
 {
-    push_kind(alloc, constraints, kind, asks_kind(&test))?;
-    push_some(constraints, value_constraint(test))
+    push_kind(alloc, constraints, kind, asks_kind(test))?;
+    let more = value_constraint(alloc, test)?;
+    push_some(constraints, more)
 }
 
 /// The end of a link by which a property is asked. It takes no memory.
@@ -199,16 +242,16 @@ fn among_places(alloc: Global, data: &[Datum]) -> Result<Option<Constraint>, Mem
 
 /// What a test asks of an object: of its identity, or of its timestamp; nothing where no object can differ by it. `Memory`: an
 /// allocation was refused.
-pub fn object_constraint(alloc: Global, test: Test) -> Result<Option<Constraint>, Memory>
-    ensures { IfOk result (λ c. option_to_list (option_map constraint_of c) ≡ plan.object_test (test_view test)) }
+pub fn object_constraint(alloc: Global, test: &Test) -> Result<Option<Constraint>, Memory>
+    ensures { IfOk result (λ c. option_to_list (option_map constraint_of c) ≡ plan.object_test (test_view test.now)) }
 {
     match test {
         Test::Anything | Test::Matches(_) => Ok(None),
-        Test::Equals(value) => same_place(alloc, &value),
-        Test::Differs(value) => Ok(other_place(&value)),
-        Test::OneOf(values) => among_places(alloc, values.as_slice()),
-        Test::Below { value, or_equal } => Ok(Some(Constraint::Below { value, or_equal })),
-        Test::Above { value, or_equal } => Ok(Some(Constraint::Above { value, or_equal })),
+        Test::Equals(value) => same_place(alloc, value),
+        Test::Differs(value) => Ok(other_place(value)),
+        Test::OneOf(values) => among_places(alloc, values),
+        Test::Below { value, or_equal } => below(value, *or_equal),
+        Test::Above { value, or_equal } => above(value, *or_equal),
     }
 }
 

@@ -5,4 +5,8 @@ pub mod asked;
 pub mod clause;
 pub mod constraint;
 pub mod expects;
+pub mod fault;
+pub mod plan;
+mod subject;
+pub mod template;
 pub mod test;

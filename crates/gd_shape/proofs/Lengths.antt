@@ -1,5 +1,5 @@
 -- Lengths of compact texts that stop at the greatest number of 64 bits, one part at a time.
-use Rattle.std.proofs.Common.{◌≡◌, ◌==◌, ◌≤◌, ◌<◌, ◌+◌, ℕ, suc, ℤ, pos, negsuc, List, [], ◌∷◌, true, false, drop, length, get_or, min, refl, sym, ap, ◌∙◌, add-one, drop-cons, length-append, arith, rules, Vec, Global}
+use Rattle.std.proofs.Common.{◌≡◌, ◌==◌, ◌≤◌, ◌<◌, ◌+◌, ℕ, ℤ, pos, negsuc, List, [], ◌∷◌, true, false, drop, length, get_or, min, refl, sym, ap, ◌∙◌, add-one, length-append, arith, rules, Vec, Global}
 use Rattle.std.specs.Prelude.{flat_map}
 use Rattle.std.specs.Fmt.{signed_decimal}
 use Rattle.std.proofs.lemmas.Bool.{eqb-true}

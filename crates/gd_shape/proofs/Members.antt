@@ -1,5 +1,5 @@
 -- Members, one at a time.
-use Rattle.std.proofs.Common.{◌≡◌, ◌≤◌, ◌<◌, ◌+◌, ℕ, zero, suc, List, [], ◌∷◌, ◌++◌, Result, Ok, Err, map, drop, length, get_or, refl, sym, ap, subst, ◌∙◌, rules, arith, add-one, drop-cons, option_map}
+use Rattle.std.proofs.Common.{◌≡◌, ◌≤◌, ◌<◌, ◌+◌, ℕ, List, [], ◌∷◌, ◌++◌, Result, Ok, Err, map, drop, length, get_or, refl, sym, ap, subst, ◌∙◌, rules, option_map}
 use Rattle.gd_prim.specs.declared.Primitive.{Primitive}
 use Rattle.gd_tree.specs.Trees.{TreeLists}
 use Rattle.gd_defs.specs.Asked as defs

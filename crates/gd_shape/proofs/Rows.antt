@@ -1,5 +1,5 @@
 -- Rows of a page, one after another.
-use Rattle.std.proofs.Common.{◌≡◌, ◌≤◌, ◌<◌, ◌+◌, ℕ, zero, suc, List, [], ◌∷◌, ◌++◌, Result, Ok, Err, map, drop, length, get_or, refl, sym, ap, ◌∙◌, add-one, drop-cons, arith}
+use Rattle.std.proofs.Common.{◌≡◌, ◌≤◌, ◌<◌, ◌+◌, ℕ, List, [], ◌∷◌, ◌++◌, Result, Ok, Err, map, drop, length, get_or, refl, sym, ap, ◌∙◌}
 use Rattle.gd_prim.specs.declared.Primitive.{Primitive}
 use Rattle.gd_grammar.specs.Chain.{◌>>=◌}
 use Rattle.gd_tree.specs.Json.{Items, item}
