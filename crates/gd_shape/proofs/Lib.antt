@@ -7,5 +7,6 @@ pub mod Lengths
 pub mod Members
 pub mod Prints
 pub mod Ranks
+pub mod Replies
 pub mod Rows
 pub mod Untold
