@@ -1,15 +1,13 @@
 -- Lengths of compact texts that stop at the greatest number of 64 bits, one part at a time.
-use Rattle.std.proofs.Common.{◌≡◌, ◌==◌, ◌≤◌, ◌<◌, ◌+◌, ℕ, zero, suc, ℤ, pos, negsuc, List, [], ◌∷◌, ◌++◌, Bool, true, false, drop, length, get_or, map, min, refl, sym, ap, ◌∙◌, add-one, drop-cons, length-append, arith, rules, Vec, Global}
+use Rattle.std.proofs.Common.{◌≡◌, ◌==◌, ◌≤◌, ◌<◌, ◌+◌, ℕ, ℤ, pos, negsuc, List, [], ◌∷◌, true, false, drop, length, get_or, min, refl, sym, ap, ◌∙◌, add-one, length-append, arith, rules, Vec, Global}
 use Rattle.std.specs.Prelude.{flat_map}
 use Rattle.std.specs.Fmt.{signed_decimal}
 use Rattle.std.proofs.lemmas.Bool.{eqb-true}
 use Rattle.gd_tree.specs.Json as tree
 use Rattle.gd_tree.specs.Json.{escaped, quoted, number_text, compact, more_items, more_members, Items, Members}
-use Rattle.gd_json.specs.View.{view, items_view, members_view, member_view}
+use Rattle.gd_json.specs.View.{view, items_view, members_view}
 use Rattle.gd_json.specs.declared.value.Json.{Json, Object, the_lemmas}
-
-left_at : {A : Type 0} (xs : List A) (i : ℕ) (x : A) → i < length xs → x ≡ get_or xs i x → drop i xs ≡ x ∷ drop (i + 1) xs
-left_at xs i x within is = rw (add-one, drop-cons xs i x) (ap (λ y. y ∷ drop (suc i) xs) (sym is))
+use Rattle.gd_shape.proofs.Left.{left_at}
 
 -- ---- texts and numbers
 

@@ -2,9 +2,11 @@ pub mod Data
 pub mod InTrees
 pub mod Insertion
 pub mod Knowing
+pub mod Left
 pub mod Lengths
 pub mod Members
 pub mod Prints
 pub mod Ranks
+pub mod Replies
 pub mod Rows
 pub mod Untold

@@ -1,22 +1,19 @@
 -- Members, one at a time.
-use Rattle.std.proofs.Common.{◌≡◌, ◌≤◌, ◌<◌, ◌+◌, max, ℕ, zero, suc, List, [], ◌∷◌, ◌++◌, Option, Result, Ok, Err, map, drop, length, get_or, refl, sym, ap, subst, ◌∙◌, rules, arith, add-one, drop-cons, option_map, Vec, Global}
+use Rattle.std.proofs.Common.{◌≡◌, ◌≤◌, ◌<◌, ◌+◌, ℕ, List, [], ◌∷◌, ◌++◌, Result, Ok, Err, map, drop, length, get_or, refl, sym, ap, subst, ◌∙◌, rules, option_map}
 use Rattle.gd_prim.specs.declared.Primitive.{Primitive}
 use Rattle.gd_tree.specs.Trees.{TreeLists}
 use Rattle.gd_defs.specs.Asked as defs
-use Rattle.gd_grammar.specs.Chain.{◌>>=◌}
 use Rattle.gd_tree.specs.Json.{Json, Members as JsonMembers, no_members as no_json_members}
 use Rattle.gd_defs.specs.Reply.{Path}
 use Rattle.gd_json.specs.View.{view as json_view, members_of}
-use Rattle.gd_plan.specs.Asked.{put, put_each, members_view, asking_view}
+use Rattle.gd_plan.specs.Asked.{put, members_view, asking_view}
 use Rattle.gd_plan.specs.Seen.{own_view, test_view, sort_key_view}
-use Rattle.gd_plan.specs.declared.asked.Own.{Own}
-use Rattle.gd_plan.specs.declared.asked.Asking.{Asking}
 use Rattle.gd_plan.specs.declared.asked.SortKey.{SortKey}
-use Rattle.gd_plan.specs.declared.test.Test.{Test}
-use Rattle.gd_plan.specs.declared.asked.Member.{Member, out-Member, fold-Member, the_lemmas}
+use Rattle.gd_plan.specs.declared.asked.Member.{Member, out-Member, the_lemmas}
 use Rattle.gd_plan.specs.declared.asked.Member.TheOpen.{Member-F}
 use Rattle.gd_runs.specs.Shape.Answers as shape
-use Rattle.gd_shape.specs.Printed.{in_front, object_print, first_print, first_name, behind_first, depth, members_before}
+use Rattle.gd_shape.specs.Printed.{in_front, object_print, first_print, first_name, behind_first, members_before}
+use Rattle.gd_shape.proofs.Left.{left_at, past}
 
 -- a member in front of others, one level opened
 abbrev pub opened : Member-F Member → defs.Members → defs.Members
@@ -37,9 +34,6 @@ pub front_put : (prims : List Primitive) (m : Member) (rest : defs.Members) (lin
 front_put prims m rest link o ls =
     let P : (defs.Members → defs.Members) → Type 0 = λ p. object_print prims (p rest) link o ls ≡ in_front (first_name (p defs.no_members)) (first_print prims (p defs.no_members) link o ls) (object_print prims rest link o (behind_first (p defs.no_members) ls)) in
     subst P (sym (put_seen m)) (front_opened prims (out-Member m) rest link o ls)
-
-left_at : {A : Type 0} (xs : List A) (i : ℕ) (x : A) → i < length xs → x ≡ get_or xs i x → drop i xs ≡ x ∷ drop (i + 1) xs
-left_at xs i x within is = rw (add-one, drop-cons xs i x) (ap (λ y. y ∷ drop (suc i) xs) (sym is))
 
 -- a place of the next sort key
 pub key_more : (sort : List SortKey) (i : ℕ) (s : SortKey) (o : ℕ) (ls : TreeLists) → i < length sort → s ≡ get_or sort i s
@@ -109,9 +103,3 @@ printed_path prims ms i m link o ls old path all within is fails was =
 pub printed_all : (prims : List Primitive) (ms : List Member) (i : ℕ) (link o : ℕ) (ls : TreeLists) (printed : List (List ℕ × Json)) (all : Result JsonMembers Path) → length ms ≤ i
     → members_before printed (object_print prims (members_view (drop i ms)) link o ls) ≡ all → Ok (members_of printed) ≡ all
 printed_all prims ms i link o ls printed all end was = sym (members-all printed) ∙ ap (λ ks. members_before printed (object_print prims (members_view ks) link o ls)) (sym (past ms i end)) ∙ was
-  where
-    past : (ks : List Member) (i : ℕ) → length ks ≤ i → drop i ks ≡ []
-    past [] zero end = refl
-    past [] (suc i) end = refl
-    past (k ∷ ks) zero end = absurd (omega (arith, end))
-    past (k ∷ ks) (suc i) end = past ks i (omega (arith, end))

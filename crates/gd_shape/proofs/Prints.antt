@@ -1,6 +1,6 @@
 -- What answers print, one after another.
-use Rattle.std.proofs.Common.{◌≡◌, ◌≢◌, ◌≤◌, ◌<◌, ◌+◌, ℕ, zero, suc, List, [], ◌∷◌, ◌++◌, Bool, true, false, Option, Some, None, Result, Ok, Err, map, drop, length, get_or, refl, sym, ap, ◌∙◌, option_map, add-one, drop-cons, arith}
-use Rattle.std.specs.Prelude.{take, slice_get, if◌then◌else◌}
+use Rattle.std.proofs.Common.{◌≡◌, ◌≤◌, ◌<◌, ◌+◌, ℕ, List, [], ◌∷◌, ◌++◌, Bool, true, false, Option, Some, None, Result, Ok, Err, map, drop, length, get_or, refl, sym, ap, ◌∙◌, option_map}
+use Rattle.std.specs.Prelude.{take, if◌then◌else◌}
 use Rattle.gd_prim.specs.declared.Primitive.{Primitive}
 use Rattle.gd_prim.specs.Live.{value_at}
 use Rattle.gd_grammar.specs.Chain.{◌>>=◌}
@@ -18,6 +18,7 @@ use Rattle.gd_json.specs.declared.value.Json.{Json as Value}
 use Rattle.gd_shape.specs.Printed.{each_print, given_or, found_print, cut_of, answer_print, asks_print, items_before}
 use Rattle.gd_shape.specs.Ranking.{ranked_view}
 use Rattle.gd_shape.specs.declared.ranked.Ranked.{Ranked}
+use Rattle.gd_shape.proofs.Left.{left_at, past}
 
 -- ---- the name of an object
 
@@ -49,9 +50,6 @@ unnamed prims ls is = by (first (first_list ls)) is ∙ sym (name-first prims ls
     by (Some t) here = cc
 
 -- ---- lists
-
-left_at : {A : Type 0} (xs : List A) (i : ℕ) (x : A) → i < length xs → x ≡ get_or xs i x → drop i xs ≡ x ∷ drop (i + 1) xs
-left_at xs i x within is = rw (add-one, drop-cons xs i x) (ap (λ y. y ∷ drop (suc i) xs) (sym is))
 
 -- an item behind those that were printed
 pub items-behind : (js : List Json) (j : Json) (rest : Result Items Path) → items_before (js ++ j ∷ []) rest ≡ items_before js (rest >>= λ items. Ok (item j items))
@@ -101,12 +99,6 @@ each_path f rows i row old path all within is fails was =
 pub each_all : (f : shape.Ranked → Result Json Path) (rows : List Ranked) (i : ℕ) (items : List Value) (all : Result Items Path) → length rows ≤ i
     → items_before (map view items) (each_print f (map ranked_view (drop i rows))) ≡ all → Ok (items_view items) ≡ all
 each_all f rows i items all end was = sym (items-all items) ∙ ap (λ rs. items_before (map view items) (each_print f (map ranked_view rs))) (sym (past rows i end)) ∙ was
-  where
-    past : (rs : List Ranked) (i : ℕ) → length rs ≤ i → drop i rs ≡ []
-    past [] zero end = refl
-    past [] (suc i) end = refl
-    past (r ∷ rs) zero end = absurd (omega (arith, end))
-    past (r ∷ rs) (suc i) end = past rs i (omega (arith, end))
 
 -- ---- what a member prints
 

@@ -1,5 +1,5 @@
 -- Rows of a page, one after another.
-use Rattle.std.proofs.Common.{◌≡◌, ◌≤◌, ◌<◌, ◌+◌, ℕ, zero, suc, List, [], ◌∷◌, ◌++◌, Result, Ok, Err, map, drop, length, get_or, refl, sym, ap, ◌∙◌, add-one, drop-cons, arith}
+use Rattle.std.proofs.Common.{◌≡◌, ◌≤◌, ◌<◌, ◌+◌, ℕ, List, [], ◌∷◌, ◌++◌, Result, Ok, Err, map, drop, length, get_or, refl, sym, ap, ◌∙◌}
 use Rattle.gd_prim.specs.declared.Primitive.{Primitive}
 use Rattle.gd_grammar.specs.Chain.{◌>>=◌}
 use Rattle.gd_tree.specs.Json.{Items, item}
@@ -12,13 +12,11 @@ use Rattle.gd_trees.specs.View.{view as tree_view}
 use Rattle.gd_trees.specs.declared.tree.Tree.{Tree}
 use Rattle.gd_shape.specs.Printed.{as_object, object_print, rows_print, items_before}
 use Rattle.gd_shape.proofs.Prints.{items-behind, items-path, items-all}
+use Rattle.gd_shape.proofs.Left.{left_at, past}
 
 -- what the row of a tree prints
 abbrev pub row_print : List Primitive → defs.Members → Tree → Result Rattle.gd_tree.specs.Json.Json Path
 row_print prims ms t = as_object (object_print prims ms 0 (place_of (tree_view t)) (lists_of (tree_view t)))
-
-left_at : {A : Type 0} (xs : List A) (i : ℕ) (x : A) → i < length xs → x ≡ get_or xs i x → drop i xs ≡ x ∷ drop (i + 1) xs
-left_at xs i x within is = rw (add-one, drop-cons xs i x) (ap (λ y. y ∷ drop (suc i) xs) (sym is))
 
 rows-left : (prims : List Primitive) (ms : defs.Members) (ts : List Tree) (i : ℕ) (t : Tree) → i < length ts → t ≡ get_or ts i t
     → rows_print prims ms (map tree_view (drop i ts)) ≡ (row_print prims ms t >>= λ j. rows_print prims ms (map tree_view (drop (i + 1) ts)) >>= λ js. Ok (item j js))
@@ -53,9 +51,3 @@ rows_path prims ms ts i t old path all within is fails was =
 pub rows_all : (prims : List Primitive) (ms : defs.Members) (ts : List Tree) (i : ℕ) (items : List Value) (all : Result Items Path) → length ts ≤ i
     → items_before (map view items) (rows_print prims ms (map tree_view (drop i ts))) ≡ all → Ok (items_view items) ≡ all
 rows_all prims ms ts i items all end was = sym (items-all items) ∙ ap (λ us. items_before (map view items) (rows_print prims ms (map tree_view us))) (sym (past ts i end)) ∙ was
-  where
-    past : (us : List Tree) (i : ℕ) → length us ≤ i → drop i us ≡ []
-    past [] zero end = refl
-    past [] (suc i) end = refl
-    past (u ∷ us) zero end = absurd (omega (arith, end))
-    past (u ∷ us) (suc i) end = past us i (omega (arith, end))

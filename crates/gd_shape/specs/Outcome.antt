@@ -1,9 +1,16 @@
 -- What printing comes to, as the definitions have it.
-use Rattle.std.specs.Prelude.{ℕ, List, Result, Ok, Err, Vec}
+use Rattle.std.specs.Prelude.{◌≡◌, ◌<◌, ℕ, List, Result, Ok, Err, Vec}
 use Rattle.std.specs.declared.alloc.Global.{Global}
 use Rattle.gd_defs.specs.Reply.{Path}
+use Rattle.gd_shape.specs.declared.line.LineFault.{LineFault}
+use Rattle.gd_shape.specs.declared.line.LineFault.TheVariants.{ReplyTooLarge, Memory}
 
 -- what was printed, seen through a function, or the path of two answers
 abbrev pub seen : {A B : Type 0} → (A → B) → Result A (Vec (List ℕ) Global) → Result B Path
 seen f (Ok a) = Ok (f a)
 seen f (Err path) = Err path.items
+
+-- a line of so many bytes is refused for them
+abbrev pub IsTooLarge : ℕ → LineFault → Type 0
+IsTooLarge bytes (ReplyTooLarge told) = (told ≡ bytes) × (1_048_576 < bytes)
+IsTooLarge bytes Memory = Unit {0}

@@ -1,5 +1,5 @@
 -- What is printed from trees where no walks are told: the definitions of a page without them.
-use Rattle.std.specs.Prelude.{◌≡◌, ℕ, ◌+◌, max, List, [], ◌∷◌, length, map, take, Bool, Option, Some, None, unwrap_or, Result, Ok, Err, if◌then◌else◌}
+use Rattle.std.specs.Prelude.{ℕ, List, [], ◌∷◌, length, map, take, Bool, Option, Some, None, unwrap_or, Result, Ok, Err, if◌then◌else◌}
 use Rattle.gd_prim.specs.declared.Primitive.{Primitive}
 use Rattle.gd_grammar.specs.Chain.{◌>>=◌}
 use Rattle.gd_tree.specs.Json.{Json, object, Items, no_items, item, Members as JsonMembers, no_members as no_json_members, member as json_member}
@@ -91,12 +91,6 @@ abbrev pub behind_first : Members → TreeLists → TreeLists
 behind_first no_members ls = ls
 behind_first (own name w t operand ms) ls = ls
 behind_first (asks name a c ms) ls = rest_lists ls
-
--- how deep clauses lie one within the other
-abbrev pub depth : Members → ℕ
-depth no_members = 0
-depth (own name w t operand ms) = depth ms
-depth (asks name a c ms) = max (depth c + 1) (depth ms)
 
 -- members that were printed, in front of what is printed behind them
 abbrev pub members_before : List (List ℕ × Json) → Result JsonMembers Path → Result JsonMembers Path

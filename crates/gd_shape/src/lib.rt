@@ -7,6 +7,7 @@ mod datum;
 mod gather;
 pub mod known;
 pub mod length;
+pub mod line;
 mod lists;
 mod order;
 pub mod page;

@@ -151,12 +151,7 @@ fn left_of(budget: u64, before: u64, after: u64) -> u64
 }
 
 /// A shape of trees or of a count, of which nothing is looked at yet.
-fn begun(
-    alloc: Global,
-    asked: Asked,
-    trees: Vec<Tree>,
-    count: Option<u32>,
-) -> Result<Shape, Memory>
+fn begun(alloc: Global, asked: Asked, trees: Vec<Tree>, count: Option<u32>) -> Result<Shape, Memory>
     ensures asked { IfOk result (λ shape. asked_of shape ≡ asked_view asked) }
     ensures trees { IfOk result (λ shape. trees_in shape ≡ map tree_view trees.items) }
     ensures count { IfOk result (λ shape. shape.count ≡ count) }
