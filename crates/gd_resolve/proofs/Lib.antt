@@ -1,5 +1,6 @@
-pub mod Scans
-pub mod Name
-pub mod Ways
-pub mod Last
 pub mod Counted
+pub mod Last
+pub mod Lefts
+pub mod Name
+pub mod Scans
+pub mod Ways

@@ -26,6 +26,12 @@ is_wanted (wanted.Link typ o) p = is_link typ o p
 is_wanted (wanted.TypeLink o type) p = gives_type o type p
 is_wanted (wanted.Mark property) p = is_mark property p
 
+-- the object that what is wanted leads from
+abbrev pub left_of : Wanted → ℕ
+left_of (wanted.Link typ o) = o
+left_of (wanted.TypeLink o type) = o
+left_of (wanted.Mark property) = property
+
 -- a live primitive stands at the place, and passes the test
 abbrev pub is_found : (Primitive → Bool) → List Primitive → ℕ → Bool
 is_found test prims place = passes_at test prims place && is_live prims place

@@ -1,6 +1,8 @@
 //! What a property says of itself.
-ghost use Rattle.std.specs.Prelude.{◌≡◌, ◌≤◌, ◌<◌, ◌↔◌, ◌&&◌, length, IsTrue};
+ghost use Rattle.std.specs.Prelude.{◌≡◌, ◌≤◌, ◌<◌, ◌↔◌, ◌&&◌, length, find, IsTrue};
 ghost use Rattle.gd_base.specs.Counts.{Rose};
+ghost use Rattle.gd_prim.specs.declared.End.TheVariants.{Left};
+ghost use Rattle.gd_prim.specs.End.{places_with};
 ghost use Rattle.gd_prim.specs.History.{prims_of};
 ghost use Rattle.gd_prim.specs.Live as live;
 ghost use Rattle.gd_prim.specs.Builtin.{property_place, expected_place};
@@ -13,8 +15,8 @@ use crate::look::{is_object, prim_at, right_at};
 use gd_base::datum::Datum;
 use gd_base::id::Id;
 use gd_base::steps::Steps;
-use gd_prim::Primitive;
 use gd_prim::live::refers;
+use gd_prim::{End, Primitive};
 use gd_store::view::View;
 use std::marker::Model;
 
@@ -108,18 +110,39 @@ fn is_found<L>(view: &View<'_>, wanted: &Wanted, place: Id, steps: &mut Steps<L>
     }
 }
 
-/// The first place at which a live primitive stands that is wanted.
+/// The object that what is wanted leads from.
+fn left_of(wanted: &Wanted) -> Id
+    ensures { result ≡ found.left_of wanted.now }
+{
+    match wanted {
+        Wanted::Link { object, .. } => *object,
+        Wanted::TypeLink { object, .. } => *object,
+        Wanted::Mark { property } => *property,
+    }
+}
+
+/// The first of the places that lead from an object at which a live primitive stands that is wanted.
+fn first_from<L>(view: &View<'_>, wanted: &Wanted, object: Id, steps: &mut Steps<L>) -> Option<Id>
+    ensures first { result ≡ find (found.is_found (found.is_wanted wanted.now) (prims_of view.now)) (places_with Left object (prims_of view.now)) }
+    ensures later { steps.old ≤ steps.new }
+    ensures counted { Rose steps.old steps.new }
+{
+    for k in 0..view.list_len(End::Left, object, steps) {
+        let place = view.list_at(End::Left, object, k, steps);
+        if is_found(view, wanted, place, steps) {
+            return Some(place);
+        }
+    }
+    None
+}
+
+/// The first place at which a live primitive stands that is wanted. It looks at the places that lead from its object.
 fn first_found<L>(view: &View<'_>, wanted: &Wanted, steps: &mut Steps<L>) -> Option<Id>
     ensures first { result ≡ found.first_found (found.is_wanted wanted.now) (prims_of view.now) }
     ensures later { steps.old ≤ steps.new }
     ensures counted { 0 < length (prims_of view.now) → Rose steps.old steps.new }
 {
-    for place in 0..view.end().place() {
-        if is_found(view, wanted, Id(place), steps) {
-            return Some(Id(place));
-        }
-    }
-    None
+    first_from(view, wanted, left_of(wanted), steps)
 }
 
 /// The right end of the first live link of a typ from an object.

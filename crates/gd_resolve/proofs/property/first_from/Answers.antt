@@ -1,20 +1,28 @@
-use Rattle.std.proofs.Common.{◌<◌, ◌+◌, ◌-◌, length, arith, sym, ◌∙◌, ap, cond, Some}
+use Rattle.std.proofs.Common.{◌+◌, refl, drop, sym, ap, ◌∙◌, cond, Some, arith}
 use Rattle.std.specs.Prelude.{find}
-use Rattle.std.specs.List.{range_with_len}
 use Rattle.gd_prim.specs.History.{prims_of}
+use Rattle.gd_prim.specs.declared.End.TheVariants.{Left}
+use Rattle.gd_prim.specs.End.{places_with}
 use Rattle.gd_resolve.specs.Found.{is_found, is_wanted}
-use Rattle.gd_resolve.proofs.Scans.{find-range}
-use Rattle.gd_resolve.proofs.property.first_found.Goals as goal
+use Rattle.gd_resolve.proofs.Lefts.{find_next}
+use Rattle.gd_resolve.proofs.property.first_from.Goals as goal
 
-pub loop-place-preserved : goal.loop-place-preserved
-loop-place-preserved g c =
-    let prims = prims_of c.args.view.now in
-    let test = is_found (is_wanted c.args.wanted.now) prims in
-    let below : c.loop-place.place < length prims = omega arith in
+pub loop-k-init : goal.loop-k-init
+loop-k-init g c = record { left = refl; later = omega arith }
+
+pub returns-then-is_found-clause-first : goal.returns-then-is_found-clause-first
+returns-then-is_found-clause-first g c =
+    let places = places_with Left c.args.object (prims_of c.args.view.now) in
+    let test = is_found (is_wanted c.args.wanted.now) (prims_of c.args.view.now) in
+    sym (c.loop-k.invariant.left ∙ find_next test places c.loop-k.k c.list_at-place.result c.list_at-place.ensures.place
+    ∙ ap (λ b. cond b (Some c.list_at-place.result) (find test (drop (c.loop-k.k + 1) places))) (sym c.is_found.ensures.found ∙ c.if-is_found.true))
+
+pub loop-k-preserved : goal.loop-k-preserved
+loop-k-preserved g c =
+    let places = places_with Left c.args.object (prims_of c.args.view.now) in
+    let test = is_found (is_wanted c.args.wanted.now) (prims_of c.args.view.now) in
     record {
-      left = c.loop-place.invariant.left ∙ find-range test c.loop-place.place (length prims) below
-          ∙ ap (λ b. cond b (Some c.loop-place.place) (find test (range_with_len (c.loop-place.place + 1) (length prims - (c.loop-place.place + 1)))))
-          (sym c.is_found.ensures.found ∙ c.if-is_found.false);
+      left = c.loop-k.invariant.left ∙ find_next test places c.loop-k.k c.list_at-place.result c.list_at-place.ensures.place
+          ∙ ap (λ b. cond b (Some c.list_at-place.result) (find test (drop (c.loop-k.k + 1) places))) (sym c.is_found.ensures.found ∙ c.if-is_found.false);
       later = omega arith;
-      counted = λ more. (let looked = c.is_found.ensures.counted below in omega arith);
     }
