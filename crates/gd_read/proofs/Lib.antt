@@ -1,10 +1,6 @@
 pub mod Bounds
 pub mod KeyLinks
-pub mod NameLinks
 pub mod Weighed
 pub mod Refused
 pub mod Scanned
-pub mod Lookup
-pub mod Meets
-pub mod Form
 pub mod Cases

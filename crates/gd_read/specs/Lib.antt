@@ -1,6 +1,3 @@
-pub mod Asks
 pub mod Body
-pub mod Form
 pub mod KeysAt
 pub mod Scanned
-pub mod Target
