@@ -1,0 +1,7 @@
+pub mod InTrees
+pub mod Knowing
+pub mod Outcome
+pub mod Printed
+pub mod Ranking
+pub mod Shaping
+pub mod Up

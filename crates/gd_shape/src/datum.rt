@@ -1,0 +1,198 @@
+//! Data as they print.
+ghost use Rattle.std.specs.Prelude.{◌≡◌, ℕ, IfOk, IsTrue};
+ghost use Rattle.gd_tree.specs.Json.{text};
+ghost use Rattle.gd_prim.specs.Live.{value_at, end_at, object_datum};
+ghost use Rattle.gd_prim.specs.WellFormed.{may_hold};
+ghost use Rattle.gd_defs.specs.Data.{datum_json};
+ghost use Rattle.gd_defs.specs.Ids.{id_text, guid};
+ghost use Rattle.gd_defs.specs.Property as props;
+ghost use Rattle.gd_defs.specs.Reply as reply;
+ghost use Rattle.gd_defs.specs.Rows as rows;
+ghost use Rattle.gd_json.specs.View.{view};
+ghost use Rattle.gd_plan.specs.Seen.{own_view};
+
+use crate::sight::{Lack, Sight};
+use gd_base::datum::{Datum, Precision};
+use gd_base::id::Id;
+use gd_json::value::Json;
+use gd_plan::asked::Own;
+use gd_plan::constraint::answers_of;
+use gd_plan::expects::holds_values;
+use gd_reply::guid::guid;
+use gd_resolve::property::Property;
+use std::alloc::Global;
+
+/// A value that a primitive may hold, as it prints.
+#[tactic(auto, using(crate::proofs::Data::value_held))]
+fn value_json(alloc: Global, datum: &Datum) -> Result<Json, Lack>
+    requires { IsTrue (may_hold datum.now) }
+    ensures { IfOk result (λ json. view json ≡ datum_json datum.now) }
+{
+    match datum {
+        Datum::Empty => Ok(Json::Null),
+        value => Ok(gd_datum::value::datum_json(alloc, value)?),
+    }
+}
+
+/// The value at a place, as it prints.
+pub(crate) fn value_at(alloc: Global, sight: &Sight<'_>, place: Id) -> Result<Json, Lack>
+    ensures { IfOk result (λ json. view json ≡ datum_json (value_at sight.now place)) }
+{
+    match sight.prim(place)? {
+        Some(prim) => value_json(alloc, &prim.value),
+        None => Ok(Json::Null),
+    }
+}
+
+/// When the primitive at a place was written.
+#[tactic(auto, using(crate::proofs::Data::moment_held))]
+pub(crate) fn timestamp(sight: &Sight<'_>, place: Id) -> Result<Datum, Lack>
+    ensures timestamp { IfOk result (λ datum. datum ≡ rows.timestamp sight.now place) }
+    ensures held { IfOk result (λ datum. IsTrue (may_hold datum)) }
+{
+    match sight.prim(place)? {
+        Some(prim) => Ok(Datum::Moment {
+            ms: prim.moment as i64,
+            precision: Precision::Time,
+        }),
+        None => Ok(Datum::Empty),
+    }
+}
+
+/// The same as it prints.
+fn timestamp_json(alloc: Global, sight: &Sight<'_>, place: Id) -> Result<Json, Lack>
+    ensures { IfOk result (λ json. view json ≡ datum_json (rows.timestamp sight.now place)) }
+{
+    let datum = timestamp(sight, place)?;
+    value_json(alloc, &datum)
+}
+
+/// The guid of a place.
+fn guid_json(alloc: Global, place: Id) -> Result<Json, Lack>
+    ensures { IfOk result (λ json. view json ≡ text (guid place)) }
+{
+    Ok(Json::Text(guid(alloc, place)?))
+}
+
+/// The id of an object.
+fn id_json(sight: &Sight<'_>, next: &mut usize, object: Id) -> Result<Json, Lack>
+    ensures { IfOk result (λ json. view json ≡ text (id_text sight.now object)) }
+{
+    Ok(Json::Text(sight.id(next, object)?))
+}
+
+/// The id of an object, if there is one, else null.
+fn some_id_json(sight: &Sight<'_>, next: &mut usize, object: Option<Id>) -> Result<Json, Lack>
+    ensures { IfOk result (λ json. view json ≡ reply.id_json sight.now (object_datum object)) }
+{
+    match object {
+        Some(object) => id_json(sight, next, object),
+        None => Ok(Json::Null),
+    }
+}
+
+/// The guid of an object, if there is one, else null.
+fn some_guid_json(alloc: Global, object: Option<Id>) -> Result<Json, Lack>
+    ensures { IfOk result (λ json. view json ≡ datum_json (object_datum object)) }
+{
+    match object {
+        Some(object) => guid_json(alloc, object),
+        None => Ok(Json::Null),
+    }
+}
+
+/// The right end of a link.
+fn right_of(sight: &Sight<'_>, link: Id) -> Result<Option<Id>, Lack>
+    ensures { IfOk result (λ end. end ≡ end_at (λ p. p.right) sight.now link) }
+{
+    match sight.prim(link)? {
+        Some(prim) => Ok(prim.right),
+        None => Ok(None),
+    }
+}
+
+/// The end of a link at which the answer of a property stands.
+fn far_end(sight: &Sight<'_>, property: &Property, link: Id) -> Result<Option<Id>, Lack>
+    ensures { IfOk result (λ end. end ≡ props.far_end sight.now property.now link) }
+{
+    match sight.prim(link)? {
+        Some(prim) => {
+            if property.reversed {
+                Ok(prim.left)
+            } else {
+                Ok(prim.right)
+            }
+        }
+        None => Ok(None),
+    }
+}
+
+/// What a computed member tells of an object and the link that led to it, as it prints.
+pub(crate) fn own_json(
+    alloc: Global,
+    sight: &Sight<'_>,
+    next: &mut usize,
+    own: Own,
+    link: Id,
+    object: Id,
+) -> Result<Json, Lack>
+    ensures { IfOk result (λ json. view json ≡ reply.own_json sight.now (own_view own) link object) }
+{
+    match own {
+        Own::Id => id_json(sight, next, object),
+        Own::Guid => guid_json(alloc, object),
+        Own::Timestamp => timestamp_json(alloc, sight, object),
+        Own::Link => guid_json(alloc, link),
+        Own::Value => value_at(alloc, sight, link),
+        Own::Namespace => {
+            let namespace = right_of(sight, link)?;
+            some_id_json(sight, next, namespace)
+        }
+    }
+}
+
+/// An answer of a property as its value: an object as its guid.
+#[tactic(auto, using(crate::proofs::Data::values_here, crate::proofs::Data::objects_here))]
+pub(crate) fn answer_value(
+    alloc: Global,
+    sight: &Sight<'_>,
+    property: &Property,
+    link: Id,
+) -> Result<Json, Lack>
+    ensures { IfOk result (λ json. view json ≡ datum_json (props.answer_datum sight.now property.now link)) }
+{
+    if holds_values(answers_of(property)) {
+        return value_at(alloc, sight, link);
+    }
+    let end = far_end(sight, property, link)?;
+    some_guid_json(alloc, end)
+}
+
+/// An answer of a property as its id: a value as it is.
+#[tactic(auto, using(crate::proofs::Data::values_here, crate::proofs::Data::objects_here))]
+pub(crate) fn answer_id(
+    alloc: Global,
+    sight: &Sight<'_>,
+    next: &mut usize,
+    property: &Property,
+    link: Id,
+) -> Result<Json, Lack>
+    ensures { IfOk result (λ json. view json ≡ reply.id_json sight.now (props.answer_datum sight.now property.now link)) }
+{
+    if holds_values(answers_of(property)) {
+        return value_id(alloc, sight, link);
+    }
+    let end = far_end(sight, property, link)?;
+    some_id_json(sight, next, end)
+}
+
+/// The value at a place, which is no object, as its id.
+#[tactic(auto, using(crate::proofs::Data::no_id))]
+fn value_id(alloc: Global, sight: &Sight<'_>, place: Id) -> Result<Json, Lack>
+    ensures { IfOk result (λ json. view json ≡ reply.id_json sight.now (value_at sight.now place)) }
+{
+    match sight.prim(place)? {
+        Some(prim) => value_json(alloc, &prim.value),
+        None => Ok(Json::Null),
+    }
+}
