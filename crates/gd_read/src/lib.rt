@@ -9,6 +9,7 @@ mod found;
 pub mod keys;
 mod names;
 pub mod page;
+pub mod read;
 pub mod reply;
 mod rows;
 pub mod scan;
