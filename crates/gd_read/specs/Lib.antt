@@ -1,3 +1,4 @@
 pub mod Body
 pub mod KeysAt
+pub mod Planned
 pub mod Scanned

@@ -4,7 +4,7 @@
 mod answers;
 pub mod asked;
 pub mod fault;
-pub mod general;
 pub mod keys;
 pub mod page;
+pub mod read;
 pub mod scan;

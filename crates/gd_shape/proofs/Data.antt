@@ -1,5 +1,5 @@
 -- Data that primitives hold, as they print.
-use Rattle.std.proofs.Common.{◌≡◌, ◌≢◌, ◌≤◌, ℕ, Bool, true, false, IsTrue, refl, pos, rules, arith, List, Option, Some, None, cond}
+use Rattle.std.proofs.Common.{◌≡◌, ◌≢◌, ◌≤◌, ℕ, true, false, IsTrue, refl, pos, rules, arith, List}
 use Rattle.gd_base.specs.declared.datum.Datum.{Datum}
 use Rattle.gd_base.specs.declared.datum.Datum.TheVariants as datum
 use Rattle.gd_prim.specs.declared.Primitive.{Primitive}
@@ -8,7 +8,7 @@ use Rattle.gd_prim.specs.Live.{value_at, object_datum}
 use Rattle.gd_datum.specs.Values.{is_value}
 use Rattle.gd_defs.specs.Data.{datum_json}
 use Rattle.gd_defs.specs.Plan.{answers_of}
-use Rattle.gd_defs.specs.Property.{Property, answer_datum, far_end, holds_values, Expects, a_value, a_key, an_object_of_system, a_plain_object, expects_of}
+use Rattle.gd_defs.specs.Property.{Property, answer_datum, far_end, holds_values, Expects, a_value, a_key, an_object_of_system, a_plain_object}
 use Rattle.gd_defs.specs.Reply.{id_json}
 
 -- a value that is held and there may print

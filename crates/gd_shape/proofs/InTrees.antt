@@ -1,5 +1,5 @@
 -- The first of lists of trees.
-use Rattle.std.proofs.Common.{◌≡◌, List, [], ◌∷◌, map, refl, ap, sym, ◌∙◌, rules}
+use Rattle.std.proofs.Common.{◌≡◌, List, [], ◌∷◌, map, refl, ap, ◌∙◌, rules}
 use Rattle.gd_tree.specs.Trees as defs
 use Rattle.gd_tree.specs.Trees.{trees_of, list_of, first_list}
 use Rattle.gd_trees.specs.View.{view, trees_view}

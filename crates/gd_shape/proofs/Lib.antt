@@ -2,6 +2,7 @@ pub mod Data
 pub mod InTrees
 pub mod Insertion
 pub mod Knowing
+pub mod Lengths
 pub mod Members
 pub mod Prints
 pub mod Ranks

@@ -1,22 +1,18 @@
 -- Members, one at a time.
-use Rattle.std.proofs.Common.{◌≡◌, ◌≤◌, ◌<◌, ◌+◌, max, ℕ, zero, suc, List, [], ◌∷◌, ◌++◌, Option, Result, Ok, Err, map, drop, length, get_or, refl, sym, ap, subst, ◌∙◌, rules, arith, add-one, drop-cons, option_map, Vec, Global}
+use Rattle.std.proofs.Common.{◌≡◌, ◌≤◌, ◌<◌, ◌+◌, ℕ, zero, suc, List, [], ◌∷◌, ◌++◌, Result, Ok, Err, map, drop, length, get_or, refl, sym, ap, subst, ◌∙◌, rules, arith, add-one, drop-cons, option_map}
 use Rattle.gd_prim.specs.declared.Primitive.{Primitive}
 use Rattle.gd_tree.specs.Trees.{TreeLists}
 use Rattle.gd_defs.specs.Asked as defs
-use Rattle.gd_grammar.specs.Chain.{◌>>=◌}
 use Rattle.gd_tree.specs.Json.{Json, Members as JsonMembers, no_members as no_json_members}
 use Rattle.gd_defs.specs.Reply.{Path}
 use Rattle.gd_json.specs.View.{view as json_view, members_of}
-use Rattle.gd_plan.specs.Asked.{put, put_each, members_view, asking_view}
+use Rattle.gd_plan.specs.Asked.{put, members_view, asking_view}
 use Rattle.gd_plan.specs.Seen.{own_view, test_view, sort_key_view}
-use Rattle.gd_plan.specs.declared.asked.Own.{Own}
-use Rattle.gd_plan.specs.declared.asked.Asking.{Asking}
 use Rattle.gd_plan.specs.declared.asked.SortKey.{SortKey}
-use Rattle.gd_plan.specs.declared.test.Test.{Test}
-use Rattle.gd_plan.specs.declared.asked.Member.{Member, out-Member, fold-Member, the_lemmas}
+use Rattle.gd_plan.specs.declared.asked.Member.{Member, out-Member, the_lemmas}
 use Rattle.gd_plan.specs.declared.asked.Member.TheOpen.{Member-F}
 use Rattle.gd_runs.specs.Shape.Answers as shape
-use Rattle.gd_shape.specs.Printed.{in_front, object_print, first_print, first_name, behind_first, depth, members_before}
+use Rattle.gd_shape.specs.Printed.{in_front, object_print, first_print, first_name, behind_first, members_before}
 
 -- a member in front of others, one level opened
 abbrev pub opened : Member-F Member → defs.Members → defs.Members

@@ -1,6 +1,6 @@
 -- What answers print, one after another.
-use Rattle.std.proofs.Common.{◌≡◌, ◌≢◌, ◌≤◌, ◌<◌, ◌+◌, ℕ, zero, suc, List, [], ◌∷◌, ◌++◌, Bool, true, false, Option, Some, None, Result, Ok, Err, map, drop, length, get_or, refl, sym, ap, ◌∙◌, option_map, add-one, drop-cons, arith}
-use Rattle.std.specs.Prelude.{take, slice_get, if◌then◌else◌}
+use Rattle.std.proofs.Common.{◌≡◌, ◌≤◌, ◌<◌, ◌+◌, ℕ, zero, suc, List, [], ◌∷◌, ◌++◌, Bool, true, false, Option, Some, None, Result, Ok, Err, map, drop, length, get_or, refl, sym, ap, ◌∙◌, option_map, add-one, drop-cons, arith}
+use Rattle.std.specs.Prelude.{take, if◌then◌else◌}
 use Rattle.gd_prim.specs.declared.Primitive.{Primitive}
 use Rattle.gd_prim.specs.Live.{value_at}
 use Rattle.gd_grammar.specs.Chain.{◌>>=◌}

@@ -16,7 +16,7 @@ use Rattle.gd_defs.specs.Reply.{Path, under, is_ambiguous, operand_of, is_clause
 use Rattle.gd_runs.specs.Shape as shape
 use Rattle.gd_runs.specs.Shape.{Printed, own_shape, plain_shape, each_shape, list_shape, answers_shape, object_shape, rows_shape, page_shape}
 use Rattle.gd_runs.specs.Shape.Answers.{Ranked}
-use Rattle.gd_shape.specs.Printed.{style_print, each_print, given_or, found_print, cut_of, as_object, in_front, object_print, answer_print, asks_print, rows_print, page_print}
+use Rattle.gd_shape.specs.Printed.{each_print, given_or, found_print, cut_of, as_object, in_front, object_print, answer_print, asks_print, rows_print, page_print}
 
 -- what is printed where no walks are told, and none are left
 abbrev untold : {A : Type 0} → Result A Path → Printed A

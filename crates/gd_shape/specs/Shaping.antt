@@ -1,15 +1,19 @@
 -- What a page that is being printed stands for.
-use Rattle.std.specs.Prelude.{◌≡◌, ℕ, List, length, map, nat_lt, Bool, true, false, ◌||◌, Result, Ok, Err, vec_len}
+use Rattle.std.specs.Prelude.{◌≡◌, ℕ, List, [], Option, None, Some, map, nat_lt, Bool, true, false, ◌||◌, Result, Ok, Err, vec_len}
 use Rattle.gd_prim.specs.declared.Primitive.{Primitive}
 use Rattle.gd_tree.specs.Json as tree
-use Rattle.gd_tree.specs.Trees.{Tree}
+use Rattle.gd_tree.specs.Trees.{Tree, list_of}
 use Rattle.gd_defs.specs.Asked.{Asked}
 use Rattle.gd_defs.specs.Reply.{Path}
 use Rattle.gd_json.specs.View.{view as json_view}
 use Rattle.gd_plan.specs.Asked.{asked_view}
-use Rattle.gd_trees.specs.View.{view as tree_view}
+use Rattle.gd_defs.specs.Lines.{count_json}
+use Rattle.gd_runs.specs.Shape.{page_shape}
+use Rattle.gd_trees.specs.View.{view as tree_view, trees_view}
 use Rattle.gd_shape.specs.Knowing.{IsKnownOf, AreIdsOf}
 use Rattle.gd_shape.specs.declared.shape.Shape.{Shape}
+use Rattle.gd_shape.specs.declared.shape.PageBody.{PageBody}
+use Rattle.gd_shape.specs.declared.shape.PageBody.TheVariants as body
 use Rattle.gd_shape.specs.declared.shape.ShapeTurn.{ShapeTurn}
 use Rattle.gd_shape.specs.declared.shape.ShapeTurn.TheVariants.{Reply, Unfinished}
 use Rattle.gd_shape.specs.declared.shape.ShapeFault.{ShapeFault}
@@ -22,6 +26,20 @@ asked_of s = asked_view s.asked
 -- the trees of the rows
 abbrev pub trees_in : Shape → List Tree
 trees_in s = map tree_view s.trees.items
+
+-- a count as it prints, if one is asked, else the page
+abbrev pub count_or : Option ℕ → Result tree.Json Path → Result tree.Json Path
+count_or None page = page
+count_or (Some n) page = Ok (count_json n)
+
+-- what a page that is being printed prints in the end, over a list
+abbrev pub page_of : List Primitive → Shape → Result tree.Json Path
+page_of prims s = count_or s.count (page_shape prims (asked_of s) (trees_in s) [])
+
+-- what a body prints of a query, over a list: its trees, or the count
+abbrev pub body_print : List Primitive → Asked → PageBody → Result tree.Json Path
+body_print prims q (body.Trees trees) = page_shape prims q (list_of (trees_view trees)) []
+body_print prims q (body.Count n) = Ok (count_json n)
 
 -- something is still to be looked at
 abbrev pub is_behind : Shape → Bool
@@ -36,6 +54,7 @@ pub record IsOf (prims : List Primitive) (s : Shape) : Type 0 where
 pub record IsSamePage (a b : Shape) : Type 0 where
   pub asked : asked_of b ≡ asked_of a
   pub trees : trees_in b ≡ trees_in a
+  pub count : b.count ≡ a.count
 
 -- a slice that came to a reply tells what is expected
 abbrev pub Tells : Result tree.Json Path → ShapeTurn → Type 0

@@ -69,7 +69,11 @@ pub(crate) fn answer_of<'t>(asking: &Asking, tree: &'t Tree) -> Answer<'t>
     let lists = tree.lists.as_slice();
     match answers_of(&asking.property) {
         Expects::Value(_) => no_far(tree.place),
-        Expects::Key => far_answer(tree.place, true, first_trees(own_lists(asking.given, lists))),
+        Expects::Key => far_answer(
+            tree.place,
+            true,
+            first_trees(own_lists(asking.given, lists)),
+        ),
         Expects::SystemObject | Expects::PlainObject => {
             far_answer(tree.place, asking.given, first_trees(lists))
         }

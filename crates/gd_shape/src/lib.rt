@@ -6,6 +6,7 @@ mod cut;
 mod datum;
 mod gather;
 pub mod known;
+pub mod length;
 mod lists;
 mod order;
 pub mod page;

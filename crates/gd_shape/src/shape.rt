@@ -1,17 +1,16 @@
 //! A page that is printed in slices.
-ghost use Rattle.std.specs.Prelude.{◌≡◌, ◌+◌, ◌-◌, ◌^◌, ◌<◌, ◌≤◌, [], List, min, false, IfOk, IfErr, IfSome, IsNone, IsTrue, OnOk, slice_get};
+ghost use Rattle.std.specs.Prelude.{◌≡◌, ◌+◌, ◌-◌, ◌^◌, ◌<◌, ◌≤◌, [], List, Ok, min, map, false, IfOk, IfErr, IfSome, IsNone, IsTrue, OnOk, slice_get};
 ghost use Rattle.gd_base.specs.Counts.{Rose};
 ghost use Rattle.gd_prim.specs.History.{prims_of};
 ghost use Rattle.gd_prim.specs.declared.Primitive.{Primitive};
 ghost use Rattle.gd_json.specs.View.{view as json_view};
 ghost use Rattle.gd_plan.specs.Asked.{asked_view};
 ghost use Rattle.gd_runs.specs.Shape.{page_shape};
-ghost use Rattle.gd_tree.specs.Trees.{list_of};
-ghost use Rattle.gd_trees.specs.View.{trees_view};
+ghost use Rattle.gd_trees.specs.View.{view as tree_view};
 ghost use Rattle.gd_shape.specs.Knowing.{IsKnownOf, AreIdsOf};
 ghost use Rattle.gd_shape.specs.Outcome.{seen};
 ghost use Rattle.gd_shape.specs.declared.shape.ShapeFault.TheVariants.{Memory as no_memory};
-ghost use Rattle.gd_shape.specs.Shaping.{asked_of, trees_in, is_behind, IsOf, IsSamePage, Tells, Refuses, is_unfinished};
+ghost use Rattle.gd_shape.specs.Shaping.{asked_of, trees_in, page_of, body_print, is_behind, IsOf, IsSamePage, Tells, Refuses, is_unfinished};
 
 use crate::gather::{objects_printed, push_places};
 use crate::known::Known;
@@ -28,6 +27,15 @@ use gd_store::view::View;
 use gd_trees::tree::{Tree, Trees};
 use std::alloc::Global;
 use thiserror::Error;
+
+/// What a page prints from.
+#[derive(Drop)]
+pub enum PageBody {
+    /// The trees of its rows, in their order.
+    Trees(Trees),
+    /// How many rows there are.
+    Count(u32),
+}
 
 /// What a slice of printing comes to.
 #[derive(Drop)]
@@ -63,6 +71,8 @@ impl From<Memory> for ShapeFault {
 pub struct Shape {
     asked: Asked,
     trees: Vec<Tree>,
+    /// A count is printed, and no trees.
+    count: Option<u32>,
     known: Known,
     ids: Vec<(Id, JsonText)>,
     /// Places that are to be looked at.
@@ -140,30 +150,42 @@ fn left_of(budget: u64, before: u64, after: u64) -> u64
     budget.saturating_sub(spent)
 }
 
+/// A shape of trees or of a count, of which nothing is looked at yet.
+fn begun(alloc: Global, asked: Asked, trees: Vec<Tree>, count: Option<u32>) -> Result<Shape, Memory>
+    ensures asked { IfOk result (λ shape. asked_of shape ≡ asked_view asked) }
+    ensures trees { IfOk result (λ shape. trees_in shape ≡ map tree_view trees.items) }
+    ensures count { IfOk result (λ shape. shape.count ≡ count) }
+    ensures of { IfOk result (λ shape. (prims : List Primitive) → IsOf prims shape) }
+{
+    let known = Known::new(alloc);
+    let ids = Vec::new(alloc);
+    let mut places = Vec::new(alloc);
+    push_places(&mut places, trees.as_slice())?;
+    places.sort()?;
+    places.dedup();
+    Ok(Shape {
+        asked,
+        trees,
+        count,
+        known,
+        ids,
+        places,
+        objects: Vec::new(alloc),
+        gathered: false,
+    })
+}
+
 impl Shape {
-    /// The page of these rows, of which nothing is looked at yet.
+    /// The page of a query with this body, of which nothing is looked at yet. `Memory`: an allocation was refused.
     #[tactic(auto, using(crate::proofs::InTrees::list_seen))]
-    pub fn start(alloc: Global, asked: Asked, trees: Trees) -> Result<Shape, Memory>
-        ensures asked { IfOk result (λ shape. asked_of shape ≡ asked_view asked) }
-        ensures trees { IfOk result (λ shape. trees_in shape ≡ list_of (trees_view trees)) }
+    pub fn start(alloc: Global, asked: Asked, body: PageBody) -> Result<Shape, Memory>
+        ensures page { IfOk result (λ shape. (prims : List Primitive) → page_of prims shape ≡ body_print prims (asked_view asked) body) }
         ensures of { IfOk result (λ shape. (prims : List Primitive) → IsOf prims shape) }
     {
-        let trees = trees.items;
-        let known = Known::new(alloc);
-        let ids = Vec::new(alloc);
-        let mut places = Vec::new(alloc);
-        push_places(&mut places, trees.as_slice())?;
-        places.sort()?;
-        places.dedup();
-        Ok(Shape {
-            asked,
-            trees,
-            known,
-            ids,
-            places,
-            objects: Vec::new(alloc),
-            gathered: false,
-        })
+        match body {
+            PageBody::Trees(trees) => Ok(begun(alloc, asked, trees.items, None)?),
+            PageBody::Count(count) => Ok(begun(alloc, asked, Vec::new(alloc), Some(count))?),
+        }
     }
 
     /// Whether something is still to be looked at.
@@ -287,11 +309,8 @@ impl Shape {
         }
     }
 
-    /// Goes on with the page over a view, until the budget of steps is reached or the page is printed: what the root of the
-    /// query prints from the trees, by their list below the view. It takes at most 1,024 steps more than the budget.
-    /// `NotUnique`: two answers were found where one is asked; the path is the first such one. After a reply or a fault the
-    /// shape is not to be used again.
-    pub fn resume<L>(
+    /// Goes on with the trees over a view.
+    fn print_trees<L>(
         &mut self,
         alloc: Global,
         view: &View<'_>,
@@ -319,6 +338,55 @@ impl Shape {
             }
         }
         Ok(ShapeTurn::Unfinished)
+    }
+
+    /// Goes on over a view, until the budget of steps is reached or the page is printed: what the root of the query prints
+    /// from the body, by the list of primitives below the view. It takes at most 1,024 steps more than the budget.
+    /// `NotUnique`: two answers were found where one is asked; the path is the first such one. `Memory`: an allocation was
+    /// refused. After a reply or a fault nothing more is to be asked.
+    pub fn resume<L>(
+        &mut self,
+        alloc: Global,
+        view: &View<'_>,
+        budget: u64,
+        steps: &mut Steps<L>,
+    ) -> Result<ShapeTurn, ShapeFault>
+        requires budget { 0 < budget }
+
+        // The view stands for the list of which the shape knows something.
+        requires of { IsOf (prims_of view.now) self.old }
+        ensures reply { IfOk result (λ turn. Tells (page_of (prims_of view.now) self.old) turn) }
+        ensures refused { IfErr result (λ fault. Refuses (page_of (prims_of view.now) self.old) fault) }
+        ensures unfinished { IfOk result (λ turn. IsTrue (is_unfinished turn) → min (steps.old + budget) (2 ^ 64 - 1) ≤ steps.new) }
+        ensures page { IsSamePage self.old self.new }
+        ensures still { IsOf (prims_of view.now) self.new }
+        ensures work { steps.new ≤ steps.old + budget + 1024 }
+        ensures later { steps.old ≤ steps.new }
+    {
+        match self.count {
+            Some(count) => Ok(ShapeTurn::Reply(Json::Int(i64::from(count)))),
+            None => self.print_trees(alloc, view, budget, steps),
+        }
+    }
+}
+
+/// What the root of a query prints from a body, by the list of primitives below a view, all at once. `NotUnique`: two answers
+/// were found where one is asked. `Memory`: an allocation was refused, or 2^64 - 1 steps were taken.
+pub fn print<L>(
+    alloc: Global,
+    asked: Asked,
+    body: PageBody,
+    view: &View<'_>,
+    steps: &mut Steps<L>,
+) -> Result<Json, ShapeFault>
+    ensures printed { IfOk result (λ json. body_print (prims_of view.now) (asked_view asked) body ≡ Ok (json_view json)) }
+    ensures refused { IfErr result (λ fault. Refuses (body_print (prims_of view.now) (asked_view asked) body) fault) }
+    ensures later { steps.old ≤ steps.new }
+{
+    let mut shape = Shape::start(alloc, asked, body)?;
+    match shape.resume(alloc, view, u64::MAX, steps)? {
+        ShapeTurn::Reply(json) => Ok(json),
+        ShapeTurn::Unfinished => Err(ShapeFault::Memory),
     }
 }
 

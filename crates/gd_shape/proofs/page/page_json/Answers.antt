@@ -1,4 +1,4 @@
-use Rattle.std.proofs.Common.{◌≡◌, Vec, Global, map, ap, sym, ◌∙◌}
+use Rattle.std.proofs.Common.{Vec, Global, map, ap, sym, ◌∙◌}
 use Rattle.gd_defs.specs.Reply.{as_list}
 use Rattle.gd_json.specs.View.{items_view}
 use Rattle.gd_json.specs.declared.value.Json.{Json}

@@ -1,4 +1,4 @@
-use Rattle.std.proofs.Common.{◌≡◌, ap, sym, ◌∙◌}
+use Rattle.std.proofs.Common.{ap, sym, ◌∙◌}
 use Rattle.gd_json.specs.View.{view}
 use Rattle.gd_plan.specs.Asked.{members_view}
 use Rattle.gd_shape.specs.Outcome.{seen}

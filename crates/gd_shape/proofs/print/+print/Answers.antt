@@ -1,4 +1,4 @@
-use Rattle.std.proofs.Common.{◌≡◌, Err, Ok, ap, sym, ◌∙◌, map}
+use Rattle.std.proofs.Common.{ap, sym, ◌∙◌, map}
 use Rattle.gd_json.specs.View.{view, member_view}
 use Rattle.gd_plan.specs.Asked.{asking_view, members_view}
 use Rattle.gd_shape.specs.InTrees.{lists_view}

@@ -1,4 +1,4 @@
-use Rattle.std.proofs.Common.{◌≡◌, ℕ, List, get_or, ap, sym, ◌∙◌}
+use Rattle.std.proofs.Common.{ℕ, List, get_or, ap, sym, ◌∙◌}
 use Rattle.gd_prim.specs.History.{prims_of}
 use Rattle.gd_defs.specs.Ids.{id_text}
 use Rattle.gd_shape.proofs.Knowing.{id_of}

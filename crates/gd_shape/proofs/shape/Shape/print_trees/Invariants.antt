@@ -1,7 +1,7 @@
-use Rattle.std.proofs.Common.{◌≡◌, ◌≤◌, ◌<◌, ◌+◌, ◌-◌, ◌*◌, ◌^◌, min, cond}
+use Rattle.std.proofs.Common.{◌≤◌, ◌<◌, ◌+◌, ◌-◌, ◌*◌, ◌^◌, min, cond}
 use Rattle.gd_prim.specs.History.{prims_of}
 use Rattle.gd_shape.specs.Shaping.{IsOf, IsSamePage, is_behind}
-use Rattle.gd_shape.proofs.shape.Shape.resume.Given as goal
+use Rattle.gd_shape.proofs.shape.Shape.print_trees.Given as goal
 
 abbrev pub invariant-loop-left : goal.invariant-loop-left
 invariant-loop-left g l = record {
