@@ -1,15 +1,14 @@
--- What a request of a built form asks, it is.
+-- What a write of the built form asks, it is.
 use Rattle.std.proofs.Common.{◌≡◌, ℕ, List, Bool, true, false, ◌&&◌, Option, Some, None, refl, ap, ◌∙◌, codes}
 use Rattle.std.specs.Prelude.{not, ◌||◌, is_none, bytes_eq, if◌then◌else◌, option_map}
 use Rattle.std.proofs.lemmas.Bool.{and_parts}
 use Rattle.std.proofs.lemmas.Slice.Eq.{bytes_eq-Decides}
 use Rattle.gd_tree.specs.Json.{text, null, boolean, number, list, object}
 use Rattle.gd_defs.specs.Query as query
-use Rattle.gd_defs.specs.Query.{Name, Operator, no_operator, one_of, differs, below, at_most, above, at_least, words, Directives, no_directives, Mode}
+use Rattle.gd_defs.specs.Query.{Name, Operator, no_operator, one_of, differs, below, at_most, above, at_least, words}
 use Rattle.gd_defs.specs.Change as change
 use Rattle.gd_defs.specs.Write.{WriteRequest}
-use Rattle.gd_runs.specs.Request.{ReadRequest, CursorAsk, no_cursor, first_page, page_after, asks_page}
-use Rattle.gd_runs.specs.Built.{plain_name, is_plain, FormAsk, IdAsk, no_id, any_id, this_id, guid_first, id_first, name_first, none_left, members_ask, are_absent, read_ask, guid_member, id_member, name_member, form_request, blank_first, name_alone, create_ask, is_create, write_ask, name_fact, create_request}
+use Rattle.gd_runs.specs.Built.{plain_name, is_plain, blank_first, name_alone, create_ask, is_create, write_ask, name_fact, create_request}
 
 -- ---- names
 
@@ -31,131 +30,9 @@ plain_is word n is =
     let names : (bytes_eq n.spelled word ≡ true) × (bytes_eq n.word word ≡ true) = and_parts _ _ parts.0 in
     name_of_parts n.spelled n.word word n.reversed n.operator ((bytes_eq-Decides n.spelled word).0 names.0) ((bytes_eq-Decides n.word word).0 names.1) parts.1
 
--- ---- the members of a read
-
-guid_is : (ms : query.Members) → ms ≡ guid_member (guid_first ms).0 (guid_first ms).1
-guid_is query.no_members = refl
-guid_is (query.sort_by ws ms) = refl
-guid_is (query.member n query.ask_all ms) = refl
-guid_is (query.member n (query.literal j) ms) = refl
-guid_is (query.member n (query.operand j) ms) = refl
-guid_is (query.member n (query.one d cs) ms) = refl
-guid_is (query.member n (query.many d cs) ms) = refl
-guid_is (query.member n query.ask ms) = by (is_plain (codes "guid") n) refl
-  where
-    by : (b : Bool) → is_plain (codes "guid") n ≡ b → (let first : Bool × query.Members = if b then (true, ms) else (false, query.member n query.ask ms) in query.member n query.ask ms ≡ guid_member first.0 first.1)
-    by true is = ap (λ (m : Name). query.member m query.ask ms) (plain_is (codes "guid") n is)
-    by false is = refl
-
-id_is : (ms : query.Members) → ms ≡ id_member (id_first ms).0 (id_first ms).1
-id_is query.no_members = refl
-id_is (query.sort_by ws ms) = refl
-id_is (query.member n query.ask_all ms) = refl
-id_is (query.member n (query.literal null) ms) = refl
-id_is (query.member n (query.literal (boolean b)) ms) = refl
-id_is (query.member n (query.literal (number m)) ms) = refl
-id_is (query.member n (query.literal (list js)) ms) = refl
-id_is (query.member n (query.literal (object js)) ms) = refl
-id_is (query.member n (query.operand j) ms) = refl
-id_is (query.member n (query.one d cs) ms) = refl
-id_is (query.member n (query.many d cs) ms) = refl
-id_is (query.member n query.ask ms) = by (is_plain (codes "id") n) refl
-  where
-    by : (b : Bool) → is_plain (codes "id") n ≡ b → (let first : IdAsk × query.Members = if b then (any_id, ms) else (no_id, query.member n query.ask ms) in query.member n query.ask ms ≡ id_member first.0 first.1)
-    by true is = ap (λ (m : Name). query.member m query.ask ms) (plain_is (codes "id") n is)
-    by false is = refl
-id_is (query.member n (query.literal (text t)) ms) = by (is_plain (codes "id") n) refl
-  where
-    by : (b : Bool) → is_plain (codes "id") n ≡ b → (let first : IdAsk × query.Members = if b then (this_id t, ms) else (no_id, query.member n (query.literal (text t)) ms) in query.member n (query.literal (text t)) ms ≡ id_member first.0 first.1)
-    by true is = ap (λ (m : Name). query.member m (query.literal (text t)) ms) (plain_is (codes "id") n is)
-    by false is = refl
-
--- the member `name` in front of others, where it is asked
-abbrev named : Option (List ℕ) → query.Members → query.Members
-named None ms = ms
-named (Some t) ms = query.member (plain_name (codes "name")) (query.literal (text t)) ms
-
-name_is : (ms : query.Members) → ms ≡ named (name_first ms).0 (name_first ms).1
-name_is query.no_members = refl
-name_is (query.sort_by ws ms) = refl
-name_is (query.member n query.ask ms) = refl
-name_is (query.member n query.ask_all ms) = refl
-name_is (query.member n (query.literal null) ms) = refl
-name_is (query.member n (query.literal (boolean b)) ms) = refl
-name_is (query.member n (query.literal (number m)) ms) = refl
-name_is (query.member n (query.literal (list js)) ms) = refl
-name_is (query.member n (query.literal (object js)) ms) = refl
-name_is (query.member n (query.operand j) ms) = refl
-name_is (query.member n (query.one d cs) ms) = refl
-name_is (query.member n (query.many d cs) ms) = refl
-name_is (query.member n (query.literal (text t)) ms) = by (is_plain (codes "name") n) refl
-  where
-    by : (b : Bool) → is_plain (codes "name") n ≡ b → (let first : Option (List ℕ) × query.Members = if b then (Some t, ms) else (None, query.member n (query.literal (text t)) ms) in query.member n (query.literal (text t)) ms ≡ named first.0 first.1)
-    by true is = ap (λ (m : Name). query.member m (query.literal (text t)) ms) (plain_is (codes "name") n is)
-    by false is = refl
-
-alone : (name : Option (List ℕ)) (ms : query.Members) → none_left ms ≡ true → named name ms ≡ name_member name
-alone None query.no_members is = refl
-alone (Some t) query.no_members is = refl
-alone name (query.member n f ms) is = cc
-alone name (query.sort_by ws ms) is = cc
-
-members_are : (ms : query.Members) (a : FormAsk) → members_ask ms ≡ Some a → ms ≡ guid_member a.guid (id_member a.id (name_member a.name))
-members_are ms a is = by (none_left name.1) refl is
-  where
-    guid : Bool × query.Members
-    guid = guid_first ms
-
-    id : IdAsk × query.Members
-    id = id_first guid.1
-
-    name : Option (List ℕ) × query.Members
-    name = name_first id.1
-
-    by : (b : Bool) → none_left name.1 ≡ b → (if b then Some (record { guid = guid.0; id = id.0; name = name.0 }) else None) ≡ Some a → ms ≡ guid_member a.guid (id_member a.id (name_member a.name))
-    by false left none = cc
-    by true left some =
-        let same : (let found : FormAsk = record { guid = guid.0; id = id.0; name = name.0 } in found) ≡ a = cc in
-        guid_is ms ∙ ap (guid_member guid.0) (id_is guid.1 ∙ ap (id_member id.0) (name_is id.1 ∙ alone name.0 name.1 left)) ∙ ap (λ (f : FormAsk). guid_member f.guid (id_member f.id (name_member f.name))) same
-
--- ---- a read
-
-without_cursor : (c : CursorAsk) → not (asks_page c) ≡ true → c ≡ no_cursor
-without_cursor no_cursor is = refl
-without_cursor first_page is = cc
-without_cursor (page_after t) is = cc
-
 none_is : {A : Type 0} (o : Option A) → is_none o ≡ true → o ≡ None
 none_is None is = refl
 none_is (Some x) is = cc
-
-not_true : (b : Bool) → not b ≡ true → b ≡ false
-not_true true is = cc
-not_true false is = refl
-
-directives_of_parts : (m : Option Mode) (l : Option ℕ) (c : Bool) → m ≡ None → l ≡ None → c ≡ false → (let d : Directives = record { mode = m; limit = l; count = c } in d) ≡ no_directives
-directives_of_parts m l c mode limit count = rw (mode, limit, count) refl
-
-absent_are : (d : Directives) → are_absent d ≡ true → d ≡ no_directives
-absent_are d is =
-    let parts : ((is_none d.mode && is_none d.limit) ≡ true) × (not d.count ≡ true) = and_parts _ _ is in
-    let both : (is_none d.mode ≡ true) × (is_none d.limit ≡ true) = and_parts _ _ parts.0 in
-    directives_of_parts d.mode d.limit d.count (none_is d.mode both.0) (none_is d.limit both.1) (not_true d.count parts.1)
-
-request_of_parts : (c : CursorAsk) (b : Bool) (d : Directives) (ms cs : query.Members) → c ≡ no_cursor → b ≡ true → d ≡ no_directives → ms ≡ cs
-    → (let r : ReadRequest = record { cursor = c; query = record { listed = b; directives = d; members = ms } } in r) ≡ record { cursor = no_cursor; query = record { listed = true; directives = no_directives; members = cs } }
-request_of_parts c b d ms cs cursor listed directives members = rw (cursor, listed, directives, members) refl
-
--- a read of the built form is the one that asks so
-pub read_asked : (r : ReadRequest) (a : FormAsk) → read_ask r ≡ Some a → r ≡ form_request a
-read_asked r a is = by (not (asks_page r.cursor) && r.query.listed && are_absent r.query.directives) refl is
-  where
-    by : (b : Bool) → (not (asks_page r.cursor) && r.query.listed && are_absent r.query.directives) ≡ b → (if b then members_ask r.query.members else None) ≡ Some a → r ≡ form_request a
-    by false not_so none = cc
-    by true so some =
-        let parts : ((not (asks_page r.cursor) && r.query.listed) ≡ true) × (are_absent r.query.directives ≡ true) = and_parts _ _ so in
-        let both : (not (asks_page r.cursor) ≡ true) × (r.query.listed ≡ true) = and_parts _ _ parts.0 in
-        request_of_parts r.cursor r.query.listed r.query.directives r.query.members _ (without_cursor r.cursor both.0) both.1 (absent_are r.query.directives parts.1) (members_are r.query.members a some)
 
 -- ---- a write
 

@@ -62,4 +62,11 @@ impl Plan {
     {
         &self.asked
     }
+
+    /// What is asked, taken out of the plan. It takes no memory.
+    pub fn into_asked(self) -> Asked
+        ensures { result ≡ self }
+    {
+        self.asked
+    }
 }

@@ -1,10 +1,7 @@
 pub mod Bounds
 pub mod KeyLinks
-pub mod NameLinks
 pub mod Weighed
+pub mod ReadLines
 pub mod Refused
 pub mod Scanned
-pub mod Lookup
-pub mod Meets
-pub mod Form
 pub mod Cases

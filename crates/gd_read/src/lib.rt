@@ -1,14 +1,10 @@
-//! The reply to a read, over a view of a store.
+//! The reply to a read, over a store.
 #![tactic(auto)]
 
 mod answers;
-pub mod ask;
 pub mod asked;
 pub mod fault;
-mod found;
 pub mod keys;
-mod names;
 pub mod page;
-pub mod reply;
-mod rows;
+pub mod read;
 pub mod scan;

@@ -1,42 +1,37 @@
 //! The reply to a read, with ample memory.
-use gd_base::memory::Memory;
 use gd_base::steps::Steps;
-use gd_json::value::JsonText;
-use gd_read::ask::{IdAsk, ReadForm};
-use gd_read::reply::reply;
-use gd_resolve::property::says_name;
+use gd_mql::line::{LINE_LIMIT, line_from};
+use gd_mql::request::{Line, ReadRequest};
+use gd_read::read::reply;
 use gd_store::store::Store;
-use gd_store::view::View;
 use std::alloc::Global;
 
-/// A read for the guid and the id of the objects of a name.
-fn request(alloc: Global, name: &str) -> Result<ReadForm, Memory> {
-    let name = JsonText::from_str(alloc, name)?;
-    Ok(ReadForm {
-        asks_guid: true,
-        id: IdAsk::Asked,
-        name: Some(name),
-    })
-}
-
-/// The reply to the read of a name in line 7.
-fn answer(alloc: Global, view: &View<'_>, name: &str) -> Result<Vec<u8>, Memory> {
-    let mut steps: Steps<()> = Steps::new();
-    if !says_name(view, &mut steps) {
-        return Err(Memory);
+/// The read that a text spells, which is no longer than a line may be.
+fn read_of(alloc: Global, text: &str) -> Option<ReadRequest> {
+    if text.len() > LINE_LIMIT {
+        return None;
     }
-    let request = request(alloc, name)?;
-    reply(alloc, view, 7, &request, &mut steps)
+    match line_from(alloc, text.as_bytes()) {
+        Ok(Line::Read { sid: _, request }) => Some(request),
+        _ => None,
+    }
 }
 
-/// Whether this is the reply over the built-in list.
-fn replies(alloc: Global, name: &str, wanted: &[u8]) -> bool {
-    let Ok(store) = Store::new(alloc) else {
+/// The reply to a read in line 7, over the built-in list.
+fn answer(alloc: Global, request: &ReadRequest) -> Option<Vec<u8>> {
+    let store = Store::new(alloc).ok()?;
+    let mut steps: Steps<()> = Steps::new();
+    reply(alloc, &store, 7, request, &mut steps).ok()
+}
+
+/// Whether this is the reply.
+fn replies(alloc: Global, text: &str, wanted: &[u8]) -> bool {
+    let Some(request) = read_of(alloc, text) else {
         return false;
     };
-    match answer(alloc, &store.view(0), name) {
-        Ok(line) => line.as_slice() == wanted,
-        Err(_) => false,
+    match answer(alloc, &request) {
+        Some(line) => line.as_slice() == wanted,
+        None => false,
     }
 }
 
@@ -45,8 +40,8 @@ fn replies_to_a_read(rt: HostRuntime) {
     assert!(rt;
         replies(
             rt.alloc(),
-            "English",
-            b"{\"code\":\"/api/status/ok\",\"dateline\":0,\"line\":7,\"result\":[{\"guid\":\"#00000000000000010000000000000003\",\"id\":\"/lang/en\",\"name\":\"English\"}]}"
+            "{\"sid\":0,\"read\":{\"cursor\":true,\"query\":[{\"id\":null,\"type\":\"/type/namespace\",\"sort\":\"-guid\",\"limit\":1}]}}",
+            b"{\"code\":\"/api/status/ok\",\"cursor\":\"c1:0:2:2\",\"dateline\":0,\"line\":7,\"result\":[{\"id\":\"/lang\",\"type\":\"/type/namespace\"}]}"
         )
     );
 }

@@ -19,7 +19,7 @@ use Rattle.gd_reply.specs.declared.reply.Reply.{Reply}
 use Rattle.gd_reply.specs.Replies.{reply_text}
 use Rattle.gd_served_laws.specs.Served.{Progress}
 use Rattle.gd_served_laws.specs.Step.{ComesTo, faulty, answered, line_now}
-use Rattle.gd_serving.specs.Here.{AnswersRead, carried_out, not_carried_out, IsWriteRefused}
+use Rattle.gd_serving.specs.Here.{IsWriteRefused}
 use Rattle.gd_serving.proofs.Faults.{read_quiet}
 use Rattle.gd_serving.proofs.Here.{line_built, line_unbuilt, line_refused}
 use Rattle.gd_serving.specs.Judged.{made_of}
@@ -61,19 +61,17 @@ fault_comes may p bytes (fault.BadQuery code path) (Ok reply) gives none prints 
 
 -- a read
 pub read_comes : (may : ℕ → Bool) (p : Progress) (bytes : List ℕ) (sid : ℕ) (asked : request.ReadRequest) (r : Result (Vec ℕ Global) Memory) → line_from bytes ≡ Ok (request.read sid asked)
-    → IfOk r (λ reply. AnswersRead p asked reply.items) → IfOk r (λ reply. ComesTo may p bytes reply.items p)
-read_comes may p bytes sid asked (Err e) is answers = tt
-read_comes may p bytes sid asked (Ok reply) is (carried_out built prints) = answered sid asked (line_built p bytes (request.read sid asked) is (built sid)) prints refl
-read_comes may p bytes sid asked (Ok reply) is (not_carried_out refused prints) = faulty not_built (line_unbuilt p bytes (request.read sid asked) is (refused sid)) prints refl
+    → IfOk r (λ reply. reply.items ≡ reply_of p.batches (length p.batches) p.lines asked) → IfOk r (λ reply. ComesTo may p bytes reply.items p)
+read_comes may p bytes sid asked (Err e) is prints = tt
+read_comes may p bytes sid asked (Ok reply) is prints = answered sid asked (line_built p bytes (request.read sid asked) is refl) prints refl
 
 -- a reply to a read tells no failure of the disk
-pub read_tells_none : (p : Progress) (asked : request.ReadRequest) (P : Type 0) (r : Result (Vec ℕ Global) Memory) → IfOk r (λ reply. AnswersRead p asked reply.items) → IfOk r (λ reply. tells_fault p.lines reply.items ≡ true → P)
-read_tells_none p asked P (Err e) answers = tt
-read_tells_none p asked P (Ok reply) (carried_out built prints) = λ tells.
+pub read_tells_none : (p : Progress) (asked : request.ReadRequest) (P : Type 0) (r : Result (Vec ℕ Global) Memory) → IfOk r (λ reply. reply.items ≡ reply_of p.batches (length p.batches) p.lines asked)
+    → IfOk r (λ reply. tells_fault p.lines reply.items ≡ true → P)
+read_tells_none p asked P (Err e) prints = tt
+read_tells_none p asked P (Ok reply) prints = λ tells.
     let quiet : tells_fault p.lines (reply_of p.batches (length p.batches) p.lines asked) ≡ false = read_quiet p.lines p.batches (length p.batches) p.lines asked in
     let same : tells_fault p.lines reply.items ≡ tells_fault p.lines (reply_of p.batches (length p.batches) p.lines asked) = ap (tells_fault p.lines) prints in cc
-read_tells_none p asked P (Ok reply) (not_carried_out refused prints) = λ tells.
-    let same : tells_fault p.lines reply.items ≡ false = ap (tells_fault p.lines) prints in cc
 
 -- a write that is not carried out
 pub unbuilt_comes : (may : ℕ → Bool) (p : Progress) (bytes : List ℕ) (sid : ℕ) (w : WriteRequest) (r : Result (Vec ℕ Global) Memory) → line_from bytes ≡ Ok (request.write sid w) → IsWriteRefused p w

@@ -4,17 +4,14 @@ use Rattle.gd_grammar.specs.Chain.{◌>>=◌}
 use Rattle.gd_prim.specs.declared.Batch.{Batch}
 use Rattle.gd_prim.specs.History.{prims_of, prims_at}
 use Rattle.gd_defs.specs.Write.{WriteRequest}
-use Rattle.gd_runs.specs.Request.{Line, ReadRequest, read, write, reply_of}
+use Rattle.gd_runs.specs.Request.{Line, write}
 use Rattle.gd_runs.specs.Input.{InputFault, if_built, line_from, not_built}
-use Rattle.gd_runs.specs.Built.{FormAsk, says_name, is_built, read_ask, write_ask, form_request, create_request}
-use Rattle.gd_list_laws.proofs.Built.{read_asked, write_asked}
-use Rattle.gd_read.specs.declared.ask.ReadForm.{ReadForm}
-use Rattle.gd_read.specs.Asks.{ask_view}
+use Rattle.gd_runs.specs.Built.{says_name, is_built, write_ask, create_request}
+use Rattle.gd_list_laws.proofs.Built.{write_asked}
 use Rattle.gd_change.specs.declared.form.CreateForm.{CreateForm}
 use Rattle.gd_served_laws.specs.Served.{Progress}
 use Rattle.gd_served_laws.specs.Step.{line_now, AsksWrite}
-use Rattle.gd_serving.specs.Here.{IsReadRefused, IsWriteRefused, IsReadHere, IsWriteHere, AnswersRead, carried_out}
-use Rattle.gd_serving.proofs.Says.{says_at}
+use Rattle.gd_serving.specs.Here.{IsWriteRefused, IsWriteHere}
 use Rattle.gd_serving.proofs.Whole.{prims_at-all}
 
 -- where a form was found, this holds, as it does anyhow
@@ -29,28 +26,6 @@ and_false false = refl
 -- the list as it is says nothing of the property `name`
 unsaid_at : (bs : List Batch) → says_name (prims_of bs) ≡ false → says_name (prims_at bs (length bs)) ≡ false
 unsaid_at bs says = ap says_name (prims_at-all bs) ∙ says
-
--- ---- reads
-
-built_read : (p : Progress) (r : ReadRequest) (ask : FormAsk) → says_name (prims_of p.batches) ≡ true → read_ask r ≡ Some ask → (s : ℕ) → is_built (prims_at p.batches (length p.batches)) (read s r) ≡ true
-built_read p r ask says is s = let here : says_name (prims_at p.batches (length p.batches)) ≡ true = says_at p.batches says in rw (here, is) refl
-
-unbuilt_read : (p : Progress) (r : ReadRequest) → read_ask r ≡ None → IsReadRefused p r
-unbuilt_read p r is s = rw is (and_false (says_name (prims_at p.batches (length p.batches))))
-
-pub unsaid_read : (p : Progress) (r : ReadRequest) → says_name (prims_of p.batches) ≡ false → IsReadRefused p r
-unsaid_read p r says s = let here : says_name (prims_at p.batches (length p.batches)) ≡ false = unsaid_at p.batches says in rw here refl
-
--- what was found of a read is what it asks here
-pub read_here : (p : Progress) (r : ReadRequest) (form : Option ReadForm) → option_map ask_view form ≡ read_ask r → IsReadHere p r form
-read_here p r None is = unbuilt_read p r (sym is)
-read_here p r (Some f) is = sym is
-
--- a read of the built form is answered
-pub read_answered : (p : Progress) (r : ReadRequest) (form : ReadForm) (reply : List ℕ) → says_name (prims_of p.batches) ≡ true → IsReadHere p r (Some form)
-    → reply ≡ reply_of p.batches (length p.batches) p.lines (form_request (ask_view form)) → AnswersRead p r reply
-read_answered p r form reply says is prints =
-    carried_out (built_read p r (ask_view form) says is) (prints ∙ ap (reply_of p.batches (length p.batches) p.lines) (sym (read_asked r (ask_view form) is)))
 
 -- ---- writes
 

@@ -4,4 +4,3 @@ pub mod Kept
 pub mod Replies
 pub mod Judged
 pub mod Here
-pub mod Shapes

@@ -1,5 +1,4 @@
 //! A run that is served line by line, on one thread.
 #![tactic(auto)]
 
-mod built;
 pub mod serving;

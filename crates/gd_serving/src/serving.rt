@@ -16,11 +16,10 @@ ghost use Rattle.gd_log.specs.Stored.{MayAppend};
 ghost use Rattle.gd_runs.specs.Request.{reply_of, change_refusal};
 ghost use Rattle.gd_runs.specs.Input.{input_fault_line, line_too_long, not_built};
 ghost use Rattle.gd_runs.specs.Explained.{MayBe, tells_fault};
-ghost use Rattle.gd_runs.specs.Built.{says_name as says_name_of, form_request, create_request};
+ghost use Rattle.gd_runs.specs.Built.{says_name as says_name_of, create_request};
 ghost use Rattle.gd_mql.specs.Line.{fault_view};
 ghost use Rattle.gd_mql.specs.Requests.{read_view, write_view};
-ghost use Rattle.gd_read.specs.Asks.{ask_view};
-ghost use Rattle.gd_serving.specs.Here.{IsReadHere, IsWriteHere, AnswersRead, SpellsWrite};
+ghost use Rattle.gd_serving.specs.Here.{IsWriteHere, SpellsWrite};
 ghost use Rattle.gd_change.specs.Fault.{GivesChange, fault_of, IsSmall};
 ghost use Rattle.gd_input.specs.Line.{IsKept, IsShort};
 ghost use Rattle.gd_served_laws.specs.Served.{Progress, GoesOn, Grows, IsServed};
@@ -31,7 +30,6 @@ ghost use Rattle.gd_serving.specs.Replies.{Replies};
 ghost use Rattle.gd_serving.specs.Judged.{made_of, IsJudged, IsStorable, ComesAs};
 ghost use Rattle.gd_reply.specs.Replies.{reply_text, failure_line};
 
-use crate::built::read_form;
 use gd_base::memory::Memory;
 use gd_base::steps::Steps;
 use gd_change::fault::ChangeFault;
@@ -48,8 +46,7 @@ use gd_mql::line::line_from;
 use gd_mql::request::{Line, ReadRequest, WriteRequest};
 use gd_outside::clock::Clock;
 use gd_prim::{Batch, What};
-use gd_read::ask::ReadForm;
-use gd_read::reply::reply as reply_to;
+use gd_read::read::reply as reply_to;
 use gd_reply::lines::{err_line, err_line_plain, ok_line};
 use gd_reply::refusal::Refusal;
 use gd_reply::reply::{Failure, Reply};
@@ -277,18 +274,6 @@ impl<D: Disk> Serving<D> {
         }
     }
 
-    /// What a read asks, where it is carried out over the store as it is.
-    fn read_here(&self, request: &ReadRequest) -> Result<Option<ReadForm>, Memory>
-        ensures form { IfOk result (λ form. IsReadHere self.now.progress (read_view request.now) form) }
-        ensures says { IfOk result (λ form. IsSome form → says_name_of (prims_of self.now.progress.batches) ≡ true) }
-    {
-        if self.says_name {
-            read_form(request)
-        } else {
-            Ok(None)
-        }
-    }
-
     /// What a write asks, where it is carried out over the store as it is.
     fn write_here(&self, request: &WriteRequest) -> Result<Option<CreateForm>, Memory>
         ensures form { IfOk result (λ form. IsWriteHere self.now.progress (write_view request.now) form) }
@@ -311,7 +296,7 @@ impl<D: Disk> Serving<D> {
         }
     }
 
-    /// The reply to a line whose form is not built.
+    /// The reply to a write whose form is not built.
     fn unbuilt_reply(&self, alloc: Global) -> Result<Vec<u8>, Memory>
         requires { self.now.progress.lines < 2 ^ 63 }
         ensures { IfOk result (λ reply. reply.items ≡ input_fault_line self.now.progress.lines not_built) }
@@ -348,28 +333,14 @@ impl<D: Disk> Serving<D> {
         }
     }
 
-    /// The reply to a read.
+    /// The reply to a read of the store as it is.
     fn read(&self, alloc: Global, request: &ReadRequest) -> Result<Vec<u8>, Memory>
-        requires lines { self.now.progress.lines < 2 ^ 63 }
-        ensures { IfOk result (λ reply. AnswersRead self.now.progress (read_view request.now) reply.items) }
-    {
-        match self.read_here(request)? {
-            Some(form) => self.read_as(alloc, &form),
-            None => self.unbuilt_reply(alloc),
-        }
-    }
-
-    /// The reply to a read of the built form.
-    fn read_as(&self, alloc: Global, form: &ReadForm) -> Result<Vec<u8>, Memory>
-        requires lines { self.now.progress.lines < 2 ^ 63 }
-        requires says { says_name_of (prims_of self.now.progress.batches) ≡ true }
+        requires { self.now.progress.lines < 2 ^ 63 }
         ensures { IfOk result (λ reply. reply.items ≡ reply_of self.now.progress.batches
-            (length self.now.progress.batches) self.now.progress.lines (form_request (ask_view form.now))) }
+            (length self.now.progress.batches) self.now.progress.lines (read_view request.now)) }
     {
         let mut steps: Steps<Run> = Steps::new();
-        let store = self.store();
-        let view = store.view(store.requests());
-        reply_to(alloc, &view, self.lines, form, &mut steps)
+        reply_to(alloc, self.store(), self.lines, request, &mut steps)
     }
 
     /// The reply to a write that is refused by what it asks.
