@@ -1,5 +1,5 @@
 -- Steps that are counted where something is asked for that is there.
-use Rattle.std.proofs.Common.{◌≡◌, ◌≤◌, ◌<◌, ℕ, List, Option, Some, None, IfSome, subst, arith}
+use Rattle.std.proofs.Common.{◌≡◌, ◌≤◌, ℕ, List, Option, Some, None, IfSome, subst, arith}
 use Rattle.gd_base.specs.Counts.{Rose}
 
 -- they stay counted
