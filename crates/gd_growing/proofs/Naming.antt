@@ -77,6 +77,9 @@ path_step prims (suc n) o k text other some link =
     ∙ ap (λ l. l >>= λ k. text_of (value_at prims k) >>= λ key. end_at (λ p. p.right) prims k >>= λ namespace. path_up prims n namespace (codes "/" ++ key ++ text)) link
     ∙ ap (λ m. text_of (value_at prims k) >>= λ key. end_at (λ p. p.right) prims k >>= λ namespace. path_up prims m namespace (codes "/" ++ key ++ text)) (let same : n ≡ suc n - 1 = omega arith in same)
 
+same_pair : (a b : List ℕ × ℕ) → Some a ≡ Some b → a ≡ b
+same_pair a b is = cc
+
 -- where the link that names the object has no key, there is none
 pub path_unkeyed : (prims : List Primitive) (levels o k : ℕ) (text : List ℕ) → nat_eq o root_place ≡ false → levels ≢ 0 → naming_link prims o ≡ Some k → key_from prims k ≡ None
     → path_up prims levels o text ≡ None
@@ -97,9 +100,8 @@ path_on prims levels o k text key namespace other some link named = path_step pr
     by None n is = absurd (cc)
     by (Some t) None is = absurd (cc)
     by (Some t) (Some n) is =
-        let key_is : t ≡ key = cc in
-        let namespace_is : n ≡ namespace = cc in
-        ap (λ m. path_up prims (levels - 1) m (codes "/" ++ t ++ text)) namespace_is ∙ ap (λ w. path_up prims (levels - 1) namespace (codes "/" ++ w ++ text)) key_is
+        let same = same_pair (t, n) (key, namespace) is in
+        ap (λ (p : List ℕ × ℕ). path_up prims (levels - 1) p.1 (codes "/" ++ p.0 ++ text)) same
 
 -- the id of an object that has a path, and of one that has none
 id_text_other : (prims : List Primitive) (o : ℕ) → nat_eq o root_place ≡ false → id_text prims o ≡ unwrap_or (path_up prims 16 o []) (guid o)
