@@ -5,4 +5,5 @@ pub mod answers;
 pub mod growing;
 pub mod keys;
 mod made;
+pub mod target;
 pub mod up;

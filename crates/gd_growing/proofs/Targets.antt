@@ -1,0 +1,59 @@
+-- What the answers of a property are, and when a fact holds.
+use Rattle.std.proofs.Common.{◌≡◌, ℕ, Bool, true, false, List, Option, Some, None, refl, ap, ◌∙◌}
+use Rattle.std.specs.List.{list_any}
+use Rattle.gd_base.specs.declared.datum.Datum.TheVariants as datum
+use Rattle.gd_base.specs.Order.{datum_eq}
+use Rattle.gd_prim.specs.declared.Primitive.{Primitive}
+use Rattle.gd_prim.specs.Live.{value_at, object_datum}
+use Rattle.gd_defs.specs.Plan as plan
+use Rattle.gd_defs.specs.Property.{Property, Expects, a_value, a_key, an_object_of_system, a_plain_object, expects_of, holds_values, answers, answer_datum, far_end}
+use Rattle.gd_defs.specs.Write.Parts.{Target, is_target, has_fact}
+use Rattle.gd_list_laws.proofs.Places.{list_any-filter}
+
+value_forward : (prims : List Primitive) (stored : ℕ) (expected : Option ℕ) (unique : Bool) (k : ℕ) (e : Expects) → expects_of expected ≡ e → holds_values e ≡ true
+    → answer_datum prims (record { stored = stored; reversed = false; expected = expected; unique = unique }) k ≡ value_at prims k
+value_forward prims stored expected unique k (a_value v) is holds = rw is refl
+value_forward prims stored expected unique k a_key is holds = rw is refl
+value_forward prims stored expected unique k an_object_of_system is holds = absurd (cc)
+value_forward prims stored expected unique k a_plain_object is holds = absurd (cc)
+
+value_given : (prims : List Primitive) (stored : ℕ) (reversed : Bool) (expected : Option ℕ) (unique : Bool) (k : ℕ)
+    → holds_values (plan.answers_of (record { stored = stored; reversed = reversed; expected = expected; unique = unique })) ≡ true
+    → answer_datum prims (record { stored = stored; reversed = reversed; expected = expected; unique = unique }) k ≡ value_at prims k
+value_given prims stored true expected unique k holds = absurd (cc)
+value_given prims stored false expected unique k holds = value_forward prims stored expected unique k (expects_of expected) refl holds
+
+-- values and keys are the value of the link
+pub gives_value : (prims : List Primitive) (p : Property) (k : ℕ) → holds_values (plan.answers_of p) ≡ true → answer_datum prims p k ≡ value_at prims k
+gives_value prims p k holds = value_given prims p.stored p.reversed p.expected p.unique k holds
+
+object_forward : (prims : List Primitive) (stored : ℕ) (expected : Option ℕ) (unique : Bool) (k : ℕ) (e : Expects) → expects_of expected ≡ e → holds_values e ≡ false
+    → answer_datum prims (record { stored = stored; reversed = false; expected = expected; unique = unique }) k
+    ≡ object_datum (far_end prims (record { stored = stored; reversed = false; expected = expected; unique = unique }) k)
+object_forward prims stored expected unique k (a_value v) is holds = absurd (cc)
+object_forward prims stored expected unique k a_key is holds = absurd (cc)
+object_forward prims stored expected unique k an_object_of_system is holds = rw is refl
+object_forward prims stored expected unique k a_plain_object is holds = rw is refl
+
+object_given : (prims : List Primitive) (stored : ℕ) (reversed : Bool) (expected : Option ℕ) (unique : Bool) (k : ℕ)
+    → holds_values (plan.answers_of (record { stored = stored; reversed = reversed; expected = expected; unique = unique })) ≡ false
+    → answer_datum prims (record { stored = stored; reversed = reversed; expected = expected; unique = unique }) k
+    ≡ object_datum (far_end prims (record { stored = stored; reversed = reversed; expected = expected; unique = unique }) k)
+object_given prims stored true expected unique k holds = refl
+object_given prims stored false expected unique k holds = object_forward prims stored expected unique k (expects_of expected) refl holds
+
+-- other answers are the object at its other end
+pub gives_object : (prims : List Primitive) (p : Property) (k : ℕ) → holds_values (plan.answers_of p) ≡ false → answer_datum prims p k ≡ object_datum (far_end prims p k)
+gives_object prims p k holds = object_given prims p.stored p.reversed p.expected p.unique k holds
+
+no_text : (o : Option ℕ) (t : List ℕ) → datum_eq (object_datum o) (datum.Text t) ≡ false
+no_text None t = refl
+no_text (Some x) t = refl
+
+-- which is no text
+pub gives_no_text : (prims : List Primitive) (p : Property) (k : ℕ) (t : List ℕ) → holds_values (plan.answers_of p) ≡ false → datum_eq (answer_datum prims p k) (datum.Text t) ≡ false
+gives_no_text prims p k t holds = ap (λ d. datum_eq d (datum.Text t)) (gives_object prims p k holds) ∙ no_text (far_end prims p k) t
+
+-- a fact holds where some answer leads to the target
+pub some_holds : (prims : List Primitive) (p : Property) (o : ℕ) (t : Target) → list_any (is_target prims p t) (answers prims p o) ≡ has_fact prims p o t
+some_holds prims p o t = list_any-filter (is_target prims p t) (answers prims p o)
