@@ -3,7 +3,7 @@ use Rattle.std.specs.Prelude.{ℕ, List, [], ◌∷◌, Bool, ◌&&◌, Option, 
 use Rattle.std.specs.List.{enumerate_from}
 use Rattle.gd_prim.specs.declared.Primitive.{Primitive}
 use Rattle.gd_prim.specs.Live.{refers, is_live, passes_at, end_at}
-use Rattle.gd_defs.specs.Property.{Property, expects_of, holds_expected, leads_to_object}
+use Rattle.gd_defs.specs.Property.{Property, expects_of, holds_expected, leads_to_object, near_of}
 
 -- the first place whose primitive passes the test, where the list begins at this place
 abbrev pub first_place : (Primitive → Bool) → ℕ → List Primitive → Option ℕ
@@ -25,3 +25,7 @@ names prims k = is_live prims k && is_some (end_at (λ p. p.right) prims k)
 -- the place alone, where the test passes it
 abbrev pub kept : (ℕ → Bool) → ℕ → List ℕ
 kept test k = if test k then k ∷ [] else []
+
+-- marked live, and a link of the property with the object at the end by which it is asked
+abbrev pub is_link : Property → ℕ → Primitive → Bool
+is_link p o q = q.live && refers q.typ p.stored && refers (near_of p q) o

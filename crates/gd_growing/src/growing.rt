@@ -61,6 +61,21 @@ impl<'a> Growing<'a> {
         Ok(())
     }
 
+    /// Moves these primitives behind the others, or leaves all as it was. `Memory`: an allocation was refused, or there
+    /// would be more than 4,294,967,295 primitives.
+    pub fn append(&mut self, more: Vec<Primitive>) -> Result<(), Memory>
+        ensures ok { OnOk result (so_far self.new ≡ so_far self.old ++ more.items) }
+        ensures below { self.new.batches ≡ self.old.batches }
+        ensures err { OnErr result (self.new ≡ self.old) }
+    {
+        if more.len() > (u32::MAX - self.end().place()) as usize {
+            return Err(Memory);
+        }
+        let mut more = more;
+        self.made.append(&mut more)?;
+        Ok(())
+    }
+
     /// The place behind all primitives.
     pub fn end(&self) -> Id
         ensures { result ≡ length (so_far self.now) }

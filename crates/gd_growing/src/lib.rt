@@ -2,8 +2,11 @@
 #![tactic(auto)]
 
 pub mod answers;
+pub mod fault;
 pub mod growing;
 pub mod keys;
+pub mod links;
 mod made;
+pub mod stamp;
 pub mod target;
 pub mod up;
