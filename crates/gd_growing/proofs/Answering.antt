@@ -1,5 +1,5 @@
 -- The answers of a property on an object, below a dateline and behind it.
-use Rattle.std.proofs.Common.{◌≡◌, ℕ, zero, suc, ◌+◌, ◌-◌, ◌<◌, ◌≤◌, Bool, true, false, cond, ◌&&◌, List, [], ◌∷◌, ◌++◌, length, drop, Option, Some, None, refl, sym, ap, ◌∙◌, arith, length-append, append_assoc}
+use Rattle.std.proofs.Common.{◌≡◌, ℕ, zero, suc, ◌+◌, ◌-◌, ◌<◌, Bool, true, false, cond, ◌&&◌, List, [], ◌∷◌, ◌++◌, length, drop, Option, Some, None, refl, sym, ap, ◌∙◌, arith, length-append, append_assoc}
 use Rattle.std.specs.Prelude.{slice_get, filter, if◌then◌else◌}
 use Rattle.std.specs.Option.{option_map_or}
 use Rattle.std.specs.List.{range_with_len}
@@ -114,6 +114,6 @@ parts base made p o =
     ∙ ap (filter test) (range_split 0 (length base) (length made) ∙ ap (λ n. range_with_len 0 (length base) ++ range_with_len n (length made)) none)
     ∙ filter-append test (range_with_len 0 (length base)) (range_with_len (length base) (length made))
     ∙ ap (λ xs. xs ++ filter test (range_with_len (length base) (length made)))
-        (sym (filter-same _ test (range_with_len 0 (length base)) (asked_by prims p o))
-        ∙ sym (filter-filter (stands_by prims p o) test (range_with_len 0 (length base)))
-        ∙ ap (filter test) (sym (by_end base made p o)))
+    (sym (filter-same _ test (range_with_len 0 (length base)) (asked_by prims p o))
+    ∙ sym (filter-filter (stands_by prims p o) test (range_with_len 0 (length base)))
+    ∙ ap (filter test) (sym (by_end base made p o)))

@@ -2,4 +2,4 @@ pub mod Answering
 pub mod Behind
 pub mod Naming
 pub mod Targets
-pub mod Linking
+pub mod Updating

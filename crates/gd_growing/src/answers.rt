@@ -19,8 +19,8 @@ use gd_base::steps::Steps;
 use gd_datum::value::Kind;
 use gd_plan::constraint::asked_end;
 use gd_plan::expects::{Expects, expects_of};
-use gd_prim::live::refers;
 use gd_prim::Primitive;
+use gd_prim::live::refers;
 use gd_resolve::property::Property;
 use std::alloc::Global;
 

@@ -19,13 +19,7 @@ fn last_link(growing: &Growing<'_>, namespace: Id, key: &Text) -> Option<Id>
 {
     let mut steps: Steps<()> = Steps::new();
     let below = growing.below().by_key(namespace, key, &mut steps);
-    last_key_link(
-        growing.made(),
-        growing.first_made(),
-        namespace,
-        key,
-        below,
-    )
+    last_key_link(growing.made(), growing.first_made(), namespace, key, below)
 }
 
 /// The left end of a link, if the link is live and an object stands there.

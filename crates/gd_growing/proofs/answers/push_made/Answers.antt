@@ -1,4 +1,4 @@
-use Rattle.std.proofs.Common.{◌≡◌, ◌<◌, ◌++◌, ℕ, length, filter, subst}
+use Rattle.std.proofs.Common.{◌<◌, ◌++◌, ℕ, length, filter, subst}
 use Rattle.std.specs.List.{range_with_len}
 use Rattle.gd_prim.specs.History.{prims_of}
 use Rattle.gd_growing.specs.State.{so_far}

@@ -16,6 +16,6 @@ returns t c =
     let namespace = c.in-Some-key_of.namespace in
     let written = c.in_ok-path.ensures ∙ ap (λ text. codes "/" ++ key ++ text) c.as_str.ensures.value in
     let same = ap (defined.path_up prims (c.args.levels - 1) namespace) written
-        ∙ sym (path_on prims c.args.levels c.args.object c.in-Some.link (string_bytes c.args.text) key namespace (cc) c.if-levels-eq0.false (sym c.in-Some.ensures) (sym c.in-Some-key_of.ensures)) in
+    ∙ sym (path_on prims c.args.levels c.args.object c.in-Some.link (string_bytes c.args.text) key namespace (cc) c.if-levels-eq0.false (sym c.in-Some.ensures) (sym c.in-Some-key_of.ensures)) in
     let above : IfOk c.path_up.result (λ path. option_map {T = String Global} {U = List ℕ} (λ p. string_bytes p) path ≡ defined.path_up prims (c.args.levels - 1) namespace (string_bytes c.in_ok-path.path)) = search rules in
     IfOk-weaker c.path_up.result _ _ (λ path is. is ∙ same) above

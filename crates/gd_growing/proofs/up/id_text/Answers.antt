@@ -1,4 +1,4 @@
-use Rattle.std.proofs.Common.{◌≡◌, ℕ, List, Some, None, option_map, string_bytes, sym, ap, ◌∙◌, subst, String, Global}
+use Rattle.std.proofs.Common.{◌≡◌, ℕ, List, option_map, string_bytes, sym, ap, ◌∙◌, subst, String, Global}
 use Rattle.std.proofs.lemmas.Result.{IfOk-weaker}
 use Rattle.gd_defs.specs.Ids as defined
 use Rattle.gd_growing.specs.State.{so_far}

@@ -1,4 +1,4 @@
-use Rattle.std.proofs.Common.{◌≡◌, ◌+◌, ◌≤◌, drop, take, length}
+use Rattle.std.proofs.Common.{◌≡◌, ◌+◌, drop, take, length}
 use Rattle.std.specs.Prelude.{find}
 use Rattle.gd_prim.specs.History.{prims_of}
 use Rattle.gd_prim.specs.Keys.{is_key_of}
