@@ -14,10 +14,10 @@ pub enum LinkFault {
     #[error("the property has another answer already")]
     NotUnique,
     /// The key leads to another object.
-    #[error("the key {:?} leads to the object at place {}", .key.as_str(), .holder.place())]
+    #[error("the key leads to the object at place {}", .holder.place())]
     KeyTaken { key: Text, holder: Id },
     /// The link that is to give way has a successor already.
-    #[error("the link at place {} has the successor at place {}", .previous.place(), .successor.place())]
+    #[error("the link has the successor at place {}", .successor.place())]
     StaleVersion { previous: Id, successor: Id },
     /// The property is not unique, or the target is a key: no such link is updated.
     #[error("a link of this kind is not updated")]
