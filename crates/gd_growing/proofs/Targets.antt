@@ -1,14 +1,19 @@
 -- What the answers of a property are, and when a fact holds.
-use Rattle.std.proofs.Common.{◌≡◌, ℕ, Bool, true, false, List, Option, Some, None, refl, ap, ◌∙◌}
-use Rattle.std.specs.List.{list_any}
+use Rattle.std.proofs.Common.{◌≡◌, ℕ, ◌+◌, ◌-◌, ◌<◌, Bool, true, false, ◌&&◌, List, [], ◌∷◌, ◌++◌, length, drop, Option, Some, None, refl, sym, ap, ◌∙◌}
+use Rattle.std.specs.Prelude.{slice_get, filter, if◌then◌else◌, ◌||◌}
+use Rattle.std.specs.List.{list_any, range_with_len}
+use Rattle.std.proofs.lemmas.List.Folds.{list_any-append}
 use Rattle.gd_base.specs.declared.datum.Datum.TheVariants as datum
 use Rattle.gd_base.specs.Order.{datum_eq}
 use Rattle.gd_prim.specs.declared.Primitive.{Primitive}
+use Rattle.gd_prim.specs.End.{places_with}
 use Rattle.gd_prim.specs.Live.{value_at, object_datum}
 use Rattle.gd_defs.specs.Plan as plan
 use Rattle.gd_defs.specs.Property.{Property, Expects, a_value, a_key, an_object_of_system, a_plain_object, expects_of, holds_values, answers, answer_datum, far_end}
 use Rattle.gd_defs.specs.Write.Parts.{Target, is_target, has_fact}
 use Rattle.gd_list_laws.proofs.Places.{list_any-filter}
+use Rattle.gd_growing.specs.Scan.{is_answer_at, kept}
+use Rattle.gd_growing.proofs.Answering.{left_on, range_on, parts}
 
 value_forward : (prims : List Primitive) (stored : ℕ) (expected : Option ℕ) (unique : Bool) (k : ℕ) (e : Expects) → expects_of expected ≡ e → holds_values e ≡ true
     → answer_datum prims (record { stored = stored; reversed = false; expected = expected; unique = unique }) k ≡ value_at prims k
@@ -54,6 +59,37 @@ no_text (Some x) t = refl
 pub gives_no_text : (prims : List Primitive) (p : Property) (k : ℕ) (t : List ℕ) → holds_values (plan.answers_of p) ≡ false → datum_eq (answer_datum prims p k) (datum.Text t) ≡ false
 gives_no_text prims p k t holds = ap (λ d. datum_eq d (datum.Text t)) (gives_object prims p k holds) ∙ no_text (far_end prims p k) t
 
+-- ---- facts
+
 -- a fact holds where some answer leads to the target
-pub some_holds : (prims : List Primitive) (p : Property) (o : ℕ) (t : Target) → list_any (is_target prims p t) (answers prims p o) ≡ has_fact prims p o t
+some_holds : (prims : List Primitive) (p : Property) (o : ℕ) (t : Target) → list_any (is_target prims p t) (answers prims p o) ≡ has_fact prims p o t
 some_holds prims p o t = list_any-filter (is_target prims p t) (answers prims p o)
+
+-- below a front, or behind it
+pub holds_in_parts : (base made : List Primitive) (p : Property) (o : ℕ) (t : Target)
+    → has_fact (base ++ made) p o t
+    ≡ (list_any (is_target (base ++ made) p t) (filter (is_answer_at (base ++ made) p o) (places_with (plan.asked_end p) o base))
+    || list_any (is_target (base ++ made) p t) (filter (is_answer_at (base ++ made) p o) (range_with_len (length base) (length made))))
+holds_in_parts base made p o t =
+    sym (some_holds (base ++ made) p o t)
+    ∙ ap (list_any (is_target (base ++ made) p t)) (parts base made p o)
+    ∙ list_any-append (is_target (base ++ made) p t) (filter (is_answer_at (base ++ made) p o) (places_with (plan.asked_end p) o base)) (filter (is_answer_at (base ++ made) p o) (range_with_len (length base) (length made)))
+
+any_kept : (test leads : ℕ → Bool) (x : ℕ) (xs : List ℕ) → list_any leads (kept test x ++ xs) ≡ ((test x && leads x) || list_any leads xs)
+any_kept test leads x xs = by (test x)
+  where
+    by : (b : Bool) → list_any leads ((if b then x ∷ [] else []) ++ xs) ≡ ((b && leads x) || list_any leads xs)
+    by true = refl
+    by false = refl
+
+-- the first of what is left decides with what stands behind it
+pub left_decides : (test leads : ℕ → Bool) (xs : List ℕ) (k x : ℕ) (b : Bool) → slice_get xs k ≡ Some x → b ≡ (test x && leads x)
+    → list_any leads (filter test (drop k xs)) ≡ (b || list_any leads (filter test (drop (k + 1) xs)))
+left_decides test leads xs k x b at is =
+    ap (list_any leads) (left_on test xs k x at) ∙ any_kept test leads x (filter test (drop (k + 1) xs)) ∙ ap (λ c. c || list_any leads (filter test (drop (k + 1) xs))) (sym is)
+
+pub range_decides : (test leads : ℕ → Bool) (k end : ℕ) (b : Bool) → k < end → b ≡ (test k && leads k)
+    → list_any leads (filter test (range_with_len k (end - k))) ≡ (b || list_any leads (filter test (range_with_len (k + 1) (end - (k + 1)))))
+range_decides test leads k end b below is =
+    ap (list_any leads) (range_on test k end below) ∙ any_kept test leads k (filter test (range_with_len (k + 1) (end - (k + 1))))
+    ∙ ap (λ c. c || list_any leads (filter test (range_with_len (k + 1) (end - (k + 1))))) (sym is)

@@ -75,7 +75,12 @@ fn is_answer(growing: &Growing<'_>, property: &Property, object: Id, prim: &Prim
 }
 
 /// Whether an answer of the property on the object stands at the place.
-fn is_answer_at(growing: &Growing<'_>, property: &Property, object: Id, place: Id) -> bool
+pub(crate) fn is_answer_at(
+    growing: &Growing<'_>,
+    property: &Property,
+    object: Id,
+    place: Id,
+) -> bool
     ensures { result ≡ is_answer_at (so_far growing.now) property.now object place }
 {
     match growing.primitive(place) {

@@ -15,7 +15,7 @@ use crate::fault::LinkFault;
 use crate::growing::Growing;
 use crate::keys::key_leads;
 use crate::stamp::{Stamp, deletion, new_link, new_object};
-use crate::target::{Target, equal_links, is_target, some_lead};
+use crate::target::{Target, equal_links, has_fact, is_target};
 use gd_base::id::Id;
 use gd_base::memory::Memory;
 use gd_base::text::Text;
@@ -55,32 +55,44 @@ impl Answer {
     }
 }
 
-/// What stands there of a fact: whether it holds, the first answer of its property, and whether there are more.
+/// The first answer of a property on an object, if there is one, and whether there are more.
 #[derive(Clone, Copy)]
-struct Standing {
-    holds: bool,
+struct First {
     first: Option<Id>,
     more: bool,
 }
 
-/// What stands there of a fact.
-fn look(
+/// The first answer of a property on an object.
+fn first_answer(
     alloc: Global,
     growing: &Growing<'_>,
     property: &Property,
     object: Id,
-    target: &Target,
-) -> Result<Standing, Memory>
-    ensures holds { IfOk result (λ s. s.holds ≡ parts.has_fact (so_far growing.now) property.now object (target_view target.now)) }
-    ensures first { IfOk result (λ s. s.first ≡ slice_get (property_defs.answers (so_far growing.now) property.now object) 0) }
-    ensures more { IfOk result (λ s. s.more ≡ nat_lt 1 (length (property_defs.answers (so_far growing.now) property.now object))) }
+) -> Result<First, Memory>
+    ensures first { IfOk result (λ f. f.first ≡ slice_get (property_defs.answers (so_far growing.now) property.now object) 0) }
+    ensures more { IfOk result (λ f. f.more ≡ nat_lt 1 (length (property_defs.answers (so_far growing.now) property.now object))) }
 {
     let answers = answers(alloc, growing, property, object)?;
-    Ok(Standing {
-        holds: some_lead(growing, property, target, answers.as_slice()),
+    Ok(First {
         first: answers.first().copied(),
         more: answers.len() > 1,
     })
+}
+
+/// Whether a property is unique and has an answer on an object.
+fn is_taken(
+    alloc: Global,
+    growing: &Growing<'_>,
+    property: &Property,
+    object: Id,
+) -> Result<bool, Memory>
+    ensures { IfOk result (λ taken. taken ≡ (property.now.unique && nat_lt 0 (length (property_defs.answers (so_far growing.now) property.now object)))) }
+{
+    if !property.unique {
+        return Ok(false);
+    }
+    let answers = answers(alloc, growing, property, object)?;
+    Ok(!answers.is_empty())
 }
 
 /// Puts a new object behind the others, and gives its place. `Memory`: an allocation was refused, or all places are taken;
@@ -153,11 +165,10 @@ pub fn inserted(
     ensures below { growing.new.batches ≡ growing.old.batches }
     ensures same { OnErr result (growing.new ≡ growing.old) }
 {
-    let standing = look(alloc, growing, property, object, target)?;
-    if standing.holds {
+    if has_fact(growing, property, object, target) {
         return Ok(Answer::Present);
     }
-    if property.unique && standing.first.is_some() {
+    if is_taken(alloc, growing, property, object)? {
         return Err(LinkFault::NotUnique);
     }
     key_is_free(growing, object, target)?;
@@ -237,17 +248,17 @@ pub fn updated(
     if !property.unique {
         return Err(LinkFault::BadConnect);
     }
-    let standing = look(alloc, growing, property, object, target)?;
-    if standing.holds {
+    if has_fact(growing, property, object, target) {
         return Ok(Answer::Present);
     }
-    match standing.first {
+    let answer = first_answer(alloc, growing, property, object)?;
+    match answer.first {
         None => {
             push_link(growing, stamp, property, object, target, None)?;
             Ok(Answer::Inserted)
         }
         Some(previous) => {
-            if standing.more {
+            if answer.more {
                 return Err(LinkFault::NotUnique);
             }
             push_link(growing, stamp, property, object, target, Some(previous))?;

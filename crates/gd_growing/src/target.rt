@@ -1,23 +1,27 @@
 //! Where links lead, and which facts hold.
-ghost use Rattle.std.specs.Prelude.{◌≡◌, filter, IfOk};
-ghost use Rattle.std.specs.List.{list_any};
+ghost use Rattle.std.specs.Prelude.{◌≡◌, ◌&&◌, filter, length, IfOk};
+ghost use Rattle.std.specs.List.{list_any, range_with_len};
 ghost use Rattle.std.specs.Option.{option_map_or};
 ghost use Rattle.gd_base.specs.Order.{datum_eq};
 ghost use Rattle.gd_base.specs.declared.datum.Datum.TheVariants as datum;
+ghost use Rattle.gd_prim.specs.End.{places_with};
+ghost use Rattle.gd_prim.specs.History.{prims_of};
 ghost use Rattle.gd_prim.specs.Live as live;
 ghost use Rattle.gd_defs.specs.Plan as plan;
 ghost use Rattle.gd_defs.specs.Property as defined;
 ghost use Rattle.gd_defs.specs.Write.Parts as parts;
 ghost use Rattle.gd_growing.specs.State.{so_far};
+ghost use Rattle.gd_growing.specs.Scan.{is_answer_at};
 ghost use Rattle.gd_growing.specs.Seen.{target_view};
 
-use crate::answers::answers;
+use crate::answers::{answers, is_answer_at};
 use crate::growing::Growing;
 use gd_base::datum::Datum;
 use gd_base::id::Id;
 use gd_base::memory::Memory;
+use gd_base::steps::Steps;
 use gd_base::text::Text;
-use gd_plan::constraint::answers_of;
+use gd_plan::constraint::{answers_of, asked_end};
 use gd_plan::expects::holds_values;
 use gd_prim::live::refers;
 use gd_resolve::property::Property;
@@ -137,20 +141,6 @@ pub fn is_target(growing: &Growing<'_>, property: &Property, target: &Target, pl
     }
 }
 
-/// Whether one of these answers leads to the target.
-pub(crate) fn some_lead(
-    growing: &Growing<'_>,
-    property: &Property,
-    target: &Target,
-    answers: &[Id],
-) -> bool
-    ensures { result ≡ list_any (parts.is_target (so_far growing.now) property.now (target_view target.now)) answers.now }
-{
-    answers
-        .iter()
-        .any(|place| is_target(growing, property, target, *place))
-}
-
 /// Those of these answers that lead to the target.
 fn leading(
     alloc: Global,
@@ -183,18 +173,52 @@ pub fn equal_links(
     leading(alloc, growing, property, target, answers.as_slice())
 }
 
-/// Whether the fact holds: some answer of the property on the object leads to the target. `Memory`: an allocation was
-/// refused.
-#[tactic(auto, using(crate::proofs::Targets::some_holds))]
-pub fn has_fact(
-    alloc: Global,
+/// Whether an answer of the property on the object stands at a place, and leads to the target.
+fn leads_at(
     growing: &Growing<'_>,
     property: &Property,
     object: Id,
     target: &Target,
-) -> Result<bool, Memory>
-    ensures { IfOk result (λ holds. holds ≡ parts.has_fact (so_far growing.now) property.now object (target_view target.now)) }
+    place: Id,
+) -> bool
+    ensures { result ≡ (is_answer_at (so_far growing.now) property.now object place && parts.is_target (so_far growing.now) property.now (target_view target.now) place) }
 {
-    let answers = answers(alloc, growing, property, object)?;
-    Ok(some_lead(growing, property, target, answers.as_slice()))
+    is_answer_at(growing, property, object, place) && is_target(growing, property, target, place)
+}
+
+/// Whether an answer below the dateline leads to the target.
+fn some_below(growing: &Growing<'_>, property: &Property, object: Id, target: &Target) -> bool
+    ensures { result ≡ list_any (parts.is_target (so_far growing.now) property.now (target_view target.now))
+        (filter (is_answer_at (so_far growing.now) property.now object) (places_with (plan.asked_end property.now) object (prims_of growing.now.batches))) }
+{
+    let mut steps: Steps<()> = Steps::new();
+    let end = asked_end(property);
+    let below = growing.below();
+    for k in 0..below.list_len(end, object, &mut steps) {
+        let place = below.list_at(end, object, k, &mut steps);
+        if leads_at(growing, property, object, target, place) {
+            return true;
+        }
+    }
+    false
+}
+
+/// Whether an answer that the write has made leads to the target.
+fn some_made(growing: &Growing<'_>, property: &Property, object: Id, target: &Target) -> bool
+    ensures { result ≡ list_any (parts.is_target (so_far growing.now) property.now (target_view target.now))
+        (filter (is_answer_at (so_far growing.now) property.now object) (range_with_len (length (prims_of growing.now.batches)) (length growing.now.made))) }
+{
+    for place in growing.first_made()..growing.end().place() {
+        if leads_at(growing, property, object, target, Id(place)) {
+            return true;
+        }
+    }
+    false
+}
+
+/// Whether the fact holds: some answer of the property on the object leads to the target. It takes no memory.
+pub fn has_fact(growing: &Growing<'_>, property: &Property, object: Id, target: &Target) -> bool
+    ensures { result ≡ parts.has_fact (so_far growing.now) property.now object (target_view target.now) }
+{
+    some_below(growing, property, object, target) || some_made(growing, property, object, target)
 }
