@@ -11,7 +11,7 @@ use Rattle.gd_prim.specs.Live.{value_at, object_datum}
 use Rattle.gd_defs.specs.Plan as plan
 use Rattle.gd_defs.specs.Property.{Property, Expects, a_value, a_key, an_object_of_system, a_plain_object, expects_of, holds_values, answers, answer_datum, far_end}
 use Rattle.gd_defs.specs.Write.Parts.{Target, is_target, has_fact}
-use Rattle.gd_list_laws.proofs.Places.{list_any-filter}
+use Rattle.gd_list_laws.proofs.Places.{and-comm, list_any-filter}
 use Rattle.gd_growing.specs.Scan.{is_answer_at, kept}
 use Rattle.gd_growing.proofs.Answering.{left_on, range_on, parts}
 
@@ -75,20 +75,20 @@ holds_in_parts base made p o t =
     ∙ ap (list_any (is_target (base ++ made) p t)) (parts base made p o)
     ∙ list_any-append (is_target (base ++ made) p t) (filter (is_answer_at (base ++ made) p o) (places_with (plan.asked_end p) o base)) (filter (is_answer_at (base ++ made) p o) (range_with_len (length base) (length made)))
 
-any_kept : (test leads : ℕ → Bool) (x : ℕ) (xs : List ℕ) → list_any leads (kept test x ++ xs) ≡ ((test x && leads x) || list_any leads xs)
-any_kept test leads x xs = by (test x)
+any_kept : (test leads : ℕ → Bool) (x : ℕ) (xs : List ℕ) → list_any leads (kept test x ++ xs) ≡ ((leads x && test x) || list_any leads xs)
+any_kept test leads x xs = by (test x) ∙ ap (λ b. b || list_any leads xs) (and-comm (test x) (leads x))
   where
     by : (b : Bool) → list_any leads ((if b then x ∷ [] else []) ++ xs) ≡ ((b && leads x) || list_any leads xs)
     by true = refl
     by false = refl
 
 -- the first of what is left decides with what stands behind it
-pub left_decides : (test leads : ℕ → Bool) (xs : List ℕ) (k x : ℕ) (b : Bool) → slice_get xs k ≡ Some x → b ≡ (test x && leads x)
+pub left_decides : (test leads : ℕ → Bool) (xs : List ℕ) (k x : ℕ) (b : Bool) → slice_get xs k ≡ Some x → b ≡ (leads x && test x)
     → list_any leads (filter test (drop k xs)) ≡ (b || list_any leads (filter test (drop (k + 1) xs)))
 left_decides test leads xs k x b at is =
     ap (list_any leads) (left_on test xs k x at) ∙ any_kept test leads x (filter test (drop (k + 1) xs)) ∙ ap (λ c. c || list_any leads (filter test (drop (k + 1) xs))) (sym is)
 
-pub range_decides : (test leads : ℕ → Bool) (k end : ℕ) (b : Bool) → k < end → b ≡ (test k && leads k)
+pub range_decides : (test leads : ℕ → Bool) (k end : ℕ) (b : Bool) → k < end → b ≡ (leads k && test k)
     → list_any leads (filter test (range_with_len k (end - k))) ≡ (b || list_any leads (filter test (range_with_len (k + 1) (end - (k + 1)))))
 range_decides test leads k end b below is =
     ap (list_any leads) (range_on test k end below) ∙ any_kept test leads k (filter test (range_with_len (k + 1) (end - (k + 1))))

@@ -173,7 +173,8 @@ pub fn equal_links(
     leading(alloc, growing, property, target, answers.as_slice())
 }
 
-/// Whether an answer of the property on the object stands at a place, and leads to the target.
+/// Whether what stands at a place leads to the target, and is an answer of the property on the object. What costs more,
+/// whether it is a live answer, is asked last.
 fn leads_at(
     growing: &Growing<'_>,
     property: &Property,
@@ -181,9 +182,9 @@ fn leads_at(
     target: &Target,
     place: Id,
 ) -> bool
-    ensures { result ≡ (is_answer_at (so_far growing.now) property.now object place && parts.is_target (so_far growing.now) property.now (target_view target.now) place) }
+    ensures { result ≡ (parts.is_target (so_far growing.now) property.now (target_view target.now) place && is_answer_at (so_far growing.now) property.now object place) }
 {
-    is_answer_at(growing, property, object, place) && is_target(growing, property, target, place)
+    is_target(growing, property, target, place) && is_answer_at(growing, property, object, place)
 }
 
 /// Whether an answer below the dateline leads to the target.
