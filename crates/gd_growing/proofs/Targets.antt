@@ -2,6 +2,7 @@
 use Rattle.std.proofs.Common.{◌≡◌, ℕ, ◌+◌, ◌-◌, ◌<◌, Bool, true, false, ◌&&◌, List, [], ◌∷◌, ◌++◌, length, drop, Option, Some, None, refl, sym, ap, ◌∙◌}
 use Rattle.std.specs.Prelude.{slice_get, filter, if◌then◌else◌, ◌||◌}
 use Rattle.std.specs.List.{list_any, range_with_len}
+use Rattle.std.proofs.lemmas.List.Elements.{filter-append}
 use Rattle.std.proofs.lemmas.List.Folds.{list_any-append}
 use Rattle.gd_base.specs.declared.datum.Datum.TheVariants as datum
 use Rattle.gd_base.specs.Order.{datum_eq}
@@ -10,9 +11,9 @@ use Rattle.gd_prim.specs.End.{places_with}
 use Rattle.gd_prim.specs.Live.{value_at, object_datum}
 use Rattle.gd_defs.specs.Plan as plan
 use Rattle.gd_defs.specs.Property.{Property, Expects, a_value, a_key, an_object_of_system, a_plain_object, expects_of, holds_values, answers, answer_datum, far_end}
-use Rattle.gd_defs.specs.Write.Parts.{Target, is_target, has_fact}
-use Rattle.gd_list_laws.proofs.Places.{and-comm, list_any-filter}
-use Rattle.gd_growing.specs.Scan.{is_answer_at, kept}
+use Rattle.gd_defs.specs.Write.Parts.{Target, is_target, equal_links, has_fact}
+use Rattle.gd_list_laws.proofs.Places.{and-comm, filter-filter, filter-same, list_any-filter}
+use Rattle.gd_growing.specs.Scan.{is_answer_at, is_wanted_at, kept}
 use Rattle.gd_growing.proofs.Answering.{left_on, range_on, parts}
 
 value_forward : (prims : List Primitive) (stored : ℕ) (expected : Option ℕ) (unique : Bool) (k : ℕ) (e : Expects) → expects_of expected ≡ e → holds_values e ≡ true
@@ -74,6 +75,20 @@ holds_in_parts base made p o t =
     sym (some_holds (base ++ made) p o t)
     ∙ ap (list_any (is_target (base ++ made) p t)) (parts base made p o)
     ∙ list_any-append (is_target (base ++ made) p t) (filter (is_answer_at (base ++ made) p o) (places_with (plan.asked_end p) o base)) (filter (is_answer_at (base ++ made) p o) (range_with_len (length base) (length made)))
+
+-- the links that lead to a target, of each part
+pub links_in_parts : (base made : List Primitive) (p : Property) (o : ℕ) (t : Target)
+    → equal_links (base ++ made) p o t
+    ≡ filter (is_wanted_at (base ++ made) p o (Some t)) (places_with (plan.asked_end p) o base) ++ filter (is_wanted_at (base ++ made) p o (Some t)) (range_with_len (length base) (length made))
+links_in_parts base made p o t =
+    let test = is_answer_at (base ++ made) p o in
+    let leads = is_target (base ++ made) p t in
+    let links = places_with (plan.asked_end p) o base in
+    let places = range_with_len (length base) (length made) in
+    ap (filter leads) (parts base made p o)
+    ∙ filter-append leads (filter test links) (filter test places)
+    ∙ ap (λ ks. ks ++ filter leads (filter test places)) (filter-filter test leads links ∙ filter-same _ (is_wanted_at (base ++ made) p o (Some t)) links (λ k. and-comm (test k) (leads k)))
+    ∙ ap (λ ks. filter (is_wanted_at (base ++ made) p o (Some t)) links ++ ks) (filter-filter test leads places ∙ filter-same _ (is_wanted_at (base ++ made) p o (Some t)) places (λ k. and-comm (test k) (leads k)))
 
 any_kept : (test leads : ℕ → Bool) (x : ℕ) (xs : List ℕ) → list_any leads (kept test x ++ xs) ≡ ((leads x && test x) || list_any leads xs)
 any_kept test leads x xs = by (test x) ∙ ap (λ b. b || list_any leads xs) (and-comm (test x) (leads x))

@@ -1,9 +1,10 @@
 -- What is looked for over a list of primitives.
-use Rattle.std.specs.Prelude.{ℕ, List, [], ◌∷◌, Bool, ◌&&◌, Option, is_some, option_map, find, if◌then◌else◌}
+use Rattle.std.specs.Prelude.{ℕ, List, [], ◌∷◌, Bool, ◌&&◌, Option, Some, None, is_some, option_map, find, if◌then◌else◌}
 use Rattle.std.specs.List.{enumerate_from}
 use Rattle.gd_prim.specs.declared.Primitive.{Primitive}
 use Rattle.gd_prim.specs.Live.{refers, is_live, passes_at, end_at}
 use Rattle.gd_defs.specs.Property.{Property, expects_of, holds_expected, leads_to_object, near_of}
+use Rattle.gd_defs.specs.Write.Parts.{Target, is_target}
 
 -- the first place whose primitive passes the test, where the list begins at this place
 abbrev pub first_place : (Primitive → Bool) → ℕ → List Primitive → Option ℕ
@@ -17,6 +18,11 @@ is_answer prims p o k = if p.reversed then refers k.typ p.stored && refers k.rig
 -- an answer stands at the place
 abbrev pub is_answer_at : List Primitive → Property → ℕ → ℕ → Bool
 is_answer_at prims p o k = passes_at (is_answer prims p o) prims k && is_live prims k
+
+-- an answer stands at the place, and leads to the target, if one is given
+abbrev pub is_wanted_at : List Primitive → Property → ℕ → Option Target → ℕ → Bool
+is_wanted_at prims p o None = is_answer_at prims p o
+is_wanted_at prims p o (Some t) = λ k. is_target prims p t k && is_answer_at prims p o k
 
 -- a live key link with a namespace stands at the place
 abbrev pub names : List Primitive → ℕ → Bool

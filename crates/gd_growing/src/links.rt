@@ -10,12 +10,12 @@ ghost use Rattle.gd_growing.specs.Seen.{target_view, answer_word};
 ghost use Rattle.gd_growing.specs.Carried.{Gives, IsFree, update_at};
 ghost use Rattle.gd_growing.specs.Scan.{is_link};
 
-use crate::answers::answers;
+use crate::answers::{answers, equal_links};
 use crate::fault::LinkFault;
 use crate::growing::Growing;
 use crate::keys::key_leads;
 use crate::stamp::{Stamp, deletion, new_link, new_object};
-use crate::target::{Target, equal_links, has_fact, is_target};
+use crate::target::{Target, has_fact, is_target};
 use gd_base::id::Id;
 use gd_base::memory::Memory;
 use gd_base::text::Text;

@@ -1,5 +1,5 @@
 //! Where links lead, and which facts hold.
-ghost use Rattle.std.specs.Prelude.{◌≡◌, ◌&&◌, filter, length, IfOk};
+ghost use Rattle.std.specs.Prelude.{◌≡◌, ◌&&◌, filter, length};
 ghost use Rattle.std.specs.List.{list_any, range_with_len};
 ghost use Rattle.std.specs.Option.{option_map_or};
 ghost use Rattle.gd_base.specs.Order.{datum_eq};
@@ -14,18 +14,16 @@ ghost use Rattle.gd_growing.specs.State.{so_far};
 ghost use Rattle.gd_growing.specs.Scan.{is_answer_at};
 ghost use Rattle.gd_growing.specs.Seen.{target_view};
 
-use crate::answers::{answers, is_answer_at};
+use crate::answers::is_answer_at;
 use crate::growing::Growing;
 use gd_base::datum::Datum;
 use gd_base::id::Id;
-use gd_base::memory::Memory;
 use gd_base::steps::Steps;
 use gd_base::text::Text;
 use gd_plan::constraint::{answers_of, asked_end};
 use gd_plan::expects::holds_values;
 use gd_prim::live::refers;
 use gd_resolve::property::Property;
-use std::alloc::Global;
 
 /// Where a link leads. Contracts see it as the target of the definitions, `target_view`.
 #[derive(Debug, PartialEq, Eq, Drop)]
@@ -141,41 +139,9 @@ pub fn is_target(growing: &Growing<'_>, property: &Property, target: &Target, pl
     }
 }
 
-/// Those of these answers that lead to the target.
-fn leading(
-    alloc: Global,
-    growing: &Growing<'_>,
-    property: &Property,
-    target: &Target,
-    answers: &[Id],
-) -> Result<Vec<Id>, Memory>
-    ensures { IfOk result (λ links. links.items ≡ filter (parts.is_target (so_far growing.now) property.now (target_view target.now)) answers.now) }
-{
-    let links = answers
-        .iter()
-        .copied()
-        .filter(|place| is_target(growing, property, target, *place))
-        .collect(alloc)?;
-    Ok(links)
-}
-
-/// The answers of a property on an object that lead to the target, in rising order. `Memory`: an allocation was refused.
-pub fn equal_links(
-    alloc: Global,
-    growing: &Growing<'_>,
-    property: &Property,
-    object: Id,
-    target: &Target,
-) -> Result<Vec<Id>, Memory>
-    ensures { IfOk result (λ links. links.items ≡ parts.equal_links (so_far growing.now) property.now object (target_view target.now)) }
-{
-    let answers = answers(alloc, growing, property, object)?;
-    leading(alloc, growing, property, target, answers.as_slice())
-}
-
 /// Whether what stands at a place leads to the target, and is an answer of the property on the object. What costs more,
 /// whether it is a live answer, is asked last.
-fn leads_at(
+pub(crate) fn leads_at(
     growing: &Growing<'_>,
     property: &Property,
     object: Id,
