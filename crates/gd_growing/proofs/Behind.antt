@@ -1,5 +1,5 @@
 -- Two lists one behind the other: what stands at a place, and what a scan finds.
-use Rattle.std.proofs.Common.{◌≡◌, ℕ, zero, suc, ◌+◌, ◌-◌, ◌<◌, ◌≤◌, Bool, true, false, cond, not, List, [], ◌∷◌, ◌++◌, length, get_or, drop, refl, sym, ap, ◌∙◌, arith, add-one, drop-cons}
+use Rattle.std.proofs.Common.{◌≡◌, ℕ, zero, suc, ◌+◌, ◌<◌, Bool, true, false, cond, not, List, [], ◌∷◌, ◌++◌, length, get_or, drop, refl, sym, ap, ◌∙◌, arith, add-one, drop-cons}
 use Rattle.std.specs.Prelude.{Option, None, Some, option_map, is_some, is_none, find, slice_get, if◌then◌else◌, ◌||◌}
 use Rattle.std.specs.Option.{option_or}
 use Rattle.std.specs.List.{cons_option, enumerate_from, filter_map, list_any, last_or}
@@ -17,12 +17,6 @@ pub at_front : {A : Type 0} (xs ys : List A) (i : ℕ) → i < length xs → sli
 at_front [] ys i within = absurd (omega (arith, within))
 at_front (x ∷ xs) ys zero within = refl
 at_front (x ∷ xs) ys (suc i) within = at_front xs ys i (omega (arith, within))
-
--- and behind it
-pub at_rear : {A : Type 0} (xs ys : List A) (i : ℕ) → length xs ≤ i → slice_get (xs ++ ys) i ≡ slice_get ys (i - length xs)
-at_rear [] ys i past = ap (slice_get ys) (let same : i ≡ i - 0 = omega arith in same)
-at_rear (x ∷ xs) ys zero past = absurd (omega (arith, past))
-at_rear (x ∷ xs) ys (suc i) past = at_rear xs ys i (omega (arith, past)) ∙ ap (slice_get ys) (let same : i - length xs ≡ suc i - suc (length xs) = omega arith in same)
 
 -- what is left behind a front is the rest
 pub rest_behind : {A : Type 0} (xs ys : List A) → drop (length xs) (xs ++ ys) ≡ ys
@@ -61,16 +55,6 @@ first_behind t k xs ys =
 mapped : (b : Bool) (k : ℕ) (x : Primitive) (o : Option (ℕ × Primitive)) → option_map (λ e. e.0) (cond b (Some (k, x)) o) ≡ cond b (Some k) (option_map (λ e. e.0) o)
 mapped true k x o = refl
 mapped false k x o = refl
-
--- place by place
-pub first_on : (t : Primitive → Bool) (xs : List Primitive) (k i : ℕ) (x : Primitive) (b : Bool) → i < length xs → x ≡ get_or xs i x → b ≡ t x
-    → first_place t (k + i) (drop i xs) ≡ cond b (Some (k + i)) (first_place t (k + (i + 1)) (drop (i + 1) xs))
-first_on t xs k i x b within is passes =
-    let next : (k + i) + 1 ≡ k + (i + 1) = omega arith in
-    ap (first_place t (k + i)) (left_at xs i x within is)
-    ∙ mapped (t x) (k + i) x (find (λ e. t e.1) (enumerate_from ((k + i) + 1) (drop (i + 1) xs)))
-    ∙ ap (λ n. cond (t x) (Some (k + i)) (first_place t n (drop (i + 1) xs))) next
-    ∙ ap (λ c. cond c (Some (k + i)) (first_place t (k + (i + 1)) (drop (i + 1) xs))) (sym passes)
 
 some_cond : (b : Bool) (k : ℕ) (o : Option ℕ) → is_some (cond b (Some k) o) ≡ (b || is_some o)
 some_cond true k o = refl
@@ -122,8 +106,3 @@ places_on t xs k i x b within is passes =
 pub last_behind : {A : Type 0} (before : Option A) (xs ys : List A) → last_or before (xs ++ ys) ≡ last_or (last_or before xs) ys
 last_behind before [] ys = refl
 last_behind before (x ∷ xs) ys = last_behind (Some x) xs ys
-
--- the last so far goes on
-pub last_on : (b : Bool) (k : ℕ) (before : Option ℕ) (rest : List ℕ) → last_or before (cons_option (if b then Some k else None) rest) ≡ last_or (if b then Some k else before) rest
-last_on true k before rest = refl
-last_on false k before rest = refl
