@@ -1,0 +1,5 @@
+pub mod Answering
+pub mod Behind
+pub mod Naming
+pub mod Targets
+pub mod Updating

@@ -1,0 +1,4 @@
+use Rattle.gd_growing.proofs.up.+path_up.Given as goal
+
+abbrev pub decreases-path_up : goal.decreases-path_up
+decreases-path_up l = l.levels

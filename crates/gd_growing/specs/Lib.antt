@@ -1,0 +1,4 @@
+pub mod State
+pub mod Scan
+pub mod Seen
+pub mod Carried

@@ -1,0 +1,12 @@
+//! The state of a write that is carried out.
+#![tactic(auto)]
+
+pub mod answers;
+pub mod fault;
+pub mod growing;
+pub mod keys;
+pub mod links;
+mod made;
+pub mod stamp;
+pub mod target;
+pub mod up;
