@@ -1,5 +1,5 @@
 -- A query that was read has four sort keys at most, and a limit of one at least.
-use Rattle.std.proofs.Common.{◌≡◌, ◌≤◌, ◌<◌, ℕ, ◌+◌, List, [], ◌∷◌, ◌++◌, Bool, true, false, ◌&&◌, ◌||◌, Option, Some, None, Result, Ok, codes, length, refl, ap, subst, arith, pos}
+use Rattle.std.proofs.Common.{◌≡◌, ◌≤◌, ◌<◌, ℕ, ◌+◌, List, [], ◌∷◌, ◌++◌, Bool, true, false, ◌&&◌, ◌||◌, Option, Some, None, Result, Ok, codes, length, refl, ap, sym, subst, arith, pos}
 use Rattle.std.specs.Prelude.{if◌then◌else◌, bytes_eq, option_map, unwrap_or, negsuc}
 use Rattle.std.specs.Option.{option_map_or, ok_or}
 use Rattle.std.specs.Int.{is_in_range}
@@ -147,7 +147,7 @@ query_bounded (text t) q is = absurd (cc)
 -- ---- with words looked up
 
 keys_len : (prims : List Primitive) (context : Option ℕ) (path : List (List ℕ)) (ws : List SortWord) (ks : List SortKey) → sort_keys prims context path ws ≡ Ok ks → length ks ≡ length ws
-keys_len prims context path [] ks is = ap length (ok_same ks [] (cc))
+keys_len prims context path [] ks is = ap length (sym (ok_same [] ks is))
 keys_len prims context path (w ∷ ws) ks is =
     let one = steps (sort_key prims context path w) (λ k. sort_keys prims context path ws >>= λ ks. Ok (k ∷ ks)) ks is in
     let more = steps (sort_keys prims context path ws) (λ ks. Ok (one.value ∷ ks)) ks one.then_gave in

@@ -29,7 +29,10 @@ use Rattle.gd_read.specs.declared.asked.Body.{Body}
 use Rattle.gd_read.specs.declared.asked.Body.TheVariants.{Count, Trees}
 use Rattle.gd_read.specs.declared.asked.Page.{Page}
 use Rattle.gd_read.specs.Scanned.{Answers, IsFound}
-use Rattle.gd_read.specs.Body.{IsPage, IsBody, IsAnswered}
+use Rattle.gd_plan.specs.Asked.{asked_view}
+use Rattle.gd_plan.specs.declared.asked.Asked.{Asked as Found}
+use Rattle.gd_read.specs.declared.fault.ReadFault.{ReadFault}
+use Rattle.gd_read.specs.Body.{IsPage, IsBody, IsAnswered, IsRefused, fault_line}
 use Rattle.gd_read.specs.Planned.{IsPlanned, body_prints}
 use Rattle.gd_read.proofs.Bounds.{read_bounded}
 use Rattle.gd_read.proofs.Refused.{length-map}
@@ -90,3 +93,28 @@ refused_bytes (Err f) e none a b same is wanted = tt
 pub list_back : (ts : List Tree) → list_of (trees_of ts) ≡ ts
 list_back [] = refl
 list_back (t ∷ ts) = ap (λ us. t ∷ us) (list_back ts)
+
+-- ---- where a plan and a list are named anew
+
+pub page_moved : (prims list : List Primitive) (plan asked : Found) (t : Template) (mark : Option Mark) (p : Page) → list ≡ prims → asked ≡ plan → t ≡ template_of (asked_view plan)
+    → IsPage list (asked_view asked) t mark p → IsPage prims (asked_view plan) (template_of (asked_view plan)) mark p
+page_moved prims list plan asked t mark p list_is asked_is t_is is =
+    subst (λ (u : Template). IsPage prims (asked_view plan) u mark p) t_is
+    (subst (λ (a : Found). IsPage prims (asked_view a) t mark p) asked_is (subst (λ (l : List Primitive). IsPage l (asked_view asked) t mark p) list_is is))
+
+pub refused_moved : (prims list : List Primitive) (plan asked : Found) (mark : Option Mark) (e : ReadFault) (dateline d line : ℕ) (with_cursor : Bool) → list ≡ prims → asked ≡ plan → d ≡ dateline
+    → IsRefused list (asked_view asked) mark e → fault_line d line e ≡ asked_line prims dateline line with_cursor mark (asked_view plan)
+refused_moved prims list plan asked mark e dateline d line with_cursor list_is asked_is d_is is =
+    ap (λ n. fault_line n line e) d_is ∙ sym (is dateline line with_cursor)
+    ∙ ap (λ (l : List Primitive). asked_line l dateline line with_cursor mark (asked_view asked)) list_is
+    ∙ ap (λ (a : Found). asked_line prims dateline line with_cursor mark (asked_view a)) asked_is
+
+pub answers_moved : (prims list : List Primitive) (plan asked : Found) (t : Template) → list ≡ prims → asked ≡ plan → t ≡ template_of (asked_view plan) → IsPlanned prims (asked_view plan) → Answers list (asked_view asked) t
+answers_moved prims list plan asked t list_is asked_is t_is is =
+    subst (λ (l : List Primitive). Answers l (asked_view asked) t) (sym list_is)
+    (subst (λ (a : Found). Answers prims (asked_view a) t) (sym asked_is) (planned_answers prims (asked_view plan) t is t_is))
+
+-- a fact of an outcome, turned around
+pub turned : {A B E : Type 0} (r : Result A E) (f : A → B) (a b : B) → a ≡ b → IfOk r (λ x. a ≡ f x) → IfOk r (λ x. f x ≡ b)
+turned (Ok x) f a b same is = sym is ∙ same
+turned (Err e) f a b same is = tt

@@ -73,7 +73,7 @@ one_behind limit n rows more some is more_is = rw (more_is, is) (plain limit n s
     plain : (limit n : ℕ) → 0 < limit → (nat_lt limit n || nat_lt 1 (min limit n)) ≡ nat_lt 1 n
     plain limit n some = grind (arith, nat_tests)
 
-length-map : {A B : Type 0} (f : A → B) (xs : List A) → length (map f xs) ≡ length xs
+pub length-map : {A B : Type 0} (f : A → B) (xs : List A) → length (map f xs) ≡ length xs
 length-map f xs = grind (arith, common_steps)
 
 pub many_is : (prims : List Primitive) (q : Asked) (mark : Option Mark) (f : Found) → 0 < q.limit → IsFound prims q mark f → is_many f ≡ nat_lt 1 (length (rows_after prims q mark))
