@@ -7,13 +7,13 @@ ghost use Rattle.gd_defs.specs.Lines.{err_line as err_line_of, too_wide as too_w
 ghost use Rattle.gd_read.specs.Asks.{ask_view};
 ghost use Rattle.gd_read.specs.Form as form;
 
+use crate::ask::ReadForm;
 use crate::names::{ends, name_count};
 use crate::rows::rows_line;
 use gd_base::id::Id;
 use gd_base::memory::Memory;
 use gd_base::steps::Steps;
 use gd_json::value::JsonText;
-use crate::ask::ReadForm;
 use gd_reply::lines::err_line;
 use gd_reply::refusal::Refusal;
 use gd_resolve::look::is_object;

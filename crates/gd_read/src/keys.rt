@@ -143,7 +143,11 @@ fn fitted(end: u32, place: Option<Id>) -> Option<Id>
 fn place_behind(places: &[Option<Id>], count: usize) -> Option<Id>
     ensures { result ≡ defs.first_key (drop count places.now) }
 {
-    if count < places.len() { places[count] } else { None }
+    if count < places.len() {
+        places[count]
+    } else {
+        None
+    }
 }
 
 /// The sort keys of a mark.

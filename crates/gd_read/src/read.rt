@@ -212,7 +212,16 @@ fn line_at<L>(
 {
     let view = store.view(dateline);
     let prims = store.below(dateline);
-    query_line(alloc, &view, prims, line, with_cursor, after, request, steps)
+    query_line(
+        alloc,
+        &view,
+        prims,
+        line,
+        with_cursor,
+        after,
+        request,
+        steps,
+    )
 }
 
 /// The reply line to the page behind a cursor, at its dateline.
@@ -232,7 +241,16 @@ fn line_behind<L>(
     if have < asked {
         return err_line(alloc, have, line, &Refusal::CursorAhead { asked, have });
     }
-    line_at(alloc, store, asked, line, true, &Some(cursor), request, steps)
+    line_at(
+        alloc,
+        store,
+        asked,
+        line,
+        true,
+        &Some(cursor),
+        request,
+        steps,
+    )
 }
 
 /// The reply line to the page behind the text of a cursor.
@@ -250,7 +268,12 @@ fn line_after<L>(
     match cursor_from(text.as_str().as_bytes()) {
         Ok(cursor) => line_behind(alloc, store, line, cursor, request, steps),
         Err(FrozenFault::BadFrozen { offset }) => {
-            err_line(alloc, store.requests(), line, &Refusal::BadCursor { offset })
+            err_line(
+                alloc,
+                store.requests(),
+                line,
+                &Refusal::BadCursor { offset },
+            )
         }
         Err(FrozenFault::Memory) => Err(Memory),
     }

@@ -11,6 +11,7 @@ ghost use Rattle.gd_read.specs.Asks.{ask_view, id_view};
 ghost use Rattle.gd_read.specs.Form as form;
 ghost use Rattle.gd_read.specs.Target.{target_view};
 
+use crate::ask::{IdAsk, ReadForm};
 use crate::found::{all_line, one_line};
 use gd_base::id::Id;
 use gd_base::memory::Memory;
@@ -18,7 +19,6 @@ use gd_base::steps::Steps;
 use gd_base::text::TEXT_LIMIT;
 use gd_json::value::JsonText;
 use gd_mql::fault::{Code, Path};
-use crate::ask::{IdAsk, ReadForm};
 use gd_reply::lines::err_line;
 use gd_reply::refusal::Refusal;
 use gd_resolve::fault::ResolveFault;

@@ -14,7 +14,7 @@ loop-count-preserved c =
     let pushed = c.in_ok-push.ensures.items in
     record {
       keys = marks_more prims (length prims) c.args.sort.now c.args.places.now l.count c.index-sort-count.result l.keys.items c.push.new.self.items
-      (keys_at prims (map sort_key_view c.args.sort.now) (fitted (length prims) (map sort_key_view c.args.sort.now) c.args.places.now))
-      c.place_behind.result c.fitted-place.result k c.loop-count-test.true c.index-sort-count.is c.place_behind.ensures c.fitted-place.ensures c.in_ok-key_at.ensures pushed l.invariant.keys;
+          (keys_at prims (map sort_key_view c.args.sort.now) (fitted (length prims) (map sort_key_view c.args.sort.now) c.args.places.now))
+          c.place_behind.result c.fitted-place.result k c.loop-count-test.true c.index-sort-count.is c.place_behind.ensures c.fitted-place.ensures c.in_ok-key_at.ensures pushed l.invariant.keys;
       count = let same = ap length pushed in omega (arith, same, length-append l.keys.items (k ∷ []), l.invariant.count);
     }

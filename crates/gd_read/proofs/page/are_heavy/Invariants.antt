@@ -8,5 +8,5 @@ abbrev pub invariant-loop-row : goal.invariant-loop-row
 invariant-loop-row l = record {
   small : l.total ≤ 262144;
   left : nat_lt 262144 (sum_by (λ r. min (defs.weight l.linked (template_view l.template) r.id) 65537) l.rows)
-    ≡ nat_lt 262144 (l.total + sum_by (λ r. min (defs.weight l.linked (template_view l.template) r.id) 65537) (drop l.row-index l.rows));
+      ≡ nat_lt 262144 (l.total + sum_by (λ r. min (defs.weight l.linked (template_view l.template) r.id) 65537) (drop l.row-index l.rows));
 }
