@@ -1,7 +1,7 @@
 -- A query that was read has four sort keys at most, and a limit of one at least.
-use Rattle.std.proofs.Common.{◌≡◌, ◌≤◌, ◌<◌, ℕ, ◌+◌, List, [], ◌∷◌, ◌++◌, Bool, true, false, ◌&&◌, ◌||◌, Option, Some, None, Result, Ok, codes, length, refl, ap, sym, subst, arith, pos}
+use Rattle.std.proofs.Common.{◌≡◌, ◌≤◌, ◌<◌, ℕ, List, [], ◌∷◌, ◌++◌, Bool, true, false, ◌&&◌, Option, Some, None, Result, Ok, codes, length, refl, ap, sym, subst, arith, pos}
 use Rattle.std.specs.Prelude.{if◌then◌else◌, bytes_eq, option_map, unwrap_or, negsuc}
-use Rattle.std.specs.Option.{option_map_or, ok_or}
+use Rattle.std.specs.Option.{option_map_or}
 use Rattle.std.specs.Int.{is_in_range}
 use Rattle.std.proofs.lemmas.Bool.Decides.{nat_tests}
 use Rattle.gd_prim.specs.declared.Primitive.{Primitive}

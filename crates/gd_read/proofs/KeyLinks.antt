@@ -1,6 +1,6 @@
 -- The answers of a property among the links of an object, and the sort keys of rows.
 use Rattle.std.proofs.Common.{◌≡◌, ℕ, zero, suc, cond, ◌+◌, ◌<◌, List, [], ◌∷◌, ◌++◌, Bool, true, false, ◌&&◌, Option, None, Some, length, map, drop, get_or, refl, ap, sym, ◌∙◌, arith, add-one, drop-cons, append_assoc}
-use Rattle.std.specs.Prelude.{filter, slice_get, is_none, if◌then◌else◌}
+use Rattle.std.specs.Prelude.{filter, slice_get, is_none}
 use Rattle.std.specs.Option.{option_map_or}
 use Rattle.gd_prim.specs.declared.Primitive.{Primitive}
 use Rattle.gd_prim.specs.End.{places_with}
@@ -8,14 +8,14 @@ use Rattle.gd_prim.specs.Live.{refers, passes_at, is_live, is_object, live_where
 use Rattle.gd_defs.specs.Plan.{asked_end}
 use Rattle.gd_defs.specs.Property.{Property, answers, first, leads_to_object, holds_expected, expects_of}
 use Rattle.gd_defs.specs.Asked.{SortKey}
-use Rattle.gd_defs.specs.Rows.{key_place, first_key, later_keys, row_of}
+use Rattle.gd_defs.specs.Rows.{key_place, first_key, later_keys}
 use Rattle.gd_defs.specs.Reply.{fitted}
 use Rattle.gd_template_laws.proofs.Places.{filter-filter, filter-same, live_where-places, places_where-places, object-live, places}
 use Rattle.gd_plan.specs.declared.asked.SortKey as asked
 use Rattle.gd_plan.specs.Seen.{sort_key_view}
 use Rattle.gd_window.specs.Laws.{keys_at}
 use Rattle.gd_window.specs.declared.keys.Key.{Key}
-use Rattle.gd_read.specs.KeysAt.{holds, is_answer_at, key_at, own_key, below}
+use Rattle.gd_read.specs.KeysAt.{is_answer_at, key_at, own_key, below}
 
 pub object_is : (prims : List Primitive) (k : ℕ) → is_object prims k ≡ (is_live prims k && passes_at (λ p. is_none p.typ) prims k)
 object_is prims k = object-live prims k

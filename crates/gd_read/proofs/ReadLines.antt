@@ -1,5 +1,5 @@
 -- The reply line of a read.
-use Rattle.std.proofs.Common.{◌≡◌, ◌≢◌, ◌≤◌, ◌<◌, ℕ, ◌+◌, List, [], ◌∷◌, Bool, true, false, ◌&&◌, Option, None, Some, Result, Ok, Err, IfOk, Vec, Global, length, map, take, refl, ap, sym, ◌∙◌, subst, rules, arith}
+use Rattle.std.proofs.Common.{◌≡◌, ◌≢◌, ℕ, List, [], ◌∷◌, Bool, true, Option, None, Some, Result, Ok, Err, IfOk, Vec, Global, length, map, refl, ap, sym, ◌∙◌, subst}
 use Rattle.std.specs.Prelude.{if◌then◌else◌, is_none}
 use Rattle.gd_prim.specs.declared.Primitive.{Primitive}
 use Rattle.gd_grammar.specs.Chain.{◌>>=◌}
@@ -10,8 +10,7 @@ use Rattle.gd_defs.specs.Lines.{err_line, count_json}
 use Rattle.gd_defs.specs.Query as query
 use Rattle.gd_defs.specs.Query.{query_of}
 use Rattle.gd_defs.specs.Asked.{Asked, Unknown, asked_query}
-use Rattle.gd_defs.specs.Rows as defs
-use Rattle.gd_defs.specs.Reply.{Path, as_list, each_row, object_json, result_json, rows_after, page, is_ambiguous, meant_line, asked_line, unknown_refusal, reply}
+use Rattle.gd_defs.specs.Reply.{Path, as_list, each_row, object_json, page, meant_line, asked_line, unknown_refusal, reply}
 use Rattle.gd_defs.specs.Plan.{template_of}
 use Rattle.gd_defs.specs.Template.{Template, tree_of}
 use Rattle.gd_form_laws.specs.Faults.{query_fault}
@@ -20,15 +19,11 @@ use Rattle.gd_form_laws.proofs.Clauses.{query-given}
 use Rattle.gd_template_laws.specs.Laws.{AreHeld, TemplateMeans}
 use Rattle.gd_template_laws.proofs.Laws.{queries_answer}
 use Rattle.gd_page_laws.proofs.Laws.{pages_print}
-use Rattle.gd_trees.specs.View.{view as tree_view, trees_view}
-use Rattle.gd_trees.specs.declared.tree.Tree.{Tree as GrownTree}
-use Rattle.gd_trees.specs.declared.tree.Trees.{Trees as GrownTrees}
-use Rattle.gd_window.specs.declared.row.Row.{Row}
 use Rattle.gd_window.specs.Laws.{defined}
 use Rattle.gd_read.specs.declared.asked.Body.{Body}
 use Rattle.gd_read.specs.declared.asked.Body.TheVariants.{Count, Trees}
 use Rattle.gd_read.specs.declared.asked.Page.{Page}
-use Rattle.gd_read.specs.Scanned.{Answers, IsFound}
+use Rattle.gd_read.specs.Scanned.{Answers}
 use Rattle.gd_plan.specs.Asked.{asked_view}
 use Rattle.gd_plan.specs.declared.asked.Asked.{Asked as Found}
 use Rattle.gd_read.specs.declared.fault.ReadFault.{ReadFault}

@@ -1,5 +1,5 @@
 -- The page of a query, or the refusal in its place.
-use Rattle.std.proofs.Common.{◌≡◌, ◌≢◌, ◌≤◌, ◌<◌, ℕ, ◌+◌, min, List, [], ◌∷◌, ◌++◌, Bool, true, false, cond, ◌&&◌, ◌||◌, Option, None, Some, Result, Ok, Err, take, length, map, refl, ap, sym, ◌∙◌, subst, arith}
+use Rattle.std.proofs.Common.{◌≡◌, ◌<◌, ℕ, min, List, [], ◌∷◌, Bool, true, false, ◌&&◌, ◌||◌, Option, None, Some, Result, Ok, Err, length, map, refl, ap, sym, ◌∙◌, subst, arith}
 use Rattle.std.specs.Prelude.{nat_lt, if◌then◌else◌, slice_get, ◌-◌}
 use Rattle.std.specs.List.{last_or}
 use Rattle.std.proofs.lemmas.Bool.Decides.{nat_tests}
@@ -9,7 +9,6 @@ use Rattle.gd_prim.specs.declared.Primitive.{Primitive}
 use Rattle.gd_grammar.specs.Mark.{Mark, cursor_text}
 use Rattle.gd_grammar.proofs.Steps.{some_same}
 use Rattle.gd_tree.specs.Json.{Json, boolean, text}
-use Rattle.gd_tree.specs.Trees.{Tree}
 use Rattle.gd_defs.specs.Asked.{Asked}
 use Rattle.gd_defs.specs.Rows as defs
 use Rattle.gd_defs.specs.Reply.{has_heavy_candidate, is_heavy_page, page, has_more, rows_after, is_ambiguous, page_cursor, row_mark, result_line, asked_line, Path}

@@ -1,5 +1,5 @@
 -- What the rows of a page weigh together.
-use Rattle.std.proofs.Common.{◌≡◌, ◌≤◌, ◌<◌, ◌⊎◌, inl, inr, ℕ, zero, suc, ◌+◌, min, List, [], ◌∷◌, ◌++◌, Bool, true, false, cond, ◌&&◌, ◌||◌, Option, None, Some, drop, take, get_or, length, map, filter, refl, ap, sym, ◌∙◌, subst, arith, add-one, drop-cons}
+use Rattle.std.proofs.Common.{◌≡◌, ◌≤◌, ◌<◌, inl, inr, ℕ, zero, suc, ◌+◌, min, List, [], ◌∷◌, Bool, true, false, ◌&&◌, ◌||◌, Option, None, Some, drop, take, get_or, length, map, filter, refl, ap, sym, ◌∙◌, subst, arith, add-one, drop-cons}
 use Rattle.std.specs.Prelude.{nat_lt, sum_by, not}
 use Rattle.std.specs.List.{list_any, range_with_len}
 use Rattle.std.proofs.lemmas.Bool.Decides.{nat_tests}
@@ -11,7 +11,7 @@ use Rattle.gd_defs.specs.Asked.{Asked}
 use Rattle.gd_defs.specs.Rows as defs
 use Rattle.gd_defs.specs.Rows.{row_weight, rows, meets, meets_given, candidates}
 use Rattle.gd_defs.specs.Reply.{has_heavy_candidate, page, rows_after, is_heavy_page}
-use Rattle.gd_defs.specs.Template.{Template, is_answer, passes_template, weight}
+use Rattle.gd_defs.specs.Template.{Template, is_answer, weight}
 use Rattle.gd_defs.specs.Plan.{template_of}
 use Rattle.gd_order_laws.specs.Window.{In, Each}
 use Rattle.gd_order_laws.proofs.Sorted.{Each-from_members, In-filter, In-filtered}

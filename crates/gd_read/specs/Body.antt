@@ -1,5 +1,5 @@
 -- The page of a query, and the reply line that comes of it.
-use Rattle.std.specs.Prelude.{◌≡◌, ℕ, List, [], Bool, true, false, not, ◌&&◌, ◌||◌, nat_lt, Option, Some, None, length, map, Result, Ok, Err, codes}
+use Rattle.std.specs.Prelude.{◌≡◌, ℕ, List, [], Bool, true, false, ◌||◌, nat_lt, Option, length, map, Result, Ok, Err, codes}
 use Rattle.gd_prim.specs.declared.Primitive.{Primitive}
 use Rattle.gd_grammar.specs.Mark.{Mark}
 use Rattle.gd_tree.specs.Json as tree

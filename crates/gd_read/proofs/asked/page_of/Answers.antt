@@ -1,4 +1,4 @@
-use Rattle.std.proofs.Common.{◌∙◌, ap, sym, true, false, ◌&&◌}
+use Rattle.std.proofs.Common.{◌∙◌, ap, sym, false, ◌&&◌}
 use Rattle.std.proofs.lemmas.Result.{err_from_is_err_and}
 use Rattle.gd_plan.specs.Asked.{asked_view}
 use Rattle.gd_template.specs.Built.{view as template_view}

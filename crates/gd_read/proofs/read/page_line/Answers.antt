@@ -1,4 +1,3 @@
-use Rattle.std.proofs.Common.{◌∙◌}
 use Rattle.gd_prim.specs.History.{prims_of}
 use Rattle.gd_plan.specs.Asked.{asked_view}
 use Rattle.gd_read.specs.Body.{printed_view}
