@@ -1,6 +1,7 @@
 //! Lines with ample memory.
 use gd_mql::fault::{Code, LineFault, Path};
-use gd_mql::line::{LINE_LIMIT, Line, line_from};
+use gd_mql::line::{LINE_LIMIT, line_from};
+use gd_mql::request::Line;
 use std::alloc::Global;
 
 /// The line that a text spells, which is no longer than a line may be.
