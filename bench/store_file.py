@@ -3,12 +3,21 @@ import struct
 
 HEADER = b"GRAPHD1\n"
 BUILTIN_END = 70
-ROOT, NAME, KEY = 0, 13, 15
+ROOT, TYPE_OF_TYPES, TYPE_OF_PROPERTIES, TEXT, INT = 0, 5, 6, 7, 8
+NAME, TYPE, KEY, EXPECTED_TYPE, UNIQUE = 13, 14, 15, 16, 17
 
 
 def text(value):
     data = value.encode()
     return b"\x01" + struct.pack(">H", len(data)) + data
+
+
+def number(value):
+    return b"\x02" + struct.pack(">q", value)
+
+
+def truth(value):
+    return b"\x03" + bytes([value])
 
 
 def primitive(left=None, right=None, typ=None, value=b"\x00", previous=None):
@@ -60,6 +69,20 @@ class StoreFile:
         return self.add([primitive(),
                          primitive(left=self.place, right=namespace, typ=KEY, value=text(key)),
                          primitive(left=self.place, typ=NAME, value=text(name))])
+
+    def type_of(self, namespace, key):
+        """A type with a key in a namespace."""
+        return self.add([primitive(),
+                         primitive(left=self.place, right=TYPE_OF_TYPES, typ=TYPE),
+                         primitive(left=self.place, right=namespace, typ=KEY, value=text(key))])
+
+    def property_of(self, of, key, expected, unique):
+        """A property of a type, by its key there."""
+        return self.add([primitive(),
+                         primitive(left=self.place, right=TYPE_OF_PROPERTIES, typ=TYPE),
+                         primitive(left=self.place, right=of, typ=KEY, value=text(key)),
+                         primitive(left=self.place, right=expected, typ=EXPECTED_TYPE),
+                         primitive(left=self.place, typ=UNIQUE, value=truth(unique))])
 
     def close(self):
         """Ends the file with a closed gate, and gives its length."""
