@@ -1,0 +1,2 @@
+//! Pages.
+#![tactic(auto)]
