@@ -1,9 +1,9 @@
 -- Bytes of compact texts: digits, quotes, and where one part ends.
-use Rattle.std.proofs.Common.{◌≡◌, ◌≢◌, ◌⊎◌, inl, inr, ℕ, zero, suc, ◌+◌, ◌/◌, ◌%◌, ◌<◌, ◌≤◌, ◌==◌, ◌&&◌, ℤ, pos, negsuc, Bool, true, false, nat_lt, nat_le, if◌then◌else◌, List, [], ◌∷◌, ◌++◌, flat_map, codes, decimal, refl, sym, ap, arith, append_assoc, ◌∙◌, Option, Some, None}
+use Rattle.std.proofs.Common.{◌≡◌, ◌≢◌, ◌⊎◌, inl, inr, ℕ, zero, suc, ◌+◌, ◌/◌, ◌%◌, ◌<◌, ◌≤◌, ◌==◌, Bool, true, false, nat_lt, if◌then◌else◌, List, [], ◌∷◌, ◌++◌, flat_map, codes, decimal, refl, sym, ap, arith, append_assoc, ◌∙◌, Option, Some, None}
 use Rattle.std.specs.Fmt.{digits, digits_onto, digit_glyph}
-use Rattle.std.proofs.lemmas.Bool.{lt-ltb, ltb-false, ltb-true, leb-true, ne_eqb, eqb-false}
+use Rattle.std.proofs.lemmas.Bool.{lt-ltb, ne_eqb, eqb-false}
 use Rattle.gd_tree.specs.Hex.{hex}
-use Rattle.gd_tree.specs.Json.{escaped, quoted, number_text}
+use Rattle.gd_tree.specs.Json.{escaped}
 use Rattle.gd_grammar.specs.Mark.{Mark, place_text, cursor_text}
 
 pub head_same : {x y : ℕ} {xs ys : List ℕ} → x ∷ xs ≡ y ∷ ys → x ≡ y
@@ -73,18 +73,18 @@ all_digits (c ∷ cs) p = p
 
 -- ---- bytes that need no escape
 
--- each byte stands between quotes as it is
+-- each byte is one of ASCII that stands between quotes as it is
 abbrev pub Clear : List ℕ → Type 0
 Clear [] = Unit {0}
-Clear (c ∷ cs) = (c ≢ 34) × (c ≢ 92) × (31 < c) × Clear cs
+Clear (c ∷ cs) = (c ≢ 34) × (c ≢ 92) × (31 < c) × (c < 128) × Clear cs
 
 pub clear_append : (xs ys : List ℕ) → Clear xs → Clear ys → Clear (xs ++ ys)
 clear_append [] ys p q = q
-clear_append (x ∷ xs) ys p q = (p.0, p.1, p.2, clear_append xs ys p.3 q)
+clear_append (x ∷ xs) ys p q = (p.0, p.1, p.2, p.3, clear_append xs ys p.4 q)
 
 clear_digits : (xs : List ℕ) → Digits xs → Clear xs
 clear_digits [] p = tt
-clear_digits (c ∷ cs) p = (λ e. omega (arith, p.0, p.1, e), λ e. omega (arith, p.0, p.1, e), omega (arith, p.0), clear_digits cs p.2)
+clear_digits (c ∷ cs) p = (λ e. omega (arith, p.0, p.1, e), λ e. omega (arith, p.0, p.1, e), omega (arith, p.0), omega (arith, p.1), clear_digits cs p.2)
 
 pub clear_decimal : (n : ℕ) → Clear (decimal n)
 clear_decimal n = clear_digits (decimal n) (all_digits (decimal n) (decimal_digits n))
@@ -97,8 +97,8 @@ pub without_comma : (n : ℕ) → Without 44 (decimal n)
 without_comma n = without_digits (decimal n) (all_digits (decimal n) (decimal_digits n))
 
 clear_place : (key : Option ℕ) → Clear (codes ":" ++ place_text key)
-clear_place None = clear_append (codes ":") (codes "-") (λ e. omega (arith, e), λ e. omega (arith, e), omega arith, tt) (λ e. omega (arith, e), λ e. omega (arith, e), omega arith, tt)
-clear_place (Some n) = clear_append (codes ":") (decimal n) (λ e. omega (arith, e), λ e. omega (arith, e), omega arith, tt) (clear_decimal n)
+clear_place None = clear_append (codes ":") (codes "-") (λ e. omega (arith, e), λ e. omega (arith, e), omega arith, omega arith, tt) (λ e. omega (arith, e), λ e. omega (arith, e), omega arith, omega arith, tt)
+clear_place (Some n) = clear_append (codes ":") (decimal n) (λ e. omega (arith, e), λ e. omega (arith, e), omega arith, omega arith, tt) (clear_decimal n)
 
 clear_places : (keys : List (Option ℕ)) → Clear (flat_map (λ key. codes ":" ++ place_text key) keys)
 clear_places [] = tt
@@ -110,9 +110,9 @@ clear_cursor dateline m =
     (clear_append (codes "c1:" ++ decimal dateline ++ codes ":") (decimal m.object)
     (clear_append (codes "c1:" ++ decimal dateline) (codes ":")
     (clear_append (codes "c1:") (decimal dateline)
-    (λ e. omega (arith, e), λ e. omega (arith, e), omega arith, (λ e. omega (arith, e), λ e. omega (arith, e), omega arith, (λ e. omega (arith, e), λ e. omega (arith, e), omega arith, tt)))
+    (λ e. omega (arith, e), λ e. omega (arith, e), omega arith, omega arith, (λ e. omega (arith, e), λ e. omega (arith, e), omega arith, omega arith, (λ e. omega (arith, e), λ e. omega (arith, e), omega arith, omega arith, tt)))
     (clear_decimal dateline))
-    (λ e. omega (arith, e), λ e. omega (arith, e), omega arith, tt))
+    (λ e. omega (arith, e), λ e. omega (arith, e), omega arith, omega arith, tt))
     (clear_decimal m.object))
     (clear_places m.keys)
 
@@ -158,7 +158,7 @@ clear_same (c ∷ cs) p =
     let one : (c == 34) ≡ false = ne_eqb c 34 p.0 in
     let two : (c == 92) ≡ false = ne_eqb c 92 p.1 in
     let three : nat_lt 31 c ≡ true = lt-ltb 31 c p.2 in
-    rw (one, two, three) (ap (λ l. c ∷ l) (clear_same cs p.3))
+    rw (one, two, three) (ap (λ l. c ∷ l) (clear_same cs p.4))
 
 -- one byte in front of a text in quotes that reads as a clear one
 quoted_step : (c : ℕ) (s x y : List ℕ) → ((t : List ℕ) → Clear t → flat_map escaped s ++ 34 ∷ x ≡ t ++ 34 ∷ y → (s ≡ t) × (x ≡ y))
@@ -167,7 +167,7 @@ quoted_step c s x y more xs (inl (is, other)) [] p e = absurd (other (head_same 
 quoted_step c s x y more xs (inl (is, other)) (d ∷ t) p e =
     let here = ap (λ l. l ++ (flat_map escaped s ++ 34 ∷ x)) (sym is) ∙ e in
     let heads : c ≡ d = head_same here in
-    let rest = more t p.3 (tail_same here) in
+    let rest = more t p.4 (tail_same here) in
     let tails : s ≡ t = rest.0 in
     (cc (heads, tails), rest.1)
 quoted_step c s x y more xs (inr (rest, is)) [] p e = let here : 92 ≡ 34 = head_same (ap (λ l. l ++ (flat_map escaped s ++ 34 ∷ x)) (sym is) ∙ e) in absurd (omega (arith, here))

@@ -1,5 +1,5 @@
 -- Items that are joined print what their parts print.
-use Rattle.std.proofs.Common.{◌≡◌, ℕ, List, [], ◌∷◌, ◌++◌, Option, Some, None, Result, Ok, Err, codes, refl, sym, ap, subst, append_assoc, append-nil, ◌∙◌}
+use Rattle.std.proofs.Common.{◌≡◌, ℕ, List, [], ◌∷◌, ◌++◌, Result, Ok, Err, codes, refl, sym, ap, append_assoc, ◌∙◌}
 use Rattle.std.proofs.lemmas.List.{append_cancel_right}
 use Rattle.gd_grammar.specs.Chain.{◌>>=◌}
 use Rattle.gd_grammar.proofs.Steps.{ok_same}

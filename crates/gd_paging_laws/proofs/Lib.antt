@@ -5,3 +5,5 @@ pub mod Marks
 pub mod Joined
 pub mod Bounds
 pub mod Whole
+pub mod Laws
+pub mod Going

@@ -1,16 +1,16 @@
 -- What the reply line of a page tells, by the definitions.
-use Rattle.std.proofs.Common.{◌≡◌, ◌≢◌, inl, inr, ℕ, ◌<◌, ◌≤◌, pos, Bool, true, false, nat_lt, if◌then◌else◌, List, [], ◌∷◌, length, Option, Some, None, Result, Ok, Err, refl, sym, ap, subst, arith, ◌∙◌, ◌+◌, codes, append-nil}
+use Rattle.std.proofs.Common.{◌≡◌, inl, inr, ℕ, pos, Bool, true, false, nat_lt, if◌then◌else◌, List, [], ◌∷◌, length, Option, Some, None, Result, Ok, Err, refl, sym, ap, subst, arith, ◌∙◌, ◌+◌, codes, append-nil}
 use Rattle.std.specs.Option.{option_map_or}
 use Rattle.gd_prim.specs.declared.Primitive.{Primitive}
 use Rattle.gd_grammar.specs.Chain.{◌>>=◌}
 use Rattle.gd_grammar.specs.Mark.{Mark, cursor_text}
 use Rattle.gd_grammar.proofs.Steps.{steps, ok_same, not_ok}
-use Rattle.gd_tree.specs.Json.{Json, null, boolean, text, list, object, Items, no_items, item, Members, no_members, member, compact}
+use Rattle.gd_tree.specs.Json.{Json, boolean, text, list, object, Items, no_items, item, Members, no_members, member, compact}
 use Rattle.gd_defs.specs.Query.{Query}
 use Rattle.gd_defs.specs.Asked.{Asked, Unknown, asked_query}
 use Rattle.gd_defs.specs.Rows.{Row}
 use Rattle.gd_defs.specs.Lines.{err_line, ok_line, ok_cursor_line, count_json, refused_at, too_large, too_wide}
-use Rattle.gd_defs.specs.Reply.{Path, each_row, as_list, first_item, object_json, is_ambiguous, rows_after, page, has_more, page_cursor, result_json, result_line, within_reply, max_reply, max_candidate_weight, max_page_weight, has_heavy_candidate, is_heavy_page, meant_line, asked_line, reply, unknown_refusal}
+use Rattle.gd_defs.specs.Reply.{Path, each_row, as_list, first_item, object_json, is_ambiguous, rows_after, page, has_more, page_cursor, result_json, result_line, max_reply, max_candidate_weight, max_page_weight, has_heavy_candidate, is_heavy_page, meant_line, asked_line, reply, unknown_refusal}
 use Rattle.gd_order_laws.specs.Pages.{next_mark}
 use Rattle.gd_order_laws.proofs.Marks.{cursor_marks}
 use Rattle.gd_paging_laws.proofs.Bytes.{head_same, clear_cursor}
@@ -141,3 +141,9 @@ reply_told prims q dateline line d with_cursor mark c js e = by (asked_query pri
     by : (r : Result Asked Unknown) → asked_query prims q ≡ r → meant_line prims dateline line with_cursor mark r ≡ ok_cursor_line d line c (list js) → IsLine prims q dateline with_cursor mark c js
     by (Err u) is e = absurd (not_refused dateline d line line (unknown_refusal u) c (list js) e)
     by (Ok a) is e = let both = asked_told prims a dateline line d with_cursor mark c js e in record { asked = a; means = is; paged = both.0; told = both.1 }
+
+-- its cursor is one of a page
+pub line_cursor : (prims : List Primitive) (q : Query) (dateline line d : ℕ) (with_cursor : Bool) (mark : Option Mark) (c : Json) (js : Items) → reply prims dateline line with_cursor mark q ≡ ok_cursor_line d line c (list js) → IsCursor c
+line_cursor prims q dateline line d with_cursor mark c js e =
+    let is = reply_told prims q dateline line d with_cursor mark c js e in
+    subst IsCursor is.told.cursor (is_cursor dateline (page prims is.asked mark) (has_more prims is.asked mark))

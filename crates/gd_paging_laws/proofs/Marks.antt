@@ -1,12 +1,12 @@
 -- The cursor of a row is read as the mark of that row.
-use Rattle.std.proofs.Common.{◌≡◌, ℕ, suc, ◌<◌, ◌≤◌, Bool, true, false, nat_lt, if◌then◌else◌, List, [], ◌∷◌, length, Option, Some, None, Result, Ok, refl, sym, ap, subst, arith, ◌∙◌}
+use Rattle.std.proofs.Common.{◌≡◌, ℕ, suc, ◌<◌, ◌≤◌, Bool, true, false, nat_lt, if◌then◌else◌, List, [], ◌∷◌, length, Option, Some, None, Ok, refl, sym, ap, subst, arith}
 use Rattle.std.specs.Prelude.{is_none}
 use Rattle.std.specs.List.{AllByRecursion}
 use Rattle.std.proofs.lemmas.Bool.{ltb-true}
 use Rattle.gd_prim.specs.declared.Primitive.{Primitive}
 use Rattle.gd_prim.specs.Limits.{max_prims, max_requests}
 use Rattle.gd_grammar.specs.Mark.{cursor_text}
-use Rattle.gd_bytes.specs.Cursor.{Cursor, PlaceFits, cursor_of}
+use Rattle.gd_bytes.specs.Cursor.{PlaceFits, cursor_of}
 use Rattle.gd_bytes.proofs.CursorLaws.{cursor_whole}
 use Rattle.gd_defs.specs.Asked.{SortKey, Asked}
 use Rattle.gd_defs.specs.Rows.{Row, rows}
@@ -39,10 +39,12 @@ cursor_read prims a dateline r few small four here =
     let inside : known.0 < length prims = live_inside (λ p. is_none p.typ) prims known.0 known.1 in
     let object : r.object ≡ known.0 = sym (ap (λ (s : Row). s.object) known.3) in
     let keys : fitted (length prims) a.sort r.keys ≡ r.keys = ap (λ (s : Row). s.keys) (mark_again prims a r here) in
-    cursor_whole (record { dateline = dateline; after = row_mark r }) (cursor_text dateline (row_mark r))
-    (record {
-      dateline = small;
-      object = omega (arith, inside, few, object);
-      keys = subst (AllByRecursion PlaceFits) keys (fitted_places (length prims) few a.sort r.keys);
-      few = let same = ap length keys in let long = fitted_len (length prims) a.sort r.keys in omega (arith, same, long, four);
-    }, refl)
+    cursor_whole (record { dateline = dateline; after = row_mark r }) (cursor_text dateline (row_mark r)) (
+      record {
+        dateline = small;
+        object = omega (arith, inside, few, object);
+        keys = subst (AllByRecursion PlaceFits) keys (fitted_places (length prims) few a.sort r.keys);
+        few = let same = ap length keys in let long = fitted_len (length prims) a.sort r.keys in omega (arith, same, long, four);
+      },
+      refl,
+    )

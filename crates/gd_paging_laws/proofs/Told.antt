@@ -1,8 +1,8 @@
 -- What a reply line with a cursor tells can be told from its bytes.
-use Rattle.std.proofs.Common.{◌≡◌, ◌≢◌, ◌⊎◌, inl, inr, ℕ, suc, ◌≤◌, ◌<◌, ℤ, pos, negsuc, Bool, true, false, List, [], ◌∷◌, ◌++◌, flat_map, codes, decimal, get_or, drop, refl, sym, ap, subst, arith, append_assoc, ◌∙◌}
-use Rattle.std.proofs.lemmas.List.{append_cancel_left, append_cancel_right, append-nil}
-use Rattle.gd_tree.specs.Json.{Json, null, boolean, number, text, list, object, Items, no_items, item, Members, no_members, member, compact, more_items, more_members, quoted, escaped, number_text}
-use Rattle.gd_defs.specs.Lines.{Refusal, err_line, ok_line, ok_cursor_line, count_json, object_of, texts}
+use Rattle.std.proofs.Common.{◌≡◌, ◌⊎◌, inl, inr, ℕ, ◌≤◌, ℤ, pos, negsuc, true, false, List, [], ◌∷◌, ◌++◌, flat_map, codes, decimal, get_or, drop, refl, sym, ap, arith, append_assoc, ◌∙◌}
+use Rattle.std.proofs.lemmas.List.{append_cancel_left, append_cancel_right}
+use Rattle.gd_tree.specs.Json.{Json, null, boolean, number, text, list, object, no_items, item, no_members, member, compact, quoted, escaped, number_text}
+use Rattle.gd_defs.specs.Lines.{Refusal, err_line, ok_line, ok_cursor_line}
 use Rattle.gd_paging_laws.proofs.Bytes.{head_same, tail_same, up_to, SomeDigits, decimal_digits, Clear, without_comma, quoted_same, clear_same}
 
 -- ---- first bytes of values
@@ -55,7 +55,7 @@ text_told (boolean false) t x y p e = let same : 102 ≡ 34 = head_same e in abs
 text_told (number n) t x y p e = let within = number_first n x _ 34 e in absurd (omega (arith, within.0))
 text_told (text s) t x y p e =
     let inner : flat_map escaped s ++ 34 ∷ x ≡ t ++ 34 ∷ y =
-        sym (append_assoc (flat_map escaped s) (34 ∷ []) x) ∙ tail_same e ∙ append_assoc (flat_map escaped t) (34 ∷ []) y ∙ ap (λ l. l ++ 34 ∷ y) (clear_same t p) in
+    sym (append_assoc (flat_map escaped s) (34 ∷ []) x) ∙ tail_same e ∙ append_assoc (flat_map escaped t) (34 ∷ []) y ∙ ap (λ l. l ++ 34 ∷ y) (clear_same t p) in
     let both = quoted_same s t x y p inner in
     (ap text both.0, both.1)
 text_told (list no_items) t x y p e = let same : 91 ≡ 34 = head_same e in absurd (omega (arith, same))

@@ -1,10 +1,10 @@
 -- Pages of a query that were read one after another, and what it means that they are all of its rows.
-use Rattle.std.specs.Prelude.{◌≡◌, ℕ, ◌≤◌, List, [], ◌∷◌, ◌++◌, length, Bool, true, false, Option, Some, Result, Ok}
+use Rattle.std.specs.Prelude.{◌≡◌, ℕ, ◌≤◌, List, [], ◌∷◌, ◌++◌, length, Some, Ok}
 use Rattle.gd_prim.specs.declared.Primitive.{Primitive}
 use Rattle.gd_prim.specs.declared.Batch.{Batch}
 use Rattle.gd_prim.specs.History.{prims_of, prims_at}
 use Rattle.gd_prim.specs.Limits.{max_prims, max_requests}
-use Rattle.gd_tree.specs.Json.{Json, boolean, list, Items, no_items, item, compact}
+use Rattle.gd_tree.specs.Json.{Json, list, Items, no_items, item, compact}
 use Rattle.gd_defs.specs.Query.{Query}
 use Rattle.gd_defs.specs.Asked.{Asked, asked_query}
 use Rattle.gd_defs.specs.Rows.{rows}
@@ -21,12 +21,16 @@ pub record Page : Type 0 where
   pub cursor : Json
   pub items : Items
 
--- the reply line to a query that is asked with this cursor tells the page
+-- the reply line of a page
+pub record IsLineOf (p : Page) (bytes : List ℕ) : Type 0 where
+  pub dateline : ℕ
+  pub is : bytes ≡ ok_cursor_line dateline p.line p.cursor (list p.items)
+
+-- the reply line to a query that is asked with this cursor is that of the page
 pub record IsPageOf (q : Query) (from : Json) (p : Page) : Type 0 where
   pub ask : CursorAsk
   pub asked : cursor_ask (Some from) ≡ Some ask
-  pub dateline : ℕ
-  pub tells : reply_of p.batches (length p.batches) p.line (record { cursor = ask; query = q }) ≡ ok_cursor_line dateline p.line p.cursor (list p.items)
+  pub tells : IsLineOf p (reply_of p.batches (length p.batches) p.line (record { cursor = ask; query = q }))
 
 -- pages one after another, from one cursor up to another: each is asked for with the cursor that the one before told
 abbrev pub Follow : Query → Json → List Page → Json → Type 0
