@@ -5,6 +5,7 @@ use Rattle.std.proofs.lemmas.Bool.{lt-ltb, ne_eqb, eqb-false}
 use Rattle.gd_tree.specs.Hex.{hex}
 use Rattle.gd_tree.specs.Json.{escaped}
 use Rattle.gd_grammar.specs.Mark.{Mark, place_text, cursor_text}
+use Rattle.gd_paging_laws.specs.Told.{Clear}
 
 pub head_same : {x y : ℕ} {xs ys : List ℕ} → x ∷ xs ≡ y ∷ ys → x ≡ y
 head_same is = cc
@@ -72,11 +73,6 @@ all_digits [] p = absurd p
 all_digits (c ∷ cs) p = p
 
 -- ---- bytes that need no escape
-
--- each byte is one of ASCII that stands between quotes as it is
-abbrev pub Clear : List ℕ → Type 0
-Clear [] = Unit {0}
-Clear (c ∷ cs) = (c ≢ 34) × (c ≢ 92) × (31 < c) × (c < 128) × Clear cs
 
 pub clear_append : (xs ys : List ℕ) → Clear xs → Clear ys → Clear (xs ++ ys)
 clear_append [] ys p q = q

@@ -12,7 +12,8 @@ use Rattle.gd_defs.specs.Reply.{reply}
 use Rattle.gd_runs.specs.Request.{CursorAsk, no_cursor, first_page, page_after, page_reply, reply_of}
 use Rattle.gd_order_laws.specs.Window.{Each}
 use Rattle.gd_paging_laws.specs.Paged.{Page, IsLineOf, IsPageOf, Follow, Grown, OfOneStore, AreWithin, AreWhole}
-use Rattle.gd_paging_laws.proofs.Told.{IsCursor, not_refused}
+use Rattle.gd_paging_laws.specs.Told.{IsCursor}
+use Rattle.gd_paging_laws.proofs.Told.{not_refused}
 use Rattle.gd_paging_laws.proofs.Lines.{line_cursor}
 use Rattle.gd_paging_laws.proofs.Whole.{whole}
 

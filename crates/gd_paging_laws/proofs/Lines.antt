@@ -14,7 +14,8 @@ use Rattle.gd_defs.specs.Reply.{Path, each_row, as_list, first_item, object_json
 use Rattle.gd_order_laws.specs.Pages.{next_mark}
 use Rattle.gd_order_laws.proofs.Marks.{cursor_marks}
 use Rattle.gd_paging_laws.proofs.Bytes.{head_same, clear_cursor}
-use Rattle.gd_paging_laws.proofs.Told.{number_first, IsCursor, line_told, not_refused, not_without}
+use Rattle.gd_paging_laws.specs.Told.{IsCursor}
+use Rattle.gd_paging_laws.proofs.Told.{number_first, line_told, not_refused, not_without}
 
 -- what a row of the root prints
 abbrev pub row_json : List Primitive → Asked → Row → Result Json Path

@@ -3,7 +3,8 @@ use Rattle.std.proofs.Common.{◌≡◌, ◌⊎◌, inl, inr, ℕ, ◌≤◌, �
 use Rattle.std.proofs.lemmas.List.{append_cancel_left, append_cancel_right}
 use Rattle.gd_tree.specs.Json.{Json, null, boolean, number, text, list, object, no_items, item, no_members, member, compact, quoted, escaped, number_text}
 use Rattle.gd_defs.specs.Lines.{Refusal, err_line, ok_line, ok_cursor_line}
-use Rattle.gd_paging_laws.proofs.Bytes.{head_same, tail_same, up_to, SomeDigits, decimal_digits, Clear, without_comma, quoted_same, clear_same}
+use Rattle.gd_paging_laws.specs.Told.{Clear, IsCursor}
+use Rattle.gd_paging_laws.proofs.Bytes.{head_same, tail_same, up_to, SomeDigits, decimal_digits, without_comma, quoted_same, clear_same}
 
 -- ---- first bytes of values
 
@@ -63,10 +64,6 @@ text_told (list (item j js)) t x y p e = let same : 91 ≡ 34 = head_same e in a
 text_told (object no_members) t x y p e = let same : 123 ≡ 34 = head_same e in absurd (omega (arith, same))
 text_told (object (member k j ms)) t x y p e = let same : 123 ≡ 34 = head_same e in absurd (omega (arith, same))
 
--- a cursor of a page: false, or a clear text
-abbrev pub IsCursor : Json → Type 0
-IsCursor c = (c ≡ boolean false) ⊎ ((t : List ℕ) × (c ≡ text t) × Clear t)
-
 cursor_told : (c d : Json) (x y : List ℕ) → IsCursor d → compact c ++ x ≡ compact d ++ y → (c ≡ d) × (x ≡ y)
 cursor_told c d x y (inl is) e = let both = false_told c x y (e ∙ ap (λ j. compact j ++ y) is) in (both.0 ∙ sym is, both.1)
 cursor_told c d x y (inr (t, is, clear)) e = let both = text_told c t x y clear (e ∙ ap (λ j. compact j ++ y) is) in (both.0 ∙ sym is, both.1)
@@ -74,7 +71,7 @@ cursor_told c d x y (inr (t, is, clear)) e = let both = text_told c t x y clear 
 -- ---- lines
 
 -- a line with a cursor in its parts
-abbrev parts : ℕ → ℕ → Json → Json → List ℕ
+abbrev pub parts : ℕ → ℕ → Json → Json → List ℕ
 parts dateline line cursor result =
     codes "{\"code\":\"/api/status/ok\",\"cursor\":" ++ (compact cursor ++ 44 ∷ (codes "\"dateline\":" ++ (decimal dateline ++ 44 ∷ (codes "\"line\":" ++ (decimal line ++ 44 ∷ (codes "\"result\":" ++ (compact result ++ codes "}")))))))
 
@@ -82,7 +79,7 @@ parts dateline line cursor result =
 behind : (xs ys zs us : List ℕ) → ys ++ zs ≡ us → (xs ++ ys) ++ zs ≡ xs ++ us
 behind xs ys zs us is = append_assoc xs ys zs ∙ ap (λ l. xs ++ l) is
 
-line_parts : (dateline line : ℕ) (cursor result : Json) → ok_cursor_line dateline line cursor result ≡ parts dateline line cursor result
+pub line_parts : (dateline line : ℕ) (cursor result : Json) → ok_cursor_line dateline line cursor result ≡ parts dateline line cursor result
 line_parts dateline line cursor result =
     ap (λ l. codes "{\"code\":\"/api/status/ok\",\"cursor\":" ++ l)
     (behind (compact cursor) _ (codes "}") _ (ap (λ l. 44 ∷ (codes "\"dateline\":" ++ l))
