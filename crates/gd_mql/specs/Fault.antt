@@ -23,5 +23,4 @@ code_view code.BadOperand = query.bad_operand
 code_view code.BadWrite = query.bad_write
 code_view code.BadCreate = query.bad_create
 code_view code.BadConnect = query.bad_connect
-code_view code.Unbuilt = query.unbuilt
 code_view code.BadValue = query.bad_value

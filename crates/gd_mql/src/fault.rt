@@ -32,8 +32,6 @@ pub enum Code {
     BadCreate,
     /// `connect` has not the form of one.
     BadConnect,
-    /// The form is not built.
-    Unbuilt,
     /// A literal is no value of its property.
     BadValue,
 }
@@ -51,7 +49,6 @@ impl Code {
             Code::BadWrite => "the member of the write has not the form of one",
             Code::BadCreate => "the create has not the form of one",
             Code::BadConnect => "the connect has not the form of one",
-            Code::Unbuilt => "the form is not built",
             Code::BadValue => "the literal is no value of its property",
         }
     }

@@ -110,7 +110,6 @@ fn code_name(code: Code) -> &'static str
         Code::BadWrite => "bad_write",
         Code::BadCreate => "bad_create",
         Code::BadConnect => "bad_connect",
-        Code::Unbuilt => "unbuilt",
         Code::BadValue => "bad_value",
     }
 }
