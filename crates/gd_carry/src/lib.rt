@@ -2,6 +2,7 @@
 #![tactic(auto)]
 
 mod carry;
+pub mod exec;
 pub mod fault;
 mod fill;
 mod print;
