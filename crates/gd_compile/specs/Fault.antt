@@ -14,6 +14,9 @@ code_view code.BadOperator = query.bad_operator
 code_view code.ValueReversed = query.value_reversed
 code_view code.ObjectForm = query.object_form
 code_view code.BadSort = query.bad_sort
+code_view code.NotMet = query.not_met
+code_view code.BadConnect = query.bad_connect
+code_view code.BadPrevious = query.bad_previous
 
 -- the reason that this is; want of memory is none, and what it is here tells nothing
 abbrev pub unknown_of : Unknown → defs.Unknown

@@ -28,6 +28,15 @@ pub enum Code {
     /// Rows can't be sorted by this word.
     #[error("rows can not be sorted by this word")]
     BadSort,
+    /// A fact of an existing object does not hold.
+    #[error("the object does not have this value")]
+    NotMet,
+    /// The links of this property can't be updated so.
+    #[error("the links of this property can not be updated so")]
+    BadConnect,
+    /// No link of this object and property stands there.
+    #[error("no link of this object and property stands there")]
+    BadPrevious,
 }
 
 /// Why a query of a right form has no meaning at a dateline.
@@ -69,7 +78,7 @@ fn path_of(alloc: Global, names: &[&str]) -> Result<Path, Memory>
 }
 
 /// The refusal of a code at the member to which names lead from the root down.
-pub(crate) fn bad(alloc: Global, code: Code, path: &[&str]) -> Unknown
+pub fn bad(alloc: Global, code: Code, path: &[&str]) -> Unknown
     ensures { result ≢ fault.Memory → unknown_of result ≡ bad_query (code_view code) (map (λ name. name.now) path.now) }
 {
     match path_of(alloc, path) {
