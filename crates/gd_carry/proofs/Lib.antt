@@ -1,4 +1,5 @@
 pub mod Answered
+pub mod Depths
 pub mod Facts
 pub mod Fields
 pub mod Nested
@@ -6,3 +7,4 @@ pub mod Nesting
 pub mod Owners
 pub mod Views
 pub mod Walks
+pub mod Whole

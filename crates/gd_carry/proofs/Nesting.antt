@@ -35,3 +35,12 @@ pub nested_unmade : (s : Stamp) (path : List (List ℕ)) (prims then : List Prim
 nested_unmade s path prims then p w ms o n e f is refused =
     found s path prims then p w ms o n e is
     ∙ ap (λ (x : Result (Made tree.Members) ChangeFault). x >>= λ r. inserted s path r.0 p o.object (parts.to_object n) >>= λ d. Ok (d.0, λ final. tree.object (r.1 final))) refused
+
+-- where its link is refused
+pub nested_unlinked : (s : Stamp) (path : List (List ℕ)) (prims then mid : List Primitive) (p : Property) (w : CreateWord) (ms : parts.Members) (o : defined.Subject) (n : ℕ) (e : Bool) (fs : Vec (Bor (List ℕ) × Printed) Global) (f : ChangeFault)
+    → defined.subject_of s path prims w ms ≡ Ok (on n e then) → defined.carried s path then (on n e []) ms ≡ Ok (mid, λ final. fields_view final fs.items) → inserted s path mid p o.object (parts.to_object n) ≡ Err f
+    → defined.carried_item s path prims o (parts.nested p w ms) ≡ Err f
+nested_unlinked s path prims then mid p w ms o n e fs f is made refused =
+    found s path prims then p w ms o n e is
+    ∙ ap (λ (x : Result (Made tree.Members) ChangeFault). x >>= λ r. inserted s path r.0 p o.object (parts.to_object n) >>= λ d. Ok (d.0, λ final. tree.object (r.1 final))) made
+    ∙ ap (λ (x : Result Done ChangeFault). x >>= λ d. Ok (d.0, λ final. tree.object (fields_view final fs.items))) refused
