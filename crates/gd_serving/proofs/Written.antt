@@ -1,9 +1,13 @@
 -- What a write comes to, by what its steps gave.
-use Rattle.std.proofs.Common.{◌≡◌, ◌≢◌, ◌≤◌, ◌<◌, ℕ, inr, codes, ◌+◌, List, length, Bool, true, false, nat_lt, Option, Some, None, Result, Ok, Err, IfSome, refl, ap, sym, subst, ◌∙◌, arith}
+use Rattle.std.proofs.Common.{◌≡◌, ◌≢◌, ◌≤◌, ◌<◌, ℕ, inr, codes, ◌+◌, List, [], ◌∷◌, length, Bool, true, false, nat_lt, Option, Some, None, Result, Ok, Err, IfOk, refl, ap, sym, subst, ◌∙◌, arith}
 use Rattle.std.proofs.lemmas.Bool.Decides.{nat_tests}
 use Rattle.gd_prim.specs.declared.Batch.{Batch}
 use Rattle.gd_prim.specs.declared.What.TheVariants as what
+use Rattle.gd_prim.specs.History.{prims_of}
+use Rattle.gd_prim.specs.Limits.{limits, first_full}
+use Rattle.gd_prim.specs.WellFormed.{bad_place, max_moment}
 use Rattle.gd_tree.specs.Json.{Json, compact}
+use Rattle.gd_log.specs.Stored.{MayAppend}
 use Rattle.gd_defs.specs.Lines.{err_line}
 use Rattle.gd_defs.specs.Write.{WriteRequest, ChangeFault, full}
 use Rattle.gd_runs.specs.Request.{write, change_refusal, exec_after}
@@ -20,6 +24,7 @@ use Rattle.gd_served_laws.specs.Step.{ComesTo, refused, too_long, stored, in_dou
 use Rattle.gd_runs.specs.Explained.{tells_fault}
 use Rattle.gd_serving.specs.declared.serving.writing.Storable.{Storable}
 use Rattle.gd_serving.specs.Judged.{IsRefused, ComesAs}
+use Rattle.gd_serving.proofs.Alone.{written_may}
 
 -- a refusal of what the write asks
 pub refused_comes : (p : Progress) (bytes : ℕ) (w : WriteRequest) (moment : ℕ) (reply : List ℕ) (f : ChangeFault) → exec_after p.batches w moment ≡ Err f
@@ -36,6 +41,14 @@ done_is expected r done is gives = subst (λ (s : Result (Batch × Value) Fault)
 -- what a call that gave a refusal says of the write
 pub fault_is : (expected : Result (Batch × Json) ChangeFault) (r : Result (Batch × Value) Fault) (f : Fault) → r ≡ Err f → GivesChange expected r → f ≢ fault.Memory → expected ≡ Err (fault_of f)
 fault_is expected r f is gives = subst (λ (s : Result (Batch × Value) Fault). GivesChange expected s) is gives
+
+-- the batch of a write that a call gave may be appended
+pub may_be_written : (bs cs : List Batch) (w : WriteRequest) (moment : ℕ) (r : Result (Batch × Value) Fault) → bs ≡ cs → moment ≤ max_moment → GivesChange (exec_after bs w moment) r
+    → IfOk r (λ done. bad_place (prims_of bs) done.0 ≡ None) → IfOk r (λ done. first_full (limits (prims_of bs) (length bs) done.0.prims) ≡ None)
+    → IfOk r (λ done. MayAppend cs (done.0 ∷ []))
+may_be_written bs cs w moment (Err f) same early gives well_formed fits = tt
+may_be_written bs cs w moment (Ok done) same early gives well_formed fits =
+    subst (λ (xs : List Batch). MayAppend xs (done.0 ∷ [])) same (written_may bs w moment (done.0, view done.1) gives early well_formed fits)
 
 pub above : (limit n : ℕ) → limit < n → nat_lt limit n ≡ true
 above limit n h = grind (arith, nat_tests)
