@@ -1,5 +1,5 @@
 -- Pages go on by one page, up to the last one.
-use Rattle.std.proofs.Common.{◌≡◌, ℕ, ◌≤◌, Bool, true, false, if◌then◌else◌, List, [], ◌∷◌, ◌++◌, length, flat_map, Option, Some, None, Result, Ok, Err, refl, sym, ap, subst, arith, append_assoc, length-append, ◌∙◌}
+use Rattle.std.proofs.Common.{◌≡◌, ℕ, Bool, true, false, if◌then◌else◌, List, [], ◌∷◌, ◌++◌, length, flat_map, Some, None, Result, Ok, Err, refl, sym, ap, subst, arith, append_assoc, length-append, ◌∙◌}
 use Rattle.std.specs.Prelude.{nat_lt}
 use Rattle.gd_prim.specs.declared.Batch.{Batch}
 use Rattle.gd_prim.specs.Builtin.{builtin}
@@ -11,7 +11,7 @@ use Rattle.gd_defs.specs.Lines.{err_line, bad_cursor, cursor_ahead, ok_cursor_li
 use Rattle.gd_defs.specs.Reply.{reply}
 use Rattle.gd_runs.specs.Request.{CursorAsk, no_cursor, first_page, page_after, page_reply, reply_of}
 use Rattle.gd_order_laws.specs.Window.{Each}
-use Rattle.gd_paging_laws.specs.Paged.{Page, IsLineOf, IsPageOf, Follow, Grown, OfOneStore, AreWithin, AreWhole}
+use Rattle.gd_paging_laws.specs.Paged.{Page, IsPageOf, Follow, Grown, OfOneStore, AreWithin, AreWhole}
 use Rattle.gd_paging_laws.specs.Told.{IsCursor}
 use Rattle.gd_paging_laws.proofs.Told.{not_refused}
 use Rattle.gd_paging_laws.proofs.Lines.{line_cursor}

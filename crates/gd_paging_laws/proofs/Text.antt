@@ -1,12 +1,12 @@
 -- The text of a cursor, as it stands in a reply line.
-use Rattle.std.proofs.Common.{◌≡◌, ◌≢◌, inl, inr, ℕ, zero, suc, ◌+◌, ◌<◌, ◌==◌, Bool, true, false, not, nat_lt, cond, List, [], ◌∷◌, ◌++◌, length, take, drop, flat_map, codes, decimal, Option, None, Some, refl, sym, ap, subst, arith, append_assoc, length-append, ◌∙◌}
+use Rattle.std.proofs.Common.{◌≡◌, ◌≢◌, inl, inr, ℕ, zero, suc, ◌==◌, Bool, true, false, not, nat_lt, cond, List, [], ◌∷◌, ◌++◌, length, take, drop, flat_map, codes, decimal, None, Some, refl, sym, ap, subst, arith, append_assoc, length-append, ◌∙◌}
 use Rattle.std.specs.Prelude.{option_map, position}
 use Rattle.std.specs.List.{prefix_len}
 use Rattle.std.specs.Str.{IsAscii, IsUtf8}
 use Rattle.std.proofs.Math.Seq.{take-append_seam}
 use Rattle.std.proofs.lemmas.Bool.{ne_eqb, lt-ltb}
 use Rattle.std.proofs.lemmas.Str.{IsUtf8-from_ascii}
-use Rattle.gd_tree.specs.Json.{Json, boolean, text, compact, escaped, quoted}
+use Rattle.gd_tree.specs.Json.{Json, boolean, text, compact, escaped}
 use Rattle.gd_defs.specs.Lines.{ok_cursor_line}
 use Rattle.gd_paging_laws.specs.Told.{Clear, cursor_json, IsCursor}
 use Rattle.gd_paging_laws.proofs.Bytes.{head_same, clear_same}

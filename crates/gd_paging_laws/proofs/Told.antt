@@ -1,5 +1,5 @@
 -- What a reply line with a cursor tells can be told from its bytes.
-use Rattle.std.proofs.Common.{◌≡◌, ◌⊎◌, inl, inr, ℕ, ◌≤◌, ℤ, pos, negsuc, true, false, List, [], ◌∷◌, ◌++◌, flat_map, codes, decimal, get_or, drop, refl, sym, ap, arith, append_assoc, ◌∙◌}
+use Rattle.std.proofs.Common.{◌≡◌, inl, inr, ℕ, ◌≤◌, ℤ, pos, negsuc, true, false, List, [], ◌∷◌, ◌++◌, flat_map, codes, decimal, get_or, drop, refl, sym, ap, arith, append_assoc, ◌∙◌}
 use Rattle.std.proofs.lemmas.List.{append_cancel_left, append_cancel_right}
 use Rattle.gd_tree.specs.Json.{Json, null, boolean, number, text, list, object, no_items, item, no_members, member, compact, quoted, escaped, number_text}
 use Rattle.gd_defs.specs.Lines.{Refusal, err_line, ok_line, ok_cursor_line}

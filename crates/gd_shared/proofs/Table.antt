@@ -57,7 +57,7 @@ may_tell place known copy views table at = let reaches = reaches_place copy view
 pub may_learn : (place : ℕ) (known : Known) (teller : ℕ) (told : Known) → Merges IsTable place known teller told told None
 may_learn place known teller told copy views table at apart there =
     let reaches : Reaches copy.front told = ⊎_elim (λ (here : (teller ≡ place) × (told ≡ told)). absurd (apart here.0))
-        (λ (away : (teller ≢ place) × (get_elem? views teller ≡ some told)). reaches_place copy views teller told table away.1) (at_set views place teller told told there) in
+    (λ (away : (teller ≢ place) × (get_elem? views teller ≡ some told)). reaches_place copy views teller told table away.1) (at_set views place teller told told there) in
     with_place copy (set views place told) teller None (with_place copy views place told table reaches) (reaches_none copy.front)
 
 -- what is shown may be shown again

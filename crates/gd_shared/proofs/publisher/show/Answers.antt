@@ -23,8 +23,8 @@ invariant_of-publisher g c =
     subst (λ u. IsPublisher u.desk.shown.value (known u.desk.place) (drop u.behind u.log.items) p.counter f p.total) (sym c.new_unchecked-copies.ensures)
     (all_shown shown _ ops p.counter f p.total (recorded shown _ ops p.counter p.front p.total c.publisher.invariant f history all) after.desk.shown.value (known after.desk.place) (drop after.behind after.log.items) all next knows none)
 
-pub invariant_of-publisher-in-Err : goal.invariant_of-publisher-in-Err
-invariant_of-publisher-in-Err g c =
+pub invariant_of-publisher-in-Err-shown : goal.invariant_of-publisher-in-Err-shown
+invariant_of-publisher-in-Err-shown g c =
     let p = c.publisher.inside in
     let before = manually_drop_value p.copies in
     let shown : Published = before.desk.shown.value in
@@ -40,8 +40,8 @@ invariant_of-publisher-in-Err g c =
     subst (λ u. IsPublisher u.desk.shown.value (known u.desk.place) (drop u.behind u.log.items) p.counter f p.total) (sym c.new_unchecked-copies.ensures)
     (not_shown shown _ ops p.counter f p.total (recorded shown _ ops p.counter p.front p.total c.publisher.invariant f history all) after.desk.shown.value (known after.desk.place) (drop after.behind after.log.items) same knows left)
 
-pub returns-in-Ok-clause-shown : goal.returns-in-Ok-clause-shown
-returns-in-Ok-clause-shown g c =
+pub returns-in-Ok-shown-clause-shown : goal.returns-in-Ok-shown-clause-shown
+returns-in-Ok-shown-clause-shown g c =
     let p = c.publisher.inside in
     let before = manually_drop_value p.copies in
     let shown : Published = before.desk.shown.value in
@@ -54,3 +54,14 @@ returns-in-Ok-clause-shown g c =
     let none : drop after.behind after.log.items ≡ [] = search rules in
     let kept = c.new_unchecked-copies.ensures in
     (ap (λ u. u.desk.shown.value.store) kept ∙ (ap (λ q. q.store) next ∙ (all ∙ ap (λ q. q.shown ++ q.pending) c.publisher.view_is)), ap (λ u. added (drop u.behind u.log.items)) kept ∙ ap added none)
+
+pub turn-copies-requires-clause-all : goal.turn-copies-requires-clause-all
+turn-copies-requires-clause-all g c =
+    let p = c.publisher.inside in
+    let before = manually_drop_value p.copies in
+    let shown : Published = before.desk.shown.value in
+    let ops = drop before.behind before.log.items in
+    let f = c.extend.new.self in
+    let grown : f.list ≡ p.front.list ++ drop (length p.front.list) (all_of shown ops) = search rules in
+    let copies : before ≡ c.into_inner-copies.result = search rules in
+    ap (λ h. h.list) c.copy.ensures ∙ all_recorded shown _ ops _ p.front _ c.publisher.invariant f grown ∙ ap (λ w. w.desk.shown.value.store ++ added (drop w.behind w.log.items)) copies

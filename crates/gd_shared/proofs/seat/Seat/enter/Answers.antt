@@ -1,4 +1,4 @@
-use Rattle.std.proofs.Common.{rules, ◌≡◌, refl, sym, ap, ◌∙◌, subst}
+use Rattle.std.proofs.Common.{rules, refl, sym, ap, ◌∙◌, subst}
 use mathlib.Core.List.{IsPrefix}
 use Rattle.left_right.specs.Sides.{view as known}
 use Rattle.gd_shared.specs.Published.{Takes}
@@ -30,9 +30,9 @@ pub invariant_of-result-2 : goal.invariant_of-result-2
 invariant_of-result-2 c =
     let seat = c.self.inside in
     elim c.match-enter_as.branch [
-      in-Ok+else-begins w ↦
+      | in-Ok+else-begins w ↦
           let takes : Takes (known seat.reader.place) w.in-Ok.reading.part.value (known w.in-Ok.reading.place) = search (rules, w.in-Ok.ensures) in
           still_seated (known w.in-Ok.reading.place) (known c.match-enter_as.reader.place) seat.entered seat.told (ap (λ r. known r.place) w.reader-is ∙ w.leave-reader.ensures.1)
           (taken_seated (known seat.reader.place) (known w.in-Ok.reading.place) w.in-Ok.reading.part.value seat.entered seat.told takes c.self.invariant)
-    | in-Err w ↦ still_seated (known seat.reader.place) (known c.match-enter_as.reader.place) seat.entered seat.told (ap (λ r. known r.place) w.reader-is ∙ w.in-Err.ensures.1) c.self.invariant
+      | in-Err w ↦ still_seated (known seat.reader.place) (known c.match-enter_as.reader.place) seat.entered seat.told (ap (λ r. known r.place) w.reader-is ∙ w.in-Err.ensures.1) c.self.invariant
     ]

@@ -1,0 +1,6 @@
+//! Scratch.
+#![tactic(auto)]
+
+mod cursor;
+pub mod pages;
+pub mod read;
