@@ -8,7 +8,7 @@ use Rattle.std.proofs.lemmas.Bool.{ne_eqb, lt-ltb}
 use Rattle.std.proofs.lemmas.Str.{IsUtf8-from_ascii}
 use Rattle.gd_tree.specs.Json.{Json, boolean, text, compact, escaped}
 use Rattle.gd_defs.specs.Lines.{ok_cursor_line}
-use Rattle.gd_paging_laws.specs.Told.{Clear, cursor_json, IsCursor}
+use Rattle.gd_paging_laws.specs.Told.{Clear, cursor_json, IsCursor, Tells}
 use Rattle.gd_paging_laws.proofs.Bytes.{head_same, clear_same}
 use Rattle.gd_paging_laws.proofs.Told.{line_parts}
 
@@ -48,20 +48,25 @@ with_false : (dateline number : ℕ) (result : Json) (rest : List ℕ) → ok_cu
 with_false dateline number result rest is = let same : 102 ≡ 34 = head_same (ap (drop 34) (sym (line_parts dateline number (boolean false) result) ∙ is)) in omega (arith, same)
 
 -- the text up to the first quote behind the front is the cursor's
-pub told_text : (line rest : List ℕ) → line ≡ cursor_front ++ rest → (dateline number : ℕ) (c result : Json) → IsCursor c → line ≡ ok_cursor_line dateline number c result
-    → cursor_json (option_map (λ end. take end rest) (position is_quote rest)) ≡ c
-told_text line rest split dateline number c result (inl none) is = absurd (with_false dateline number result rest (sym (ap (λ c. ok_cursor_line dateline number c result) none) ∙ sym is ∙ split))
-told_text line rest split dateline number c result (inr (t, some, clear)) is =
-    let whole = with_text dateline number t result clear in
-    let same : rest ≡ t ++ 34 ∷ whole.0 = ap (drop 35) (sym split ∙ is ∙ ap (λ c. ok_cursor_line dateline number c result) some ∙ whole.1) in
-    ap (λ l. cursor_json (option_map (λ end. take end l) (position is_quote l))) same ∙ ap cursor_json (text_found t whole.0 clear) ∙ sym some
+pub told_text : (line rest : List ℕ) → line ≡ cursor_front ++ rest → (c : Json) → Tells line c → cursor_json (option_map (λ end. take end rest) (position is_quote rest)) ≡ c
+told_text line rest split c tells = by tells.cursor
+  where
+    by : IsCursor c → cursor_json (option_map (λ end. take end rest) (position is_quote rest)) ≡ c
+    by (inl none) = absurd (with_false tells.dateline tells.number tells.outcome rest (sym (ap (λ c. ok_cursor_line tells.dateline tells.number c tells.outcome) none) ∙ sym tells.is ∙ split))
+    by (inr (t, some, clear)) =
+        let whole = with_text tells.dateline tells.number t tells.outcome clear in
+        let same : rest ≡ t ++ 34 ∷ whole.0 = ap (drop 35) (sym split ∙ tells.is ∙ ap (λ c. ok_cursor_line tells.dateline tells.number c tells.outcome) some ∙ whole.1) in
+        ap (λ l. cursor_json (option_map (λ end. take end l) (position is_quote l))) same ∙ ap cursor_json (text_found t whole.0 clear) ∙ sym some
 
 -- where the line does not begin so, the cursor is false
-pub told_false : (line : List ℕ) → ((rest : List ℕ) → line ≢ cursor_front ++ rest) → (dateline number : ℕ) (c result : Json) → IsCursor c → line ≡ ok_cursor_line dateline number c result → boolean false ≡ c
-told_false line other dateline number c result (inl none) is = sym none
-told_false line other dateline number c result (inr (t, some, clear)) is =
-    let whole = with_text dateline number t result clear in
-    absurd (other (t ++ 34 ∷ whole.0) (is ∙ ap (λ c. ok_cursor_line dateline number c result) some ∙ whole.1))
+pub told_false : (line : List ℕ) → ((rest : List ℕ) → line ≢ cursor_front ++ rest) → (c : Json) → Tells line c → boolean false ≡ c
+told_false line other c tells = by tells.cursor
+  where
+    by : IsCursor c → boolean false ≡ c
+    by (inl none) = sym none
+    by (inr (t, some, clear)) =
+        let whole = with_text tells.dateline tells.number t tells.outcome clear in
+        absurd (other (t ++ 34 ∷ whole.0) (tells.is ∙ ap (λ c. ok_cursor_line tells.dateline tells.number c tells.outcome) some ∙ whole.1))
 
 -- ---- the text as UTF-8
 

@@ -1,5 +1,5 @@
 -- The pages of a query that are given one after another.
-use Rattle.std.specs.Prelude.{◌≡◌, ℕ, List, true, false, Option, None, Some}
+use Rattle.std.specs.Prelude.{◌≡◌, ℕ, List, true, false}
 use Rattle.gd_prim.specs.declared.Batch.{Batch}
 use Rattle.gd_tree.specs.Json.{Json, boolean, text}
 use Rattle.gd_defs.specs.Query.{Query}
@@ -7,11 +7,6 @@ use Rattle.gd_runs.specs.Request.{CursorAsk, no_cursor, first_page, page_after}
 use Rattle.gd_mql.specs.Requests.{cursor_view, read_view}
 use Rattle.gd_paging_laws.specs.Paged.{Page, IsLineOf}
 use Rattle.gd_read.specs.declared.pages.Pages.{Pages}
-
--- the cursor of a page: a text, or false
-abbrev pub text_json : Option (List ℕ) → Json
-text_json None = boolean false
-text_json (Some t) = text t
 
 -- the cursor with which a page is asked for
 abbrev pub ask_json : CursorAsk → Json

@@ -1,6 +1,0 @@
-//! Scratch.
-#![tactic(auto)]
-
-mod cursor;
-pub mod pages;
-pub mod read;
