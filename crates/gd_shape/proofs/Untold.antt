@@ -1,23 +1,18 @@
 -- What is printed with no walks told is what is printed without walks.
-use Rattle.std.proofs.Common.{◌≡◌, ℕ, List, [], ◌∷◌, length, Bool, true, false, Option, Some, None, Result, Ok, Err, refl, ap, ◌∙◌}
+use Rattle.std.proofs.Common.{◌≡◌, ℕ, List, [], ◌∷◌, length, Bool, true, false, Result, Ok, Err, refl, ap, ◌∙◌}
 use Rattle.std.specs.Prelude.{unwrap_or, if◌then◌else◌}
-use Rattle.gd_base.specs.declared.datum.Datum.{Datum}
-use Rattle.gd_base.specs.declared.datum.Datum.TheVariants as datum
 use Rattle.gd_prim.specs.declared.Primitive.{Primitive}
-use Rattle.gd_prim.specs.Live.{end_at, object_datum}
 use Rattle.gd_grammar.specs.Chain.{◌>>=◌}
-use Rattle.gd_tree.specs.Json.{Json, object, Items, item, Members as JsonMembers, member as json_member}
+use Rattle.gd_tree.specs.Json.{Json, object, Items, item, Members as JsonMembers}
 use Rattle.gd_tree.specs.Trees.{Tree, tree, TreeLists, first_list, rest_lists}
 use Rattle.gd_bytes.specs.Frozen.{Walk}
 use Rattle.gd_defs.specs.Property.{answer_datum}
-use Rattle.gd_defs.specs.Asked.{Own, its_id, its_guid, its_timestamp, its_link, its_value, its_namespace, Style, as_operand, as_value, as_name, as_id, as_clause, Asking, Members, no_members, own, asks, Asked}
-use Rattle.gd_defs.specs.Reply as reply
-use Rattle.gd_defs.specs.Reply.{Path, under, is_ambiguous, operand_of, is_clause, as_list, own_json}
-use Rattle.gd_runs.specs.Shape as shape
-use Rattle.gd_runs.specs.Shape.{Printed, own_shape, plain_shape, each_shape, list_shape, answers_shape, object_shape, rows_shape, page_shape}
+use Rattle.gd_defs.specs.Asked.{Style, as_operand, as_value, as_name, as_id, as_clause, Asking, Members, no_members, own, asks, Asked}
+use Rattle.gd_defs.specs.Reply.{Path, is_ambiguous, operand_of, as_list, own_json}
+use Rattle.gd_runs.specs.Shape.{Printed, each_shape, list_shape, answers_shape, object_shape, rows_shape, page_shape}
 use Rattle.gd_runs.specs.Shape.Answers.{Ranked}
 use Rattle.gd_page_laws.proofs.Printed.{untold, id_json-untold, own-untold, list-untold, front-untold, own-front, each_ranked, as_object-untold}
-use Rattle.gd_shape.specs.Printed.{each_print, given_or, found_print, cut_of, as_object, in_front, object_print, answer_print, asks_print, rows_print, page_print}
+use Rattle.gd_shape.specs.Printed.{each_print, given_or, found_print, cut_of, as_object, object_print, answer_print, asks_print, rows_print, page_print}
 
 -- ---- lists of answers
 
