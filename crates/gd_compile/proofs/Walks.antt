@@ -1,6 +1,6 @@
 -- The members of a clause, one part after another.
-use Rattle.std.proofs.Common.{◌≡◌, ◌≢◌, ℕ, max, List, Bool, true, false, ◌&&◌, Option, Some, Result, Ok, Err, refl, sym, ap, ◌∙◌, arith, codes}
-use Rattle.std.specs.Prelude.{if◌then◌else◌, bytes_eq, IsErrAnd}
+use Rattle.std.proofs.Common.{◌≡◌, ℕ, max, List, Bool, true, false, ◌&&◌, Option, Some, Result, Ok, Err, refl, sym, ap, ◌∙◌, arith, codes}
+use Rattle.std.specs.Prelude.{if◌then◌else◌, bytes_eq}
 use Rattle.std.specs.Option.{option_map_or}
 use Rattle.gd_grammar.specs.Chain.{◌>>=◌}
 use Rattle.gd_tree.specs.Json.{Json}
@@ -17,9 +17,6 @@ use Rattle.gd_mql.specs.declared.clause.Part.{Part}
 use Rattle.gd_mql.specs.declared.clause.Part.TheVariants as part
 use Rattle.gd_plan.specs.declared.asked.Member.{Member}
 use Rattle.gd_compile.specs.declared.fault.Unknown.{Unknown}
-use Rattle.gd_compile.specs.declared.fault.Unknown.TheVariants as fault
-use Rattle.gd_compile.specs.Fault.{Finds, unknown_of}
-use Rattle.gd_plan.specs.Asked.{put}
 use Rattle.gd_compile.specs.Walk.{Outcome, Leads, led, asked_member, tested_form, part_depth}
 
 -- what a part puts in front of the rest stands behind what was gathered
@@ -74,16 +71,6 @@ pub tested : (prims : List Primitive) (path : List (List ℕ)) (name : List ℕ)
 tested prims path name p operator literal j e t g is passed made =
     ap (λ (x : Expects). checked_test prims x path operator j >>= λ t. Ok (operand_form name p x literal j t)) (sym is)
     ∙ (ap (λ (r : Result Test defs.Unknown). r >>= λ t. Ok (operand_form name p e literal j t)) passed ∙ ap Ok (sym made))
-
--- a test that is refused refuses what it is for
-pub untested : (prims : List Primitive) (path : List (List ℕ)) (name : List ℕ) (p : Property) (operator : query.Operator) (literal : Bool) (j : Json) (x : Expects) (e : Unknown) (r : Result Member Unknown)
-    → x ≡ expects_of p.expected → IsErrAnd r (λ why. why ≡ e) → (e ≢ fault.Memory → checked_test prims x path operator j ≡ Err (unknown_of e))
-    → Finds put (tested_form prims path name p operator literal j) r
-untested prims path name p operator literal j x e (Ok m) is same refused = absurd same
-untested prims path name p operator literal j x e (Err why) is same refused = λ known.
-    let given : e ≢ fault.Memory = λ none. known (same ∙ none) in
-    ap (λ (y : Expects). checked_test prims y path operator j >>= λ t. Ok (operand_form name p y literal j t)) (sym is)
-    ∙ (ap (λ (d : Result Test defs.Unknown). d >>= λ t. Ok (operand_form name p x literal j t)) (refused given) ∙ ap (λ (u : Unknown). Err (unknown_of u)) (sym same))
 
 -- forms lie as deep in a part and behind it as in all
 pub part_within : (p : Part) (ms : query.Members) → forms_depth (with_part p ms) ≡ max (part_depth p) (forms_depth ms)
