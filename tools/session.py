@@ -5,8 +5,9 @@ import queue
 import subprocess
 import threading
 
-TOP = os.path.dirname(os.path.dirname(os.path.abspath(__file__)))
-PROGRAM = os.path.join(TOP, "graphd")
+TOP = os.path.dirname(os.path.dirname(os.path.realpath(__file__)))
+# GRAPHD names another program than the one that is built here.
+PROGRAM = os.environ.get("GRAPHD", os.path.join(TOP, "graphd"))
 # A round has at most so many lines, and a list or an object of a line so many parts.
 ROUND = 256
 PARTS = 64
