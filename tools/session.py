@@ -21,6 +21,10 @@ class Ended(Exception):
         self.status = status
 
 
+class Refused(Exception):
+    """A page of a list was refused, by this reply."""
+
+
 def line_of(request, sid=0):
     """The line of a request, which is `read` or `write` with its members, or a line with its session as it is."""
     whole = request if "sid" in request else dict(request, sid=sid)
@@ -61,7 +65,7 @@ class Session:
         while cursor:
             reply = self.ask({"read": {"cursor": cursor, "query": [query]}})
             if "error" in reply:
-                raise ValueError(json.dumps(reply))
+                raise Refused(json.dumps(reply))
             yield from reply["result"]
             cursor = reply["cursor"]
 
