@@ -17,7 +17,8 @@ class Ended(Exception):
     """The program ended, with this status, before it had answered."""
 
     def __init__(self, status):
-        super().__init__("the program ended with status %d" % status)
+        hint = ": the disk failed, or another program has the file open" if status == 5 else ""
+        super().__init__("the program ended with status %d%s" % (status, hint))
         self.status = status
 
 
