@@ -48,7 +48,8 @@ QUESTIONS = [
              lambda rows: [(row["name"],) for row in rows if len(row["packages"]) > 5],
              "select m.name from maintainer m join package p using (maintainer) group by m.maintainer having count(*) > 5 order by m.name"),
     Question("Which packages need both libssl3 and zlib1g?",
-             [{"type": "/deb/package", "name": None, "a:depends": {"id": "/deb/packages/libssl3"}, "b:depends": {"id": "/deb/packages/zlib1g"}}], names,
+             [{"type": "/deb/package", "name": None, "a:depends": {"id": "/deb/packages/libssl3"},
+               "b:depends": {"id": "/deb/packages/zlib1g"}}], names,
              "select p.package from package p where exists (select 1 from depends d join package q on q.id = d.needs where d.package = p.id"
              " and q.package = 'libssl3') and exists (select 1 from depends d join package q on q.id = d.needs where d.package = p.id"
              " and q.package = 'zlib1g') order by p.id limit 100"),
