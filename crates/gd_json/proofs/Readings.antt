@@ -1,13 +1,13 @@
 -- A tree beside the data that it is, and whether it has a reading.
-use Rattle.std.proofs.Common.{◌≡◌, ℕ, List, [], ◌∷◌, ◌++◌, Bool, true, false, ◌&&◌, Option, Some, None, Result, Ok, Err, refl, sym, ap, ◌∙◌}
+use Rattle.std.proofs.Common.{◌≡◌, ℕ, List, true, ◌&&◌, Option, Some, None, Ok, Err, refl, sym, ap, ◌∙◌}
 use Rattle.std.specs.Prelude.{is_some, option_map, option_and_then}
 use Rattle.std.specs.Option.{ok_or}
 use Rattle.json.specs.Json as json
 use Rattle.serde_json.specs.Data as data_of
 use Rattle.serde_json.specs.Data.{Data, put}
 use Rattle.serde_json.specs.Read.{number_of, of_json, of_items, of_members}
-use Rattle.gd_grammar.proofs.Steps.{some_same, not_some, some_given, Maybe, maybe, Mapped, mapped}
-use Rattle.gd_json.specs.Text.{as_data, items_data, members_data, number_data, items_read, members_read, tree_of, reading_of, text_reading}
+use Rattle.gd_grammar.proofs.Steps.{some_same, some_given, maybe, mapped}
+use Rattle.gd_json.specs.Text.{as_data, items_data, members_data, items_read, members_read, tree_of, reading_of, text_reading}
 use Rattle.gd_json.specs.declared.from.JsonFault.{JsonFault}
 use Rattle.gd_json.specs.declared.from.JsonFault.TheVariants.{BadJson}
 

@@ -1,11 +1,11 @@
 use Rattle.std.proofs.Math.ListN.{drop_of_length-le}
-use Rattle.std.proofs.Common.{◌≡◌, ◌+◌, [], map, drop, sym, ap, ◌∙◌, subst, arith}
+use Rattle.std.proofs.Common.{◌+◌, map, drop, sym, ap, ◌∙◌, subst, arith}
 use Rattle.gd_base.specs.Answers.{Gives}
 use Rattle.json.specs.Value.{value_view, items_view as values_view, members_view as map_view}
-use Rattle.serde_json.specs.Data.{no_members, member}
+use Rattle.serde_json.specs.Data.{member}
 use Rattle.gd_json.specs.View.{view, member_view}
-use Rattle.gd_json.specs.Reading.{value_at, items_at, members_at, object_of}
-use Rattle.gd_json.specs.Text.{as_data, items_data, members_data, plain_members, entries_data, object_at}
+use Rattle.gd_json.specs.Reading.{value_at, items_at, members_at}
+use Rattle.gd_json.specs.Text.{as_data, items_data, plain_members, entries_data, object_at}
 use Rattle.gd_json.specs.declared.from.JsonFault.TheVariants.{Memory as no_memory}
 use Rattle.gd_json.proofs.Parts.{left_at}
 use Rattle.gd_json.proofs.Rising.{rising_members}
