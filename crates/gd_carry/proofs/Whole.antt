@@ -54,10 +54,14 @@ looked_up prims w moment i is = ap (λ (x : Result (Option ℕ × (Option ℕ ×
 pub unmeant : (prims : List Primitive) (w : WriteRequest) (moment : ℕ) (u : Unknown) → intent_of prims w ≡ Err u → written prims w moment ≡ Err (unknown u)
 unmeant prims w moment u is = ap (λ (x : Result (Option ℕ × (Option ℕ × parts.Members)) Unknown). map_err unknown x >>= λ i. carried_out prims w.change.root i moment) is
 
+-- a scope with the root and its members
+abbrev scoped : Option ℕ → Option ℕ × parts.Members → Result (Option ℕ × (Option ℕ × parts.Members)) Unknown
+scoped s r = Ok (s, r)
+
 -- what is done one step after another is done in these steps
 in_steps : (a : Result (Option ℕ) Unknown) (b : Result (Option ℕ × parts.Members) Unknown) (c : Option ℕ → Option ℕ × parts.Members → Result (Made tree.Members) ChangeFault)
     (g : Made tree.Members → Batch × tree.Json) (k : Batch × tree.Json → Result (Batch × tree.Json) ChangeFault)
-    → (map_err unknown a >>= λ s. map_err unknown b >>= λ r. c s r >>= λ m. k (g m)) ≡ ((map_err unknown (a >>= λ s. b >>= λ r. Ok (s, r)) >>= λ i. c i.0 i.1 >>= λ m. Ok (g m)) >>= k)
+    → (map_err unknown a >>= λ s. map_err unknown b >>= λ r. c s r >>= λ m. k (g m)) ≡ ((map_err unknown (a >>= λ s. b >>= λ r. scoped s r) >>= λ i. c i.0 i.1 >>= λ m. Ok (g m)) >>= k)
 in_steps (Err e) b c g k = refl
 in_steps (Ok s) (Err e) c g k = refl
 in_steps (Ok s) (Ok r) c g k = by (c s r)
