@@ -1,5 +1,5 @@
 -- A write carried out whole.
-use Rattle.std.proofs.Common.{◌≡◌, ℕ, List, [], Bool, Option, Some, None, Result, Ok, Err, refl, sym, ap, ◌∙◌, drop, length}
+use Rattle.std.proofs.Common.{◌≡◌, ◌≢◌, ℕ, List, [], Bool, Option, Some, None, Result, Ok, Err, refl, sym, ap, ◌∙◌, drop, length}
 use Rattle.gd_grammar.specs.Chain.{◌>>=◌, map_err}
 use Rattle.gd_prim.specs.declared.Primitive.{Primitive}
 use Rattle.gd_prim.specs.declared.Batch.{Batch}
@@ -15,6 +15,11 @@ use Rattle.gd_defs.specs.Write.Carried.{Made}
 use Rattle.gd_intent.specs.Walk.{intent_of}
 use Rattle.gd_carry.specs.Printed.{Field, fields_view}
 use Rattle.gd_carry.specs.declared.print.Printed.{Printed}
+use Rattle.gd_compile.specs.declared.fault.Unknown.{Unknown as Unmeant}
+use Rattle.gd_compile.specs.declared.fault.Unknown.TheVariants as reason
+use Rattle.gd_compile.specs.Fault.{unknown_of}
+use Rattle.gd_carry.specs.declared.fault.ChangeFault.TheVariants as fault
+use Rattle.gd_carry.specs.Outcome.{fault_of, from_unknown}
 use Rattle.gd_carry.specs.Exec.{carried_out, done_of, written}
 use Rattle.gd_carry.proofs.Nested.{on, same_members}
 
@@ -74,3 +79,16 @@ in_steps (Ok s) (Ok r) c g k = by (c s r)
 pub exec_written : (prims : List Primitive) (requests : ℕ) (w : WriteRequest) (moment : ℕ) → exec prims requests w moment ≡ (written prims w moment >>= λ d. fitting prims requests d.0 d.1)
 exec_written prims requests w moment = in_steps (write.scope_of prims w.scope) (write.resolved_root prims w.change)
     (λ scope r. write.carried_root (record { scope = scope; moment = moment }) prims w.change.root r) (done_of moment prims) (λ d. fitting prims requests d.0 d.1)
+
+-- a reason that is told is not want of memory, and stays the same
+pub told : (e : Unmeant) → from_unknown e ≢ fault.Memory → e ≢ reason.Memory
+told (reason.NoSuchId id) known = λ is. cc
+told (reason.NoSuchProperty path) known = λ is. cc
+told (reason.BadQuery code path) known = λ is. cc
+told reason.Memory known = absurd (known refl)
+
+pub same_told : (e : Unmeant) → from_unknown e ≢ fault.Memory → fault_of (from_unknown e) ≡ unknown (unknown_of e)
+same_told (reason.NoSuchId id) known = refl
+same_told (reason.NoSuchProperty path) known = refl
+same_told (reason.BadQuery code path) known = refl
+same_told reason.Memory known = absurd (known refl)

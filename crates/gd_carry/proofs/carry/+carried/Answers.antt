@@ -1,4 +1,4 @@
-use Rattle.std.proofs.Common.{◌≡◌, ◌++◌, ◌∷◌, [], ◌∙◌, ap, sym, subst, map, drop, ◌+◌, Bor, List, ℕ, Result, Ok, arith}
+use Rattle.std.proofs.Common.{◌≡◌, ◌++◌, ◌∷◌, [], ◌∙◌, ap, sym, subst, map, drop, ◌+◌, Bor, List, ℕ, Result, Ok, refl, arith}
 use Rattle.std.proofs.lemmas.Result.{err_from_is_err_and}
 use Rattle.gd_grammar.specs.Chain.{◌>>=◌}
 use Rattle.gd_prim.specs.declared.Primitive.{Primitive}
@@ -9,11 +9,12 @@ use Rattle.gd_defs.specs.Write.Carried as defined
 use Rattle.gd_growing.specs.State.{so_far}
 use Rattle.gd_intent.specs.Seen.{item_view, members_view, many_view}
 use Rattle.gd_carry.specs.Outcome.{put, all_led, many_led, subject_view}
-use Rattle.gd_carry.proofs.Walks.{entries_left, items_left, field_added, item_added}
+use Rattle.gd_carry.proofs.Walks.{entries_left, items_left, field_added, item_added, none_led, no_item_led}
 use Rattle.gd_mql.specs.Changes.{create_view}
 use Rattle.gd_intent.specs.declared.intent.Entry.{Entry}
 use Rattle.gd_intent.specs.declared.intent.Item.{Item}
-use Rattle.gd_carry.specs.Printed.{printed_view}
+use Rattle.gd_carry.specs.Printed.{Field, printed_view}
+use Rattle.gd_carry.specs.declared.print.Printed.{Printed}
 use Rattle.gd_carry.specs.Outcome.{Makes}
 use Rattle.gd_carry.proofs.Nested.{nested_view, same_members}
 use Rattle.gd_carry.proofs.Nesting.{nested_done, nested_unmade, nested_unlinked}
@@ -104,3 +105,19 @@ pub carried_items-carried_item-requires : goal.carried_items-carried_item-requir
 carried_items-carried_item-requires t c =
     let below = item_in c.args.items.now c.loop-item.item-index c.item-item.result c.loop-item-test.true c.item-item.is in
     omega (arith, below)
+
+pub carried-loop-entry-init : goal.carried-loop-entry-init
+carried-loop-entry-init t c =
+    let whole = defined.carried c.args.stamp.now (map (λ (n : Bor (List ℕ)). n.now) c.args.path.now) (so_far c.args.growing.now) (subject_view c.args.subject.now) (members_view c.args.members.now) in
+    record {
+      whole = none_led whole ∙ ap (λ (fs : List (Field Printed)). whole >>= λ r. Ok (all_led fs r)) (sym c.new-fields.ensures.items);
+      below = refl;
+    }
+
+pub carried_items-loop-item-init : goal.carried_items-loop-item-init
+carried_items-loop-item-init t c =
+    let whole = defined.carried_items c.args.stamp.now (map (λ (n : Bor (List ℕ)). n.now) c.args.path.now) (so_far c.args.growing.now) (subject_view c.args.subject.now) (many_view c.args.items.now) in
+    record {
+      whole = no_item_led whole ∙ ap (λ (ps : List Printed). whole >>= λ r. Ok (many_led ps r)) (sym c.new-done.ensures.items);
+      below = refl;
+    }
