@@ -1,7 +1,7 @@
 -- What a refusal prints.
 use Rattle.std.specs.Prelude.{[], ◌∷◌, ◌<◌, ◌^◌, codes}
 use Rattle.gd_tree.specs.Json.{text}
-use Rattle.gd_defs.specs.Lines.{Refusal as Printed, refusal as printed, refused_at, count_json, too_wide, too_large, bad_cursor, cursor_ahead}
+use Rattle.gd_defs.specs.Lines.{Refusal as Printed, refusal as printed, refused_at, too_wide, too_large, bad_cursor, cursor_ahead}
 use Rattle.gd_defs.specs.Write.{key_taken, stale_version, full}
 use Rattle.gd_defs.specs.Reply.{bad_query_refusal}
 use Rattle.gd_runs.specs.Request.{change_refusal}
