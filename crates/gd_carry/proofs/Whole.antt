@@ -1,5 +1,5 @@
 -- A write carried out whole.
-use Rattle.std.proofs.Common.{◌≡◌, ℕ, List, [], Bool, Option, Some, None, Result, Ok, Err, refl, sym, ap, ◌∙◌, drop, length}
+use Rattle.std.proofs.Common.{◌≡◌, ◌≢◌, ℕ, List, [], Bool, Option, Some, None, Result, Ok, Err, refl, sym, ap, ◌∙◌, drop, length}
 use Rattle.gd_grammar.specs.Chain.{◌>>=◌, map_err}
 use Rattle.gd_prim.specs.declared.Primitive.{Primitive}
 use Rattle.gd_prim.specs.declared.Batch.{Batch}
@@ -15,6 +15,11 @@ use Rattle.gd_defs.specs.Write.Carried.{Made}
 use Rattle.gd_intent.specs.Walk.{intent_of}
 use Rattle.gd_carry.specs.Printed.{Field, fields_view}
 use Rattle.gd_carry.specs.declared.print.Printed.{Printed}
+use Rattle.gd_compile.specs.declared.fault.Unknown.{Unknown as Unmeant}
+use Rattle.gd_compile.specs.declared.fault.Unknown.TheVariants as reason
+use Rattle.gd_compile.specs.Fault.{unknown_of}
+use Rattle.gd_carry.specs.declared.fault.ChangeFault.TheVariants as fault
+use Rattle.gd_carry.specs.Outcome.{fault_of, from_unknown}
 use Rattle.gd_carry.specs.Exec.{carried_out, done_of, written}
 use Rattle.gd_carry.proofs.Nested.{on, same_members}
 
@@ -54,10 +59,14 @@ looked_up prims w moment i is = ap (λ (x : Result (Option ℕ × (Option ℕ ×
 pub unmeant : (prims : List Primitive) (w : WriteRequest) (moment : ℕ) (u : Unknown) → intent_of prims w ≡ Err u → written prims w moment ≡ Err (unknown u)
 unmeant prims w moment u is = ap (λ (x : Result (Option ℕ × (Option ℕ × parts.Members)) Unknown). map_err unknown x >>= λ i. carried_out prims w.change.root i moment) is
 
+-- a scope with the root and its members
+abbrev scoped : Option ℕ → Option ℕ × parts.Members → Result (Option ℕ × (Option ℕ × parts.Members)) Unknown
+scoped s r = Ok (s, r)
+
 -- what is done one step after another is done in these steps
 in_steps : (a : Result (Option ℕ) Unknown) (b : Result (Option ℕ × parts.Members) Unknown) (c : Option ℕ → Option ℕ × parts.Members → Result (Made tree.Members) ChangeFault)
     (g : Made tree.Members → Batch × tree.Json) (k : Batch × tree.Json → Result (Batch × tree.Json) ChangeFault)
-    → (map_err unknown a >>= λ s. map_err unknown b >>= λ r. c s r >>= λ m. k (g m)) ≡ ((map_err unknown (a >>= λ s. b >>= λ r. Ok (s, r)) >>= λ i. c i.0 i.1 >>= λ m. Ok (g m)) >>= k)
+    → (map_err unknown a >>= λ s. map_err unknown b >>= λ r. c s r >>= λ m. k (g m)) ≡ ((map_err unknown (a >>= λ s. b >>= λ r. scoped s r) >>= λ i. c i.0 i.1 >>= λ m. Ok (g m)) >>= k)
 in_steps (Err e) b c g k = refl
 in_steps (Ok s) (Err e) c g k = refl
 in_steps (Ok s) (Ok r) c g k = by (c s r)
@@ -70,3 +79,16 @@ in_steps (Ok s) (Ok r) c g k = by (c s r)
 pub exec_written : (prims : List Primitive) (requests : ℕ) (w : WriteRequest) (moment : ℕ) → exec prims requests w moment ≡ (written prims w moment >>= λ d. fitting prims requests d.0 d.1)
 exec_written prims requests w moment = in_steps (write.scope_of prims w.scope) (write.resolved_root prims w.change)
     (λ scope r. write.carried_root (record { scope = scope; moment = moment }) prims w.change.root r) (done_of moment prims) (λ d. fitting prims requests d.0 d.1)
+
+-- a reason that is told is not want of memory, and stays the same
+pub told : (e : Unmeant) → from_unknown e ≢ fault.Memory → e ≢ reason.Memory
+told (reason.NoSuchId id) known = λ is. cc
+told (reason.NoSuchProperty path) known = λ is. cc
+told (reason.BadQuery code path) known = λ is. cc
+told reason.Memory known = absurd (known refl)
+
+pub same_told : (e : Unmeant) → from_unknown e ≢ fault.Memory → fault_of (from_unknown e) ≡ unknown (unknown_of e)
+same_told (reason.NoSuchId id) known = refl
+same_told (reason.NoSuchProperty path) known = refl
+same_told (reason.BadQuery code path) known = refl
+same_told reason.Memory known = absurd (known refl)

@@ -1,10 +1,11 @@
 //! What a write does.
-ghost use Rattle.std.specs.Prelude.{◌≡◌, ◌≤◌, None, IfOk, IfErr, length};
-ghost use Rattle.gd_prim.specs.History.{prims_of};
+ghost use Rattle.std.specs.Prelude.{◌≡◌, ◌≤◌, None, IfOk, IfErr, IsTrue, length};
+ghost use Rattle.gd_prim.specs.History.{is_history, prims_of};
 ghost use Rattle.gd_prim.specs.WellFormed.{bad_place};
 ghost use Rattle.gd_prim.specs.Limits.{limits, first_full};
 ghost use Rattle.gd_mql.specs.Requests.{write_view};
 ghost use Rattle.gd_runs.specs.Request.{exec_after};
+ghost use Rattle.gd_carry.specs.Exec.{written};
 ghost use Rattle.gd_change.specs.Fault.{GivesChange, IsSmall};
 
 use crate::fault::ChangeFault;
@@ -14,6 +15,20 @@ use gd_mql::request::WriteRequest;
 use gd_prim::Batch;
 use gd_store::store::Store;
 use std::alloc::Global;
+
+/// What a write does after the batches of the store, whichever limits it passes.
+fn made(
+    alloc: Global,
+    store: &Store,
+    request: &WriteRequest,
+    moment: u64,
+) -> Result<(Batch, Json), ChangeFault>
+    ensures made { GivesChange (written (prims_of store.now) (write_view request.now) moment) result }
+    ensures history { IsTrue (is_history store.now) }
+{
+    let view = store.view(store.requests());
+    written(alloc, &view, request, moment)
+}
 
 /// What a write does at a moment, in milliseconds since 1970-01-01 in UTC, after the batches of the store: the batch that
 /// it makes, and the request printed back with its answers. The refusals come in the order of the work. First its words
@@ -36,8 +51,7 @@ pub fn evaluate(
     ensures well_formed { IfOk result (λ done. bad_place (prims_of store.now) done.0 ≡ None) }
     ensures fits { IfOk result (λ done. first_full (limits (prims_of store.now) (length store.now) done.0.prims) ≡ None) }
 {
-    let view = store.view(store.requests());
-    let (batch, outcome) = written(alloc, &view, request, moment)?;
-    store.fits(&batch)?;
-    Ok((batch, outcome))
+    let done = made(alloc, store, request, moment)?;
+    store.fits(&done.0)?;
+    Ok(done)
 }

@@ -1,18 +1,20 @@
 -- A walk over the parts of a value: what came so far, and what comes of the rest.
-use Rattle.std.proofs.Common.{◌≡◌, ℕ, ◌+◌, ◌≤◌, ◌<◌, List, [], ◌∷◌, ◌++◌, map, length, Result, Ok, Err, Vec, String, Global, BTreeMap, refl, sym, ap, ◌∙◌, arith}
+use Rattle.std.proofs.Common.{◌≡◌, ℕ, suc, Bor, ◌+◌, ◌≤◌, ◌<◌, List, [], ◌∷◌, ◌++◌, map, length, Result, Ok, Err, Vec, Global, refl, sym, ap, ◌∙◌, arith}
 use Rattle.std.proofs.lemmas.Bool.Decides.{nat_tests}
 use Rattle.std.proofs.lemmas.List.{map-append}
 use Rattle.serde_json.specs.Data as data_of
 use Rattle.serde_json.specs.Data.{Data}
-use Rattle.serde_json.specs.View.{view as value_view, items_view as values_view, members_view as map_view}
-use Rattle.serde_json.specs.declared.value.Value.{Value, Array, Object}
-use Rattle.serde_json.proofs.Views.{view-Array, view-Object, items_len-items_view, members_len-members_view}
 use Rattle.gd_grammar.specs.Chain.{◌>>=◌}
 use Rattle.gd_tree.specs.Json as tree
 use Rattle.gd_tree.specs.Json.{Items, no_items, item, Members, no_members, member}
 use Rattle.gd_json.specs.View.{items_of, members_of, view, member_view}
 use Rattle.gd_json.specs.declared.value.Json.{Json, List as List', Object as Object'}
 use Rattle.gd_json.proofs.Parts.{view-List, view-Object as view-Object'}
+use Rattle.json.specs.Value.{value_view, items_view as values_view, members_view as map_view}
+use Rattle.json.specs.declared.value.Value.{Value, Array}
+use Rattle.json.proofs.Trees.{view-Array}
+use Rattle.serde_json.specs.Events.{items_len, members_len}
+use Rattle.gd_json.specs.Text.{as_data, items_data, plain_members, entries_data, object_at}
 use Rattle.gd_json.specs.Reading.{within, list_of, object_of, value_at, items_at, members_at}
 use Rattle.gd_json.specs.declared.from.JsonFault.{JsonFault}
 use Rattle.gd_json.specs.declared.from.JsonFault.TheVariants.{TooWide}
@@ -85,22 +87,33 @@ within_limits level parts r fine narrow = grind (arith, nat_tests)
 pub within_too_wide : (level parts : ℕ) (r : Result tree.Json JsonFault) → level ≤ 16 → 64 < parts → within level parts r ≡ Err TooWide
 within_too_wide level parts r fine wide = grind (arith, nat_tests)
 
+pub items_count : (js : List (Value Global)) → items_len (items_data (values_view js)) ≡ length js
+items_count [] = refl
+items_count (j ∷ js) = ap suc (items_count js)
+
+pub members_count : (ms : List (Bor (List ℕ) × Value Global)) → members_len (plain_members (map_view ms)) ≡ length ms
+members_count [] = refl
+members_count (m ∷ ms) = ap suc (members_count ms)
+
+pub entries_count : (es : List (Bor (List ℕ) × Bor (Value Global))) → members_len (entries_data es) ≡ length es
+entries_count [] = refl
+entries_count (e ∷ es) = ap suc (entries_count es)
+
 -- a list that is neither too deep nor too wide
-pub list_within : (level : ℕ) (v : Vec Value Global) → level ≤ 16 → length v.items ≤ 64 → value_at level (value_view (Array v)) ≡ list_of (items_at (level + 1) (values_view v.items))
+pub list_within : (level : ℕ) (v : Vec (Value Global) Global) → level ≤ 16 → length v.items ≤ 64 → value_at level (as_data (value_view (Array v))) ≡ list_of (items_at (level + 1) (items_data (values_view v.items)))
 list_within level v fine narrow =
-    ap (value_at level) (view-Array v) ∙ ap (λ n. within level n (list_of (items_at (level + 1) (values_view v.items)))) (items_len-items_view v.items) ∙ within_limits level _ _ fine narrow
+    ap (λ j. value_at level (as_data j)) (view-Array v) ∙ ap (λ n. within level n (list_of (items_at (level + 1) (items_data (values_view v.items))))) (items_count v.items) ∙ within_limits level _ _ fine narrow
 
-pub list_too_wide : (level : ℕ) (v : Vec Value Global) → level ≤ 16 → 64 < length v.items → value_at level (value_view (Array v)) ≡ Err TooWide
+pub list_too_wide : (level : ℕ) (v : Vec (Value Global) Global) → level ≤ 16 → 64 < length v.items → value_at level (as_data (value_view (Array v))) ≡ Err TooWide
 list_too_wide level v fine wide =
-    ap (value_at level) (view-Array v) ∙ ap (λ n. within level n (list_of (items_at (level + 1) (values_view v.items)))) (items_len-items_view v.items) ∙ within_too_wide level _ _ fine wide
+    ap (λ j. value_at level (as_data j)) (view-Array v) ∙ ap (λ n. within level n (list_of (items_at (level + 1) (items_data (values_view v.items))))) (items_count v.items) ∙ within_too_wide level _ _ fine wide
 
-pub object_within : (level : ℕ) (m : BTreeMap (String Global) Value) → level ≤ 16 → length m.entries ≤ 64 → value_at level (value_view (Object m)) ≡ object_of (members_at (level + 1) (map_view m.entries))
-object_within level m fine narrow =
-    ap (value_at level) (view-Object m) ∙ ap (λ n. within level n (object_of (members_at (level + 1) (map_view m.entries)))) (members_len-members_view m.entries) ∙ within_limits level _ _ fine narrow
+-- an object that is not too wide
+pub object_within : (level n : ℕ) (ds : data_of.Members) → members_len ds ≡ n → n ≤ 64 → object_at level ds ≡ object_of (members_at level ds)
+object_within level n ds count narrow = ap (λ n. within 1 n (object_of (members_at level ds))) count ∙ within_limits 1 _ _ (omega arith) narrow
 
-pub object_too_wide : (level : ℕ) (m : BTreeMap (String Global) Value) → level ≤ 16 → 64 < length m.entries → value_at level (value_view (Object m)) ≡ Err TooWide
-object_too_wide level m fine wide =
-    ap (value_at level) (view-Object m) ∙ ap (λ n. within level n (object_of (members_at (level + 1) (map_view m.entries)))) (members_len-members_view m.entries) ∙ within_too_wide level _ _ fine wide
+pub object_too_wide : (level n : ℕ) (ds : data_of.Members) → members_len ds ≡ n → 64 < n → object_at level ds ≡ Err TooWide
+object_too_wide level n ds count wide = ap (λ n. within 1 n (object_of (members_at level ds))) count ∙ within_too_wide 1 _ _ (omega arith) wide
 
 -- a list whose items were all converted
 pub list_done : (level : ℕ) (ds : data_of.Items) (list : Vec Json Global) → items_then (map view list.items) (Ok no_items) ≡ items_at level ds → list_of (items_at level ds) ≡ Ok (view (List' list))

@@ -2,3 +2,4 @@ pub mod View
 pub mod Tokens
 pub mod Reading
 pub mod Bounded
+pub mod Text

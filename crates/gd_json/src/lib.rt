@@ -3,5 +3,7 @@
 
 pub mod copy;
 pub mod from;
+mod number;
 pub mod text;
+mod tree;
 pub mod value;

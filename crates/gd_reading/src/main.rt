@@ -1,73 +1,75 @@
-//! Reads lines as JSON and does nothing else with them, so that what the reading of a line costs can be told from the
-//! rest.
+//! Reads lines, as JSON or as requests, and does nothing else with them, so that what the reading of a line costs can be
+//! told from the rest.
 #![tactic(auto)]
 
+mod lines;
 mod trouble;
 
-ghost use Rattle.std.specs.Prelude.{◌≡◌, IfOk, IsUtf8, is_some};
-ghost use Rattle.serde_json.specs.Read.{read as read_text};
-
+use crate::lines::{Form, is_of_form};
 use crate::trouble::Trouble;
-use serde_json::Value;
 use std::alloc::Global;
+use std::env;
 use std::io::{BufRead, BufReader};
 use std::process::ExitCode;
+use std::rt::Env;
 
-/// How many lines there were, and how many of them are JSON.
+/// How many lines there were, and how many of them are of the form that they were read as.
 #[derive(Clone, Copy)]
 struct Count {
     lines: u64,
-    json: u64,
-}
-
-/// Whether the bytes are JSON. `Memory`: there was no memory to read them.
-fn is_json(alloc: Global, bytes: &[u8]) -> Result<bool, Trouble>
-    ensures { IfOk result (λ json. IsUtf8 bytes.now → json ≡ is_some (read_text bytes.now)) }
-{
-    match Value::from_slice(alloc, bytes) {
-        Ok(_) => Ok(true),
-        Err(error) => {
-            if error.is_memory() {
-                Err(Trouble::Memory)
-            } else {
-                Ok(false)
-            }
-        }
-    }
+    fitting: u64,
 }
 
 /// A count with one line more.
-fn counted(count: Count, is_json: bool) -> Count {
+fn counted(count: Count, fits: bool) -> Count {
     Count {
         lines: count.lines.saturating_add(1),
-        json: count.json.saturating_add(u64::from(is_json)),
+        fitting: count.fitting.saturating_add(u64::from(fits)),
     }
 }
 
-/// Reads the lines of an input one after another, each with its newline, which JSON lets stand behind a value.
-fn read_lines<R: BufRead>(alloc: Global, input: &mut R) -> Result<Count, Trouble> {
-    let mut count = Count { lines: 0, json: 0 };
+/// Reads the lines of an input one after another.
+fn read_lines<R: BufRead>(alloc: Global, form: Form, input: &mut R) -> Result<Count, Trouble> {
+    let mut count = Count {
+        lines: 0,
+        fitting: 0,
+    };
     let mut line = Vec::new(alloc);
     for _ in 0..u64::MAX {
         line.clear();
         if input.read_until(b'\n', &mut line)? == 0 {
             break;
         }
-        count = counted(count, is_json(alloc, &line)?);
+        count = counted(count, is_of_form(alloc, form, &line)?);
     }
     Ok(count)
 }
 
 /// Reads the lines of standard input.
-fn read_all(rt: &(impl Input + AllocGlobal)) -> Result<Count, Trouble> {
+fn read_all(rt: &(impl Input + AllocGlobal), form: Form) -> Result<Count, Trouble> {
     let mut input = BufReader::new(rt.alloc(), rt.reader())?;
-    read_lines(rt.alloc(), &mut input)
+    read_lines(rt.alloc(), form, &mut input)
+}
+
+/// What the lines are read as: requests where the word `requests` follows the program's name, else JSON.
+fn form(rt: &(impl Env + AllocGlobal)) -> Result<Form, Trouble> {
+    for word in env::args(rt)?.skip(1) {
+        if word.as_str() == "requests" {
+            return Ok(Form::Request);
+        }
+    }
+    Ok(Form::Json)
 }
 
 /// Reads the lines of standard input, and prints how many there were.
-fn run(rt: &(impl Input + Print + AllocGlobal)) -> Result<(), Trouble> {
-    let count = read_all(rt)?;
-    println!(rt; "{} lines, {} of them JSON", count.lines, count.json)?;
+fn run(rt: &(impl Env + Input + Print + AllocGlobal)) -> Result<(), Trouble> {
+    let form = form(rt)?;
+    let count = read_all(rt, form)?;
+    let name = match form {
+        Form::Json => "JSON",
+        Form::Request => "requests",
+    };
+    println!(rt; "{} lines, {} of them {}", count.lines, count.fitting, name)?;
     Ok(())
 }
 

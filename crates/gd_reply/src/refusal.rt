@@ -245,7 +245,10 @@ pub fn info(alloc: Global, refusal: &Refusal) -> Result<Json, Memory>
         Refusal::ReplyTooLarge { bytes } => count_info(alloc, "bytes", *bytes),
         Refusal::NoSuchProperty { path } | Refusal::NotUnique { path } => path_info(alloc, path),
         Refusal::KeyTaken { key, holder } => taken_info(alloc, key, *holder),
-        Refusal::StaleVersion { previous, successor } => stale_info(alloc, *previous, *successor),
+        Refusal::StaleVersion {
+            previous,
+            successor,
+        } => stale_info(alloc, *previous, *successor),
         Refusal::BadCursor { offset } => count_info(alloc, "offset", *offset),
         Refusal::CursorAhead { asked, have } => ahead_info(alloc, *asked, *have),
     }

@@ -1,5 +1,5 @@
 -- What the fields of a run keep between two lines.
-use Rattle.std.specs.Prelude.{◌≡◌, ℕ, ◌+◌, ◌≤◌, List, [], ◌∷◌, ◌++◌, Bool, Option, Some, None}
+use Rattle.std.specs.Prelude.{ℕ, ◌+◌, ◌≤◌, List, [], ◌∷◌, Option, Some, None}
 use Rattle.gd_prim.specs.declared.Batch.{Batch}
 use Rattle.gd_log.specs.Stored.{MayAppend}
 use Rattle.gd_runs.specs.Legal.{max_history}

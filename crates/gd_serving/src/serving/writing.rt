@@ -12,7 +12,6 @@ ghost use Rattle.gd_runs.specs.Request.{change_refusal, exec_after};
 ghost use Rattle.gd_runs.specs.Explained.{MayBe, tells_fault};
 ghost use Rattle.gd_mql.specs.Requests.{write_view};
 ghost use Rattle.gd_change.specs.Fault.{GivesChange, fault_of, IsSmall};
-ghost use Rattle.gd_carry.specs.declared.fault.ChangeFault.TheVariants as fault;
 ghost use Rattle.gd_reply.specs.Refusals.{refusal_of, CountsFit};
 ghost use Rattle.gd_reply.specs.Replies.{reply_text};
 ghost use Rattle.gd_served_laws.specs.Served.{Progress};
@@ -100,7 +99,7 @@ fn reason(fault: ChangeFault) -> Result<Refusal, Memory>
     requires { IsSmall fault }
     ensures refusal { IfOk result (λ refusal. refusal_of refusal ≡ change_refusal (fault_of fault)) }
     ensures counts { IfOk result (CountsFit) }
-    ensures memory { fault ≡ fault.Memory → IsErr result }
+    ensures memory { fault ≡ ChangeFault.Memory → IsErr result }
 {
     Ok(match fault {
         ChangeFault::NoSuchId { id } => Refusal::NoSuchId { path: id },
@@ -280,7 +279,7 @@ impl<D: Disk> Serving<D> {
         requires small { IsSmall fault }
         ensures refusal { IfOk result (λ reply. reply.items ≡ err_line_of (length self.now.progress.batches)
             self.now.progress.lines (change_refusal (fault_of fault))) }
-        ensures memory { fault ≡ fault.Memory → IsErr result }
+        ensures memory { fault ≡ ChangeFault.Memory → IsErr result }
     {
         let refusal = reason(fault)?;
         err_line(alloc, self.store().requests(), self.lines, &refusal)

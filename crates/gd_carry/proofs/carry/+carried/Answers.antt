@@ -1,4 +1,4 @@
-use Rattle.std.proofs.Common.{◌≡◌, ◌++◌, ◌∷◌, [], ◌∙◌, ap, sym, subst, map, drop, ◌+◌, Bor, List, ℕ, Result, Ok}
+use Rattle.std.proofs.Common.{◌≡◌, ◌++◌, ◌∷◌, [], ◌∙◌, ap, sym, subst, map, drop, ◌+◌, Bor, List, ℕ, Result, Ok, refl, arith}
 use Rattle.std.proofs.lemmas.Result.{err_from_is_err_and}
 use Rattle.gd_grammar.specs.Chain.{◌>>=◌}
 use Rattle.gd_prim.specs.declared.Primitive.{Primitive}
@@ -9,14 +9,17 @@ use Rattle.gd_defs.specs.Write.Carried as defined
 use Rattle.gd_growing.specs.State.{so_far}
 use Rattle.gd_intent.specs.Seen.{item_view, members_view, many_view}
 use Rattle.gd_carry.specs.Outcome.{put, all_led, many_led, subject_view}
-use Rattle.gd_carry.proofs.Walks.{entries_left, items_left, field_added, item_added}
+use Rattle.gd_carry.proofs.Walks.{entries_left, items_left, field_added, item_added, none_led, no_item_led}
 use Rattle.gd_mql.specs.Changes.{create_view}
 use Rattle.gd_intent.specs.declared.intent.Entry.{Entry}
 use Rattle.gd_intent.specs.declared.intent.Item.{Item}
-use Rattle.gd_carry.specs.Printed.{printed_view}
+use Rattle.gd_carry.specs.Printed.{Field, printed_view}
+use Rattle.gd_carry.specs.declared.print.Printed.{Printed}
 use Rattle.gd_carry.specs.Outcome.{Makes}
 use Rattle.gd_carry.proofs.Nested.{nested_view, same_members}
-use Rattle.gd_carry.proofs.Nesting.{nested_done, nested_unmade}
+use Rattle.gd_carry.proofs.Nesting.{nested_done, nested_unmade, nested_unlinked}
+use Rattle.gd_carry.proofs.Depths.{entry_in, item_in}
+use Rattle.gd_growing.specs.Seen.{answer_word}
 use Rattle.gd_carry.specs.Outcome.{fault_of}
 use Rattle.gd_carry.proofs.carry.+carried.Goals as goal
 
@@ -79,3 +82,42 @@ nested_made-returns-in_err-fields-clause-nested t c =
     let path = map (λ (n : Bor (List ℕ)). n.now) c.args.path.now in
     rw (p.1, p.2) (λ known. nested_unmade c.args.stamp.now path (so_far c.args.growing.now) (so_far c.subject_of.new.growing) c.args.property.now (create_view c.args.word) (members_view c.args.members.now) (subject_view c.args.subject.now)
     c.in_ok-nested.nested.object c.in_ok-nested.nested.existed (fault_of c.in_err-fields.field-0.0) c.in_ok-nested.ensures.subject (c.in_err-fields.ensures.members known))
+
+pub nested_made-returns-in_err-link_made-clause-nested : goal.nested_made-returns-in_err-link_made-clause-nested
+nested_made-returns-in_err-link_made-clause-nested t c =
+    let p = err_from_is_err_and c.from_residual-in_err-link_made.result c.from_residual-in_err-link_made.ensures.1 in
+    let path = map (λ (n : Bor (List ℕ)). n.now) c.args.path.now in
+    rw (p.1, p.2) (λ known. nested_unlinked c.args.stamp.now path (so_far c.args.growing.now) (so_far c.subject_of.new.growing) (so_far c.carried.new.growing) c.args.property.now (create_view c.args.word) (members_view c.args.members.now) (subject_view c.args.subject.now)
+    c.in_ok-nested.nested.object c.in_ok-nested.nested.existed c.in_ok-fields.fields (fault_of c.in_err-link_made.field-0.0) c.in_ok-nested.ensures.subject c.in_ok-fields.ensures.members (c.in_err-link_made.ensures.link known))
+
+pub nested_made-returns-clause-nested : goal.nested_made-returns-clause-nested
+nested_made-returns-clause-nested t c =
+    let path = map (λ (n : Bor (List ℕ)). n.now) c.args.path.now in
+    nested_done c.args.stamp.now path (so_far c.args.growing.now) (so_far c.subject_of.new.growing) (so_far c.carried.new.growing) (so_far c.link_made.new.growing) c.args.property.now (create_view c.args.word) (members_view c.args.members.now) (subject_view c.args.subject.now)
+    c.in_ok-nested.nested.object c.in_ok-nested.nested.existed c.in_ok-fields.fields (answer_word c.in_ok-link_made.field-0) c.in_ok-nested.ensures.subject c.in_ok-fields.ensures.members c.in_ok-link_made.ensures.link
+
+pub carried-carried_entry-requires : goal.carried-carried_entry-requires
+carried-carried_entry-requires t c =
+    let below = entry_in c.args.members.now c.loop-entry.entry-index c.entry-item.result c.loop-entry-test.true c.entry-item.is in
+    omega (arith, below)
+
+pub carried_items-carried_item-requires : goal.carried_items-carried_item-requires
+carried_items-carried_item-requires t c =
+    let below = item_in c.args.items.now c.loop-item.item-index c.item-item.result c.loop-item-test.true c.item-item.is in
+    omega (arith, below)
+
+pub carried-loop-entry-init : goal.carried-loop-entry-init
+carried-loop-entry-init t c =
+    let whole = defined.carried c.args.stamp.now (map (λ (n : Bor (List ℕ)). n.now) c.args.path.now) (so_far c.args.growing.now) (subject_view c.args.subject.now) (members_view c.args.members.now) in
+    record {
+      whole = none_led whole ∙ ap (λ (fs : List (Field Printed)). whole >>= λ r. Ok (all_led fs r)) (sym c.new-fields.ensures.items);
+      below = refl;
+    }
+
+pub carried_items-loop-item-init : goal.carried_items-loop-item-init
+carried_items-loop-item-init t c =
+    let whole = defined.carried_items c.args.stamp.now (map (λ (n : Bor (List ℕ)). n.now) c.args.path.now) (so_far c.args.growing.now) (subject_view c.args.subject.now) (many_view c.args.items.now) in
+    record {
+      whole = no_item_led whole ∙ ap (λ (ps : List Printed). whole >>= λ r. Ok (many_led ps r)) (sym c.new-done.ensures.items);
+      below = refl;
+    }

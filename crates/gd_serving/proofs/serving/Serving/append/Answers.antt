@@ -1,6 +1,6 @@
 use Rattle.std.proofs.Common.{◌≡◌, ◌+◌, Option, None, Some, Err, option_map, sym, ap, subst, ◌∙◌}
 use Rattle.gd_log.specs.Stored.{doubt_after}
-use Rattle.gd_serving.specs.declared.serving.Pending.{Pending}
+use Rattle.gd_serving.specs.declared.serving.writing.Pending.{Pending}
 use Rattle.gd_served_laws.specs.Served.{Doubt}
 use Rattle.gd_serving.specs.Running.{Running, doubted_group}
 use Rattle.gd_serving.specs.Kept.{Backs}

@@ -1,5 +1,5 @@
 use Rattle.std.proofs.Common.{◌≡◌, ◌+◌, Option, None, Some, option_map, refl, sym, ap, subst, ◌∙◌}
-use Rattle.gd_serving.specs.declared.serving.Pending.{Pending}
+use Rattle.gd_serving.specs.declared.serving.writing.Pending.{Pending}
 use Rattle.gd_served_laws.specs.Served.{Doubt}
 use Rattle.gd_serving.specs.Running.{Running, doubted_group}
 use Rattle.gd_serving.specs.Kept.{Backs}
