@@ -53,10 +53,10 @@ impl NodeLists {
         ensures kept { (n : ℕ) → (id_list self.old n).spare ≤ (id_list self.new n).spare }
     {
         match self.lists.get_mut(&node) {
-            Some(list) => list.reserve(1),
+            Some(list) => list.make_room(),
             None => {
                 let mut list = Postings::new(self.alloc);
-                list.reserve(1)?;
+                list.make_room()?;
                 self.lists.insert(node, list)?;
                 Ok(())
             }
