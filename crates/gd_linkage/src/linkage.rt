@@ -17,7 +17,7 @@ use std::alloc::Global;
 use std::marker::Model;
 
 /// The places of primitives by the nodes that they name: for each end a rising list for each node. Contracts see the
-/// lists through `list_of`. A list that was never made is as an empty one without room.
+/// lists through `list_of`. A list that was never made is as an empty one.
 #[derive(Drop)]
 pub struct Linkage {
     left: NodeLists,
