@@ -75,9 +75,6 @@ def rows_of(path):
                     refuse("a reply stands behind its line")
                 rows[-1].pairs.append((waiting, bytes_of(mark, rest)))
                 waiting = None
-            elif mark == "unbuilt":
-                if rows and rows[-1].pairs:
-                    refuse("`unbuilt` stands behind `row NAME`, or before the first row")
             else:
                 refuse("what begins with neither `#`, `row`, `>` nor `<`")
     if waiting is not None:
@@ -156,18 +153,16 @@ class Case:
 
 
 def cases_of(path):
-    """The cases of a text, but for those with the line `unbuilt`, which before the first row speaks of all."""
-    cases, stem, unbuilt = [], os.path.splitext(os.path.basename(path))[0], set()
+    """The cases of a text."""
+    cases, stem = [], os.path.splitext(os.path.basename(path))[0]
     with open(path, encoding="utf-8", newline="\n") as text:
         for number, line in enumerate(text, 1):
             mark, _, rest = line.rstrip("\n").partition(" ")
             if mark == "row":
                 cases.append(Case(stem + "/" + rest))
-            elif mark == "unbuilt":
-                unbuilt.add(cases[-1].name if cases else None)
             elif mark not in ("", "#") and not (cases and cases[-1].take(mark, rest)):
                 raise BadText("%s:%d: a line is of no form" % (path, number))
-    return [case for case in cases if not unbuilt & {None, case.name}]
+    return cases
 
 
 def program_files():

@@ -1,99 +1,56 @@
--- What the create of a name does after the batches of a store.
-use Rattle.std.proofs.Common.{◌≡◌, ◌≤◌, ◌<◌, ℕ, List, [], ◌∷◌, ◌++◌, length, Bool, true, false, Some, None, Result, Ok, Err, refl, sym, ap, ◌∙◌, arith, subst, codes, append-nil, append_assoc}
-use Rattle.std.specs.Prelude.{flat_map, nat_le, IsTrue, IsErrAnd}
+-- What a write does after the batches of a store.
+use Rattle.std.proofs.Common.{◌≡◌, ◌≤◌, ℕ, List, length, Bool, true, not, ◌&&◌, Option, Some, None, Result, Ok, Err, refl, sym, ap, ◌∙◌}
+use Rattle.std.specs.Prelude.{IsTrue, is_some}
 use Rattle.std.proofs.Math.Seq.{take-length}
-use Rattle.std.proofs.lemmas.Grind.{flat_map-append}
-use Rattle.std.proofs.lemmas.Bool.Decides.{nat_tests}
-use Rattle.gd_prim.specs.declared.Primitive.{Primitive}
+use Rattle.std.proofs.lemmas.Bool.{and_parts}
+use Rattle.gd_grammar.specs.Chain.{◌>>=◌}
 use Rattle.gd_prim.specs.declared.Batch.{Batch}
+use Rattle.gd_prim.specs.declared.Primitive.{Primitive}
 use Rattle.gd_prim.specs.declared.What.{What}
-use Rattle.gd_prim.specs.Builtin.{builtin}
 use Rattle.gd_prim.specs.History.{prims_of, is_history}
 use Rattle.gd_prim.specs.Limits.{limits, first_full}
-use Rattle.gd_prim.specs.WellFormed.{bad_place, max_moment}
+use Rattle.gd_prim.specs.WellFormed.{bad_place, may_follow, max_moment}
 use Rattle.gd_tree.specs.Json as tree
-use Rattle.gd_tree.specs.Json.{object}
-use Rattle.gd_json.specs.declared.value.Json.{Json}
-use Rattle.gd_defs.specs.Query.{bad_value}
-use Rattle.gd_defs.specs.Asked.{bad_query}
-use Rattle.gd_defs.specs.Write as write
-use Rattle.gd_defs.specs.Write.{exec, fitting, unknown, full}
+use Rattle.gd_defs.specs.Write.{WriteRequest, exec, fitting}
+use Rattle.gd_defs.specs.Write.Links.{ChangeFault, full}
 use Rattle.gd_runs.specs.Request.{exec_after}
-use Rattle.gd_runs.specs.Built.{SaysName, create_request}
-use Rattle.gd_change.specs.declared.fault.ChangeFault.{ChangeFault}
-use Rattle.gd_change.specs.declared.fault.ChangeFault.TheVariants as fault
-use Rattle.gd_change.specs.Fault.{GivesChange}
-use Rattle.gd_change.specs.Create.{batch, answer}
-use Rattle.gd_change.proofs.KeptName.{SaysName-more, name_place-within}
-use Rattle.gd_change.proofs.Created.{exec-create, exec-long}
-use Rattle.gd_change.proofs.Followed.{NoneFrom-prims_of, bad_place-create, room_for}
+use Rattle.gd_write_laws.proofs.Laws.{writes_follow}
+use Rattle.gd_write_laws.proofs.Histories.{history-sound, history-some}
+use Rattle.gd_carry.specs.Exec.{written}
+use Rattle.gd_carry.proofs.Whole.{exec_written}
 
-at_most : (m n : ℕ) → m ≤ n → nat_le m n ≡ true
-at_most m n less = grind (arith, nat_tests)
+-- after all batches
+exec_after-is : (bs : List Batch) (w : WriteRequest) (moment : ℕ) → exec_after bs w moment ≡ exec (prims_of bs) (length bs) w moment
+exec_after-is bs w moment = ap (λ (cs : List Batch). exec (prims_of cs) (length bs) w moment) (take-length bs)
 
-more_than : (m n : ℕ) → n < m → nat_le m n ≡ false
-more_than m n more = grind (arith, nat_tests)
+-- what was written decides, unless it passes a limit
+after_written : (bs : List Batch) (w : WriteRequest) (moment : ℕ) (r : Result (Batch × tree.Json) ChangeFault) → written (prims_of bs) w moment ≡ r
+    → exec_after bs w moment ≡ (r >>= λ d. fitting (prims_of bs) (length bs) d.0 d.1)
+after_written bs w moment r is = exec_after-is bs w moment
+    ∙ exec_written (prims_of bs) (length bs) w moment
+    ∙ ap (λ (x : Result (Batch × tree.Json) ChangeFault). x >>= λ d. fitting (prims_of bs) (length bs) d.0 d.1) is
 
--- the batch behind the list of a store
-abbrev pub batch_after : List Batch → ℕ → List ℕ → Batch
-batch_after bs moment x = batch moment (length (prims_of bs)) x
-
-exec_after-is : (bs : List Batch) (moment : ℕ) (g : Bool) (x : List ℕ) → exec_after bs (create_request g x) moment ≡ exec (prims_of bs) (length bs) (create_request g x) moment
-exec_after-is bs moment g x = ap (λ (cs : List Batch). exec (prims_of cs) (length bs) (create_request g x) moment) (take-length bs)
-
-create_after : (bs : List Batch) (moment : ℕ) (g : Bool) (x : List ℕ) → SaysName (prims_of bs) → IsTrue (is_history bs) → length x ≤ 4096
-    → exec_after bs (create_request g x) moment ≡ fitting (prims_of bs) (length bs) (batch_after bs moment x) (object (answer g (length (prims_of bs)) x))
-create_after bs moment g x says history short =
-    exec_after-is bs moment g x ∙ exec-create (prims_of bs) (length bs) moment g x says (NoneFrom-prims_of bs history) (at_most _ _ short)
-
--- it is stored
-pub stored_after : (bs : List Batch) (moment : ℕ) (g : Bool) (x : List ℕ) → SaysName (prims_of bs) → IsTrue (is_history bs) → length x ≤ 4096
-    → first_full (limits (prims_of bs) (length bs) (batch_after bs moment x).prims) ≡ None
-    → exec_after bs (create_request g x) moment ≡ Ok (batch_after bs moment x, object (answer g (length (prims_of bs)) x))
-stored_after bs moment g x says history short fits = create_after bs moment g x says history short ∙ rw fits refl
+-- it is done
+pub done_after : (bs : List Batch) (w : WriteRequest) (moment : ℕ) (b : Batch) (j : tree.Json) → written (prims_of bs) w moment ≡ Ok (b, j) → first_full (limits (prims_of bs) (length bs) b.prims) ≡ None
+    → exec_after bs w moment ≡ Ok (b, j)
+done_after bs w moment b j is fits = after_written bs w moment (Ok (b, j)) is ∙ rw fits refl
 
 -- a limit would be passed
-pub full_after : (bs : List Batch) (moment : ℕ) (g : Bool) (x : List ℕ) (what : What) (count : ℕ) → SaysName (prims_of bs) → IsTrue (is_history bs) → length x ≤ 4096
-    → first_full (limits (prims_of bs) (length bs) (batch_after bs moment x).prims) ≡ Some (what, count)
-    → exec_after bs (create_request g x) moment ≡ Err (full what count)
-full_after bs moment g x what count says history short passed = create_after bs moment g x says history short ∙ rw passed refl
+pub full_after : (bs : List Batch) (w : WriteRequest) (moment : ℕ) (b : Batch) (j : tree.Json) (what : What) (count : ℕ) → written (prims_of bs) w moment ≡ Ok (b, j)
+    → first_full (limits (prims_of bs) (length bs) b.prims) ≡ Some (what, count) → exec_after bs w moment ≡ Err (full what count)
+full_after bs w moment b j what count is passed = after_written bs w moment (Ok (b, j)) is ∙ rw passed refl
 
--- the name is too long
-pub long_after : (bs : List Batch) (moment : ℕ) (g : Bool) (x : List ℕ) → SaysName (prims_of bs) → 4096 < length x
-    → exec_after bs (create_request g x) moment ≡ Err (unknown (bad_query bad_value (codes "name" ∷ [])))
-long_after bs moment g x says long = exec_after-is bs moment g x ∙ exec-long (prims_of bs) (length bs) moment g x says (more_than _ _ long)
+-- it is refused
+pub refused_after : (bs : List Batch) (w : WriteRequest) (moment : ℕ) (f : ChangeFault) → written (prims_of bs) w moment ≡ Err f → exec_after bs w moment ≡ Err f
+refused_after bs w moment f is = after_written bs w moment (Err f) is
 
--- the batch breaks no rule
-pub well_formed_after : (bs : List Batch) (moment : ℕ) (x : List ℕ) → SaysName (prims_of bs) → moment ≤ max_moment
-    → first_full (limits (prims_of bs) (length bs) (batch_after bs moment x).prims) ≡ None → bad_place (prims_of bs) (batch_after bs moment x) ≡ None
-well_formed_after bs moment x says early fits =
-    bad_place-create (prims_of bs) moment x (name_place-within (prims_of bs) says) (room_for (prims_of bs) (length bs) (batch_after bs moment x).prims fits) early
+none : (place : Option ℕ) → not (is_some place) ≡ true → place ≡ None
+none None is = refl
+none (Some place) is = cc
 
-prims_of-more : (bs : List Batch) (b : Batch) → prims_of (bs ++ b ∷ []) ≡ prims_of bs ++ b.prims
-unfolding prims_of
-prims_of-more bs b = ap (λ more. builtin ++ more) (flat_map-append (λ (c : Batch). c.prims) bs (b ∷ []) ∙ ap (λ more. flat_map (λ (c : Batch). c.prims) bs ++ more) (append-nil b.prims))
-    ∙ sym (append_assoc builtin (flat_map (λ (c : Batch). c.prims) bs) b.prims)
-
--- what is said of `name` stays
-pub says_after : (bs : List Batch) (moment : ℕ) (x : List ℕ) → SaysName (prims_of bs) → SaysName (prims_of (bs ++ batch_after bs moment x ∷ []))
-says_after bs moment x says = subst SaysName (sym (prims_of-more bs (batch_after bs moment x)))
-    (SaysName-more (prims_of bs) (batch_after bs moment x).prims says (record { succeeds = record { none = λ k. refl }; typed = refl; master = refl; expected = refl; unique = refl }))
-
--- ---- in the words of the code
-
--- the batch that was made is that batch
-pub batch_is : (bs : List Batch) (moment : ℕ) (x text name : List ℕ) (prims : List Primitive) (b : Batch)
-    → b ≡ batch moment (length prims) text → prims ≡ prims_of bs → text ≡ name → name ≡ x → b ≡ batch_after bs moment x
-batch_is bs moment x text name prims b is all copied named = is ∙ ap (λ ps. batch moment (length ps) text) all ∙ ap (batch moment (length (prims_of bs))) (copied ∙ named)
-
--- and what was made is what the definitions give
-pub stored_is : (bs : List Batch) (moment : ℕ) (g : Bool) (x : List ℕ) (b : Batch) (j : tree.Json) → SaysName (prims_of bs) → IsTrue (is_history bs) → length x ≤ 4096
-    → first_full (limits (prims_of bs) (length bs) (batch_after bs moment x).prims) ≡ None → b ≡ batch_after bs moment x → j ≡ object (answer g (length (prims_of bs)) x)
-    → exec_after bs (create_request g x) moment ≡ Ok (b, j)
-stored_is bs moment g x b j says history short fits made printed = rw (made, printed) (stored_after bs moment g x says history short fits)
-
--- the refusal by a limit is that of the definitions
-pub gives_full : (expected : Result (Batch × tree.Json) write.ChangeFault) (r : Result (Batch × Json) ChangeFault) (what : What) (count : ℕ)
-    → IsErrAnd r (λ f. f ≡ fault.Full what count) → expected ≡ Err (full what count) → GivesChange expected r
-gives_full expected (Err f) what count is refused = rw is refused
-gives_full expected (Ok done) what count is refused = absurd is
+-- its batch breaks no rule
+pub well_formed_after : (bs : List Batch) (w : WriteRequest) (moment : ℕ) (b : Batch) (j : tree.Json) → IsTrue (is_history bs) → moment ≤ max_moment → exec_after bs w moment ≡ Ok (b, j) → bad_place (prims_of bs) b ≡ None
+well_formed_after bs w moment b j history early is =
+    let follows : may_follow (prims_of bs) (length bs) b ≡ true =
+    writes_follow (prims_of bs) (length bs) w moment b j (history-sound bs history) (history-some bs) early (sym (exec_after-is bs w moment) ∙ is) in
+    none (bad_place (prims_of bs) b) (and_parts _ _ follows).0

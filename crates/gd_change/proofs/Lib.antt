@@ -1,5 +1,1 @@
-pub mod Appended
-pub mod KeptName
-pub mod Created
-pub mod Followed
 pub mod Evaluated

@@ -1,19 +1,9 @@
 -- Why a query has no meaning, as the definitions have it.
 use Rattle.std.specs.Prelude.{◌≡◌, ◌≢◌, [], Result, Ok, Err, MatchResult}
-use Rattle.gd_defs.specs.Query as query
 use Rattle.gd_defs.specs.Asked as defs
-use Rattle.gd_compile.specs.declared.fault.Code.{Code}
-use Rattle.gd_compile.specs.declared.fault.Code.TheVariants as code
+pub use Rattle.gd_mql.specs.Fault.{code_view}
 use Rattle.gd_compile.specs.declared.fault.Unknown.{Unknown}
 use Rattle.gd_compile.specs.declared.fault.Unknown.TheVariants as fault
-
--- the code that this is
-abbrev pub code_view : Code → query.Code
-code_view code.BadValue = query.bad_value
-code_view code.BadOperator = query.bad_operator
-code_view code.ValueReversed = query.value_reversed
-code_view code.ObjectForm = query.object_form
-code_view code.BadSort = query.bad_sort
 
 -- the reason that this is; want of memory is none, and what it is here tells nothing
 abbrev pub unknown_of : Unknown → defs.Unknown

@@ -6,29 +6,10 @@ ghost use Rattle.gd_compile.specs.Fault.{code_view, unknown_of};
 
 use gd_base::memory::Memory;
 use gd_json::value::JsonText;
+pub use gd_mql::fault::Code;
 use gd_mql::fault::Path;
 use std::alloc::Global;
 use thiserror::Error;
-
-/// What of a query of a right form does not go with what its words stand for.
-#[derive(Clone, Copy, Debug, PartialEq, Eq, Error)]
-pub enum Code {
-    /// The operand is no value of what is asked.
-    #[error("the operand is no value of what is asked")]
-    BadValue,
-    /// The operator does not stand on answers of this kind.
-    #[error("the operator does not stand on answers of this kind")]
-    BadOperator,
-    /// A property that holds values is asked for backwards.
-    #[error("a property of values is asked for backwards")]
-    ValueReversed,
-    /// A form on a value or a key has a member that may not stand there.
-    #[error("the member may not stand in a form on a value")]
-    ObjectForm,
-    /// Rows can't be sorted by this word.
-    #[error("rows can not be sorted by this word")]
-    BadSort,
-}
 
 /// Why a query of a right form has no meaning at a dateline.
 #[derive(Debug, PartialEq, Eq, Drop, Error)]
@@ -69,7 +50,7 @@ fn path_of(alloc: Global, names: &[&str]) -> Result<Path, Memory>
 }
 
 /// The refusal of a code at the member to which names lead from the root down.
-pub(crate) fn bad(alloc: Global, code: Code, path: &[&str]) -> Unknown
+pub fn bad(alloc: Global, code: Code, path: &[&str]) -> Unknown
     ensures { result ≢ fault.Memory → unknown_of result ≡ bad_query (code_view code) (map (λ name. name.now) path.now) }
 {
     match path_of(alloc, path) {

@@ -7,7 +7,7 @@ pub mod fault;
 mod gathered;
 pub mod operand;
 mod own;
-mod path;
+pub mod path;
 pub mod sort;
 pub mod test;
 mod walk;

@@ -28,7 +28,8 @@ use gd_resolve::words::{Named, named_property};
 use gd_store::view::View;
 use std::alloc::Global;
 
-pub(crate) fn is_id(word: &str) -> bool
+/// Whether the word asks for the id: `id`, also as a path below `/type/object`. It takes no memory.
+pub fn is_id(word: &str) -> bool
     ensures { result ≡ query.is_word (codes "id") word.now }
 {
     word == "id" || word == "/type/object/id"

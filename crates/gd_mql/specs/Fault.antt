@@ -1,4 +1,4 @@
--- Faults of JSON among those of a line, and codes of form.
+-- Faults of JSON among those of a line, and codes of faults.
 use Rattle.gd_defs.specs.Query as query
 use Rattle.gd_json.specs.declared.from.JsonFault.{JsonFault}
 use Rattle.gd_json.specs.declared.from.JsonFault.TheVariants as json_fault
@@ -23,5 +23,10 @@ code_view code.BadOperand = query.bad_operand
 code_view code.BadWrite = query.bad_write
 code_view code.BadCreate = query.bad_create
 code_view code.BadConnect = query.bad_connect
-code_view code.Unbuilt = query.unbuilt
 code_view code.BadValue = query.bad_value
+code_view code.BadOperator = query.bad_operator
+code_view code.ValueReversed = query.value_reversed
+code_view code.ObjectForm = query.object_form
+code_view code.BadSort = query.bad_sort
+code_view code.NotMet = query.not_met
+code_view code.BadPrevious = query.bad_previous

@@ -11,7 +11,7 @@ use std::error::Error;
 use std::fmt;
 use std::marker::Model;
 
-/// What is wrong with the form of a query.
+/// What is wrong with a query or a write: first with its form, and then with what its words stand for.
 #[derive(Clone, Copy, Debug, PartialEq, Eq)]
 pub enum Code {
     /// The envelope of a request has other members than it should, or a member of another form.
@@ -30,12 +30,22 @@ pub enum Code {
     BadWrite,
     /// `create` has not the form of one.
     BadCreate,
-    /// `connect` has not the form of one.
+    /// `connect` has not the form of one, or the links of its property can't be changed so.
     BadConnect,
-    /// The form is not built.
-    Unbuilt,
-    /// A literal is no value of its property.
+    /// A literal or an operand is no value of what is asked.
     BadValue,
+    /// The operator does not stand on answers of this kind.
+    BadOperator,
+    /// A property that holds values is asked for backwards.
+    ValueReversed,
+    /// A form on a value or a key has a member that may not stand there.
+    ObjectForm,
+    /// Rows can't be sorted by this word.
+    BadSort,
+    /// A fact of an existing object does not hold.
+    NotMet,
+    /// No link of this object and property stands there.
+    BadPrevious,
 }
 
 impl Code {
@@ -50,9 +60,14 @@ impl Code {
             Code::BadOperand => "the operand has not the form that its name asks",
             Code::BadWrite => "the member of the write has not the form of one",
             Code::BadCreate => "the create has not the form of one",
-            Code::BadConnect => "the connect has not the form of one",
-            Code::Unbuilt => "the form is not built",
-            Code::BadValue => "the literal is no value of its property",
+            Code::BadConnect => "the links can not be connected so",
+            Code::BadValue => "the operand is no value of what is asked",
+            Code::BadOperator => "the operator does not stand on answers of this kind",
+            Code::ValueReversed => "a property of values is asked for backwards",
+            Code::ObjectForm => "the member may not stand in a form on a value",
+            Code::BadSort => "rows can not be sorted by this word",
+            Code::NotMet => "the object does not have this value",
+            Code::BadPrevious => "no link of this object and property stands there",
         }
     }
 }

@@ -10,9 +10,8 @@ ghost use Rattle.gd_defs.specs.Reply as defs;
 ghost use Rattle.gd_runs.specs.Request.{page_reply, reply_of};
 ghost use Rattle.gd_runs.specs.Shape.{page_shape};
 ghost use Rattle.gd_mql.specs.Requests.{read_view};
-ghost use Rattle.gd_reply.specs.Refusals.{misfit_view};
 ghost use Rattle.gd_plan.specs.Asked.{asked_view};
-ghost use Rattle.gd_compile.specs.Fault.{code_view, unknown_of};
+ghost use Rattle.gd_compile.specs.Fault.{unknown_of};
 ghost use Rattle.gd_frozen.specs.Meant.{meant};
 ghost use Rattle.gd_trees.specs.View.{view as tree_view, trees_view};
 ghost use Rattle.gd_read.specs.Scanned.{mark_of};
@@ -24,7 +23,7 @@ use crate::scan::Found;
 use gd_base::memory::Memory;
 use gd_base::steps::Steps;
 use gd_compile::compile::compile;
-use gd_compile::fault::{Code, Unknown};
+use gd_compile::fault::Unknown;
 use gd_frozen::cursor::Cursor;
 use gd_frozen::{FrozenFault, cursor_from};
 use gd_json::value::{Json, JsonText};
@@ -33,26 +32,13 @@ use gd_mql::request::{CursorAsk, ReadRequest};
 use gd_plan::asked::Asked;
 use gd_plan::plan::Plan;
 use gd_reply::lines::err_line;
-use gd_reply::refusal::{Misfit, Refusal};
+use gd_reply::refusal::Refusal;
 use gd_shape::shape::{PageBody, ShapeFault, print};
 use gd_store::store::Store;
 use gd_store::view::View;
 use gd_trees::linked::LinkedPrims;
 use gd_trees::tree::{Tree, Trees};
 use std::alloc::Global;
-
-/// How a query does not go with what its words stand for, as a refusal tells it.
-fn misfit_of(code: Code) -> Misfit
-    ensures { misfit_view result ≡ code_view code }
-{
-    match code {
-        Code::BadValue => Misfit::BadValue,
-        Code::BadOperator => Misfit::BadOperator,
-        Code::ValueReversed => Misfit::ValueReversed,
-        Code::ObjectForm => Misfit::ObjectForm,
-        Code::BadSort => Misfit::BadSort,
-    }
-}
 
 /// The refusal of a query that has no meaning.
 fn unknown_line(
@@ -68,10 +54,7 @@ fn unknown_line(
     let refusal = match unknown {
         Unknown::NoSuchId { path } => Refusal::NoSuchId { path },
         Unknown::NoSuchProperty { path } => Refusal::NoSuchProperty { path },
-        Unknown::BadQuery { code, path } => Refusal::Misfit {
-            misfit: misfit_of(code),
-            path,
-        },
+        Unknown::BadQuery { code, path } => Refusal::BadQuery { code, path },
         Unknown::Memory => return Err(Memory),
     };
     err_line(alloc, dateline, line, &refusal)

@@ -1,35 +1,24 @@
 //! Why a line is refused.
-ghost use Rattle.std.specs.Prelude.{◌≡◌, ◌<◌, ◌^◌, ◌∷◌, [], IfOk, codes, map};
+ghost use Rattle.std.specs.Prelude.{◌≡◌, ◌<◌, ◌^◌, ◌∷◌, ◌++◌, [], IfOk, OnOk, codes, map};
 ghost use Rattle.gd_tree.specs.Json.{object as object_tree, list as list_of, text as text_of};
-ghost use Rattle.gd_json.specs.View.{view};
+ghost use Rattle.gd_json.specs.View.{view, member_view};
+ghost use Rattle.gd_defs.specs.Ids.{guid as guid_of};
 ghost use Rattle.gd_defs.specs.Lines.{object_of, count_json, texts};
 ghost use Rattle.gd_defs.specs.Reply.{code_text};
 ghost use Rattle.gd_runs.specs.Request.{what_text};
 ghost use Rattle.gd_mql.specs.Line.{code_view};
-ghost use Rattle.gd_reply.specs.Refusals.{refusal_of, misfit_view, CountsFit};
+ghost use Rattle.gd_reply.specs.Refusals.{refusal_of, CountsFit};
 
-use crate::members::{list, object, push_count, push_member, push_text};
+use crate::guid::guid;
+use crate::members::{Members, list, object, push_count, push_member, push_text};
+use gd_base::id::Id;
 use gd_base::memory::Memory;
+use gd_base::text::Text;
 use gd_json::from::JsonFault;
 use gd_json::value::{Json, JsonText};
 use gd_mql::fault::{Code, Path};
 use gd_prim::What;
 use std::alloc::Global;
-
-/// How a query of a right form does not go with what its words stand for.
-#[derive(Clone, Copy, Debug, PartialEq, Eq)]
-pub enum Misfit {
-    /// The operand is no value of what is asked.
-    BadValue,
-    /// The operator does not stand on answers of this kind.
-    BadOperator,
-    /// A property that holds values is asked for backwards.
-    ValueReversed,
-    /// A form on a value or a key has a member that may not stand there.
-    ObjectForm,
-    /// Rows are not sorted by this word.
-    BadSort,
-}
 
 /// Why a line is refused, with what its reply tells of it.
 #[derive(Drop)]
@@ -40,7 +29,7 @@ pub enum Refusal {
     Json(JsonFault),
     /// The line is no object of just `sid`, a number from 0 to 63, and one of `read` and `write`.
     BadLine,
-    /// The query is refused at this place.
+    /// The query or the write is refused at this place.
     BadQuery { code: Code, path: Path },
     /// A limit would be passed; `count` is the number that would be reached.
     Full { what: What, count: u64 },
@@ -48,10 +37,12 @@ pub enum Refusal {
     NoSuchId { path: JsonText },
     /// No property is meant by the word of the name at the end of this path.
     NoSuchProperty { path: Path },
-    /// What stands at the end of this path does not go with what its words stand for.
-    Misfit { misfit: Misfit, path: Path },
-    /// More than one answer stands where one is asked, at the end of this path.
+    /// More than one answer stands where one is asked, or would stand where one may, at the end of this path.
     NotUnique { path: Path },
+    /// The key leads to another object.
+    KeyTaken { key: Text, holder: Id },
+    /// The link that is to give way has a successor already.
+    StaleVersion { previous: Id, successor: Id },
     /// The text of a cursor is none, and so many of its bytes begin one.
     BadCursor { offset: u64 },
     /// The dateline of a cursor is above the one that there is.
@@ -84,11 +75,13 @@ pub fn error_name(refusal: &Refusal) -> &'static str
         Refusal::LineTooLong => "LineTooLong",
         Refusal::Json(fault) => json_name(*fault),
         Refusal::BadLine => "BadLine",
-        Refusal::BadQuery { .. } | Refusal::Misfit { .. } => "BadQuery",
+        Refusal::BadQuery { .. } => "BadQuery",
         Refusal::Full { .. } => "Full",
         Refusal::NoSuchId { .. } => "NoSuchId",
         Refusal::NoSuchProperty { .. } => "NoSuchProperty",
         Refusal::NotUnique { .. } => "NotUnique",
+        Refusal::KeyTaken { .. } => "KeyTaken",
+        Refusal::StaleVersion { .. } => "StaleVersion",
         Refusal::BadCursor { .. } => "BadCursor",
         Refusal::CursorAhead { .. } => "CursorAhead",
         Refusal::TooWideAnswer { .. } => "TooWideAnswer",
@@ -110,20 +103,13 @@ fn code_name(code: Code) -> &'static str
         Code::BadWrite => "bad_write",
         Code::BadCreate => "bad_create",
         Code::BadConnect => "bad_connect",
-        Code::Unbuilt => "unbuilt",
         Code::BadValue => "bad_value",
-    }
-}
-
-fn misfit_name(misfit: Misfit) -> &'static str
-    ensures { result.now ≡ code_text (misfit_view misfit) }
-{
-    match misfit {
-        Misfit::BadValue => "bad_value",
-        Misfit::BadOperator => "bad_operator",
-        Misfit::ValueReversed => "value_reversed",
-        Misfit::ObjectForm => "object_form",
-        Misfit::BadSort => "bad_sort",
+        Code::BadOperator => "bad_operator",
+        Code::ValueReversed => "value_reversed",
+        Code::ObjectForm => "object_form",
+        Code::BadSort => "bad_sort",
+        Code::NotMet => "not_met",
+        Code::BadPrevious => "bad_previous",
     }
 }
 
@@ -163,16 +149,6 @@ fn query_info(alloc: Global, code: Code, path: &Path) -> Result<Json, Memory>
 {
     let mut members = Vec::new(alloc);
     push_text(alloc, &mut members, "code", code_name(code))?;
-    push_member(alloc, &mut members, "path", path_list(alloc, path)?)?;
-    Ok(object(members))
-}
-
-fn misfit_info(alloc: Global, misfit: Misfit, path: &Path) -> Result<Json, Memory>
-    ensures { IfOk result (λ json. view json ≡ object_tree (object_of ((codes "code", text_of (code_text (misfit_view misfit)))
-        ∷ (codes "path", list_of (texts path.now)) ∷ []))) }
-{
-    let mut members = Vec::new(alloc);
-    push_text(alloc, &mut members, "code", misfit_name(misfit))?;
     push_member(alloc, &mut members, "path", path_list(alloc, path)?)?;
     Ok(object(members))
 }
@@ -223,6 +199,36 @@ fn text_info(alloc: Global, name: &str, value: &JsonText) -> Result<Json, Memory
     Ok(object(members))
 }
 
+/// Appends a member whose value is a guid.
+fn push_guid(alloc: Global, members: &mut Members, name: &str, id: Id) -> Result<(), Memory>
+    ensures { OnOk result (map member_view members.new.items
+        ≡ map member_view members.old.items ++ (name.now, text_of (guid_of id)) ∷ []) }
+{
+    let text = guid(alloc, id)?;
+    push_text(alloc, members, name, text.as_str())?;
+    Ok(())
+}
+
+fn taken_info(alloc: Global, key: &Text, holder: Id) -> Result<Json, Memory>
+    ensures { IfOk result (λ json. view json ≡ object_tree (object_of ((codes "holder", text_of (guid_of holder))
+        ∷ (codes "key", text_of key.now) ∷ []))) }
+{
+    let mut members = Vec::new(alloc);
+    push_guid(alloc, &mut members, "holder", holder)?;
+    push_text(alloc, &mut members, "key", key.as_str())?;
+    Ok(object(members))
+}
+
+fn stale_info(alloc: Global, previous: Id, successor: Id) -> Result<Json, Memory>
+    ensures { IfOk result (λ json. view json ≡ object_tree (object_of ((codes "previous", text_of (guid_of previous))
+        ∷ (codes "successor", text_of (guid_of successor)) ∷ []))) }
+{
+    let mut members = Vec::new(alloc);
+    push_guid(alloc, &mut members, "previous", previous)?;
+    push_guid(alloc, &mut members, "successor", successor)?;
+    Ok(object(members))
+}
+
 /// What the reply tells of the refusal.
 pub fn info(alloc: Global, refusal: &Refusal) -> Result<Json, Memory>
     requires { CountsFit refusal.now }
@@ -238,7 +244,8 @@ pub fn info(alloc: Global, refusal: &Refusal) -> Result<Json, Memory>
         Refusal::TooWideAnswer { weight } => count_info(alloc, "weight", u64::from(*weight)),
         Refusal::ReplyTooLarge { bytes } => count_info(alloc, "bytes", *bytes),
         Refusal::NoSuchProperty { path } | Refusal::NotUnique { path } => path_info(alloc, path),
-        Refusal::Misfit { misfit, path } => misfit_info(alloc, *misfit, path),
+        Refusal::KeyTaken { key, holder } => taken_info(alloc, key, *holder),
+        Refusal::StaleVersion { previous, successor } => stale_info(alloc, *previous, *successor),
         Refusal::BadCursor { offset } => count_info(alloc, "offset", *offset),
         Refusal::CursorAhead { asked, have } => ahead_info(alloc, *asked, *have),
     }

@@ -53,9 +53,9 @@ fn prints(alloc: Global, fault: &LineFault, wanted: &str) -> bool {
 #[test]
 fn prints_a_fault(rt: HostRuntime) {
     let fault = LineFault::BadQuery {
-        code: Code::Unbuilt,
+        code: Code::Envelope,
         path: Path::root(rt.alloc()),
     };
-    let wanted = "the query is refused at Path { names: [] }: the form is not built";
+    let wanted = "the query is refused at Path { names: [] }: the envelope of the request is not one";
     assert!(rt; prints(rt.alloc(), &fault, wanted));
 }

@@ -1,6 +1,5 @@
 pub mod Counted
 pub mod Last
 pub mod Lefts
-pub mod Name
 pub mod Scans
 pub mod Ways

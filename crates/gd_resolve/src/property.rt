@@ -1,5 +1,5 @@
 //! What a property says of itself.
-ghost use Rattle.std.specs.Prelude.{◌≡◌, ◌≤◌, ◌<◌, ◌↔◌, ◌&&◌, length, find, IsTrue};
+ghost use Rattle.std.specs.Prelude.{◌≡◌, ◌≤◌, ◌<◌, ◌&&◌, length, find, IsTrue};
 ghost use Rattle.gd_base.specs.Counts.{Rose};
 ghost use Rattle.gd_prim.specs.declared.End.TheVariants.{Left};
 ghost use Rattle.gd_prim.specs.End.{places_with};
@@ -7,8 +7,6 @@ ghost use Rattle.gd_prim.specs.History.{prims_of};
 ghost use Rattle.gd_prim.specs.Live as live;
 ghost use Rattle.gd_prim.specs.Builtin.{property_place, expected_place};
 ghost use Rattle.gd_defs.specs.Property as defined;
-ghost use Rattle.gd_runs.specs.Built as built;
-ghost use Rattle.gd_runs.specs.Built.{SaysName};
 ghost use Rattle.gd_resolve.specs.Found as found;
 
 use crate::look::{is_object, prim_at, right_at};
@@ -22,12 +20,6 @@ use std::marker::Model;
 
 /// The type of properties.
 const PROPERTY: Id = Id(6);
-
-/// The type of values that are texts.
-const TEXT: Id = Id(7);
-
-/// The property `name`.
-const NAME: Id = Id(13);
 
 /// The typ of links to types.
 const TYPE: Id = Id(14);
@@ -221,24 +213,4 @@ pub fn is_property<L>(view: &View<'_>, place: Id, steps: &mut Steps<L>) -> bool
     ensures found { IsTrue result → Rose steps.old steps.new }
 {
     is_object(view, place, steps) && has_type(view, place, PROPERTY, steps)
-}
-
-fn is_name_property(property: &Property) -> bool
-    ensures { result ≡ built.is_name_property property.now }
-{
-    property.stored == NAME
-        && !property.reversed
-        && property.expected == Some(TEXT)
-        && property.unique
-}
-
-/// Whether the primitives below the dateline say of the property `name` what the built-in list says: a property stands at
-/// its place, its links are its own and lead forward, and it expects a text and is unique. It takes no memory.
-pub fn says_name<L>(view: &View<'_>, steps: &mut Steps<L>) -> bool
-    ensures tested { result ≡ built.says_name (prims_of view.now) }
-    ensures says { IsTrue result ↔ SaysName (prims_of view.now) }
-    ensures later { steps.old ≤ steps.new }
-    ensures counted { 13 < length (prims_of view.now) → Rose steps.old steps.new }
-{
-    is_property(view, NAME, steps) && is_name_property(&stated(view, NAME, steps))
 }

@@ -1,19 +1,15 @@
 -- A write at which the disk fails, and the write behind it: the first one counts or it does not, and a legal history says so either way.
-use Rattle.std.proofs.Common.{◌≡◌, refl, ℕ, zero, suc, ◌<◌, List, [], ◌∷◌, codes, true, Result, Ok, Err, None, Some, arith}
+use Rattle.std.proofs.Common.{◌≡◌, refl, ℕ, zero, suc, ◌<◌, List, [], ◌∷◌, codes, Result, Ok, Err, None, Some, arith}
 use Rattle.std.specs.Prelude.{slice_get}
 use Rattle.gd_prim.specs.declared.Batch.{Batch}
 use Rattle.gd_tree.specs.Json.{Json, null}
 use Rattle.gd_defs.specs.Change as change
 use Rattle.gd_defs.specs.Write.{WriteRequest, ChangeFault}
 use Rattle.gd_runs.specs.Request.{Line, write, exec_after}
-use Rattle.gd_runs.specs.Input.{Forms, line_from, InputFault}
+use Rattle.gd_runs.specs.Input.{line_from, InputFault}
 use Rattle.gd_runs.specs.Legal.{Entry, History, IsLegal}
 use Rattle.gd_runs.specs.Explained.{stored, in_doubt, Prints}
 use Rattle.gd_runs.proofs.Plain.{computing}
-
--- every form is built
-abbrev all_built : Forms
-all_built prims j = true
 
 abbrev first_bytes : List ℕ
 first_bytes = codes "{\"sid\":0,\"write\":{\"query\":{\"create\":\"unconditional\",\"name\":\"A\"}}}"
@@ -58,22 +54,22 @@ without_it = record { loaded = []; entries = alone ∷ [] }
 abbrev doubt_reply : List ℕ
 doubt_reply = codes "{\"code\":\"/api/status/error\",\"error\":\"DiskFault\",\"info\":{\"stored\":\"maybe\"},\"line\":0}"
 
-pub told_with : Prints all_built with_it 0 first_bytes in_doubt doubt_reply
+pub told_with : Prints with_it 0 first_bytes in_doubt doubt_reply
 unfolding computing
-told_with = ((0, 0, request_of (line_from first_bytes), record { loaded = omega arith; size = omega arith }, refl), refl)
+told_with = ((0, request_of (line_from first_bytes), refl), refl)
 
-pub told_without : Prints all_built without_it 0 first_bytes in_doubt doubt_reply
+pub told_without : Prints without_it 0 first_bytes in_doubt doubt_reply
 unfolding computing
-told_without = ((0, 0, request_of (line_from first_bytes), record { loaded = omega arith; size = omega arith }, refl), refl)
+told_without = ((0, request_of (line_from first_bytes), refl), refl)
 
 -- the second write is stored behind it, as object 72 at dateline 2
-pub stored_behind : Prints all_built with_it 1 second_bytes (stored 1)
+pub stored_behind : Prints with_it 1 second_bytes (stored 1)
     (codes "{\"code\":\"/api/status/ok\",\"dateline\":2,\"line\":1,\"result\":{\"create\":\"created\",\"guid\":\"#00000000000000010000000000000048\",\"name\":\"B\"}}")
 unfolding computing
 stored_behind = (behind, 0, (refl, refl), refl, refl)
 
 -- or alone, as object 70 at dateline 1
-pub stored_alone : Prints all_built without_it 1 second_bytes (stored 0)
+pub stored_alone : Prints without_it 1 second_bytes (stored 0)
     (codes "{\"code\":\"/api/status/ok\",\"dateline\":1,\"line\":1,\"result\":{\"create\":\"created\",\"guid\":\"#00000000000000010000000000000046\",\"name\":\"B\"}}")
 unfolding computing
 stored_alone = (alone, 0, (refl, refl), refl, refl)

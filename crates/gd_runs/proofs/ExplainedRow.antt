@@ -14,7 +14,7 @@ use Rattle.gd_prim.specs.declared.Batch.{Batch}
 use Rattle.gd_tree.specs.Json.{Json, null}
 use Rattle.gd_defs.specs.Write.{WriteRequest, ChangeFault}
 use Rattle.gd_runs.specs.Request.{Line, read, write, ReadRequest, exec_after, reply_of}
-use Rattle.gd_runs.specs.Input.{Forms, line_from, InputFault}
+use Rattle.gd_runs.specs.Input.{line_from, InputFault}
 use Rattle.gd_runs.specs.Legal.{Entry, History, IsLegal, exec_line, batches}
 use Rattle.std.specs.Prelude.{slice_get}
 use Rattle.gd_runs.specs.Explained.{SameSession, MayBe, HasNumber, told_dateline, Explains, Run, stored, answered, lines_of, Prints, IsBounded, IsOfRun, entry_at}
@@ -70,11 +70,7 @@ legal = record { loaded = refl; entries = (refl, tt); lines = one_line }
     one_line i zero x y a b before same = Prim.omega (arith, before)
     one_line i (suc j) x y a b before same = Prim.cc b
 
--- every form is built
-abbrev pub all_built : Forms
-all_built prims j = true
-
-pub printed_first : Prints all_built history 0 write_bytes (stored 0) first_reply
+pub printed_first : Prints history 0 write_bytes (stored 0) first_reply
 unfolding digits value punctuate lex content word after_number number_of scan_numeral is_utf8 chars encode prims_of
 printed_first = (entry, 0, (refl, refl), refl, refl)
 
@@ -114,7 +110,7 @@ read_request = Rattle.std.specs.Prelude.unwrap_or (read_of (line_from read_bytes
 one_le : 1 ≤ 1
 one_le = Prim.omega arith
 
-pub printed_second : Prints all_built history 1 read_bytes (answered 1) second_reply
+pub printed_second : Prints history 1 read_bytes (answered 1) second_reply
 unfolding digits value punctuate lex content word after_number number_of scan_numeral is_utf8 chars encode prims_of
 printed_second = (0, read_request, refl, one_le, refl)
 
@@ -193,7 +189,7 @@ in_order (suc d) e x y q r a b c f before = apart a
 in_order zero (suc e) x y q r a b c f before = apart b
 
 -- the whole run: what is read, what is printed
-pub explained : Explains all_built [] (λ m. true) (codes "{\"sid\":0,\"write\":{\"query\":{\"create\":\"unconditional\",\"guid\":null,\"name\":\"Ann\"}}}\n{\"sid\":0,\"read\":{\"query\":[{\"guid\":null,\"name\":\"Ann\"}]}}\n") (first_reply ++ 10 ∷ second_reply ++ 10 ∷ []) history
+pub explained : Explains [] (λ m. true) (codes "{\"sid\":0,\"write\":{\"query\":{\"create\":\"unconditional\",\"guid\":null,\"name\":\"Ann\"}}}\n{\"sid\":0,\"read\":{\"query\":[{\"guid\":null,\"name\":\"Ann\"}]}}\n") (first_reply ++ 10 ∷ second_reply ++ 10 ∷ []) history
 unfolding digits value punctuate lex content word after_number number_of scan_numeral is_utf8 chars encode prims_of
 explained = (
   runs,
@@ -202,7 +198,7 @@ explained = (
     legal = legal;
     lines = lines;
     replies = refl;
-    each = each_run (λ k r. Prints all_built history k r.line.bytes r.outcome r.reply) printed_first printed_second;
+    each = each_run (λ k r. Prints history k r.line.bytes r.outcome r.reply) printed_first printed_second;
     entries = its_line;
     bounds = λ k r n at. each_run IsBoundedIfNumber bound_first bound_second k r at n;
     order = in_order;

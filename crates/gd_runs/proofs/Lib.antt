@@ -13,5 +13,4 @@ mod ExplainedRow
 mod EventRows
 mod LoadedRow
 mod DoubtRow
-pub mod BuiltRows
 pub mod LineMore

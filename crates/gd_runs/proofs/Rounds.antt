@@ -15,10 +15,10 @@ use Rattle.gd_bytes.specs.Cursor.{Cursor, cursor_of}
 use Rattle.gd_defs.specs.Lines.{err_line, cursor_ahead}
 use Rattle.gd_defs.specs.Reply.{reply}
 use Rattle.gd_runs.specs.Request.{Line, read, write, ReadRequest, CursorAsk, no_cursor, first_page, page_after, page_reply, reply_of}
-use Rattle.gd_runs.specs.Input.{Forms, InputFault, line_from, line_at}
+use Rattle.gd_runs.specs.Input.{InputFault, line_from}
 use Rattle.gd_runs.specs.Owed.{MembersOf}
 use Rattle.gd_runs.specs.Legal.{Entry, History, size, batches, with_entry, with_entries, upto, take_below, exec_line, AreEntriesAfter}
-use Rattle.gd_runs.specs.Explained.{Numbered, Run, Outcome, no_request, no_memory, stored, refused, late, in_doubt, not_tried, answered, entry_at, IsOfLine, IsWithin, IsWrite, Prints, HasNumber, MayBeEntry, IsOfRun, SameSession, TakesIn, IsBounded, MayBe, stored_dateline, told_dateline, cursor_dateline, ask_dateline, line_dateline, is_upto, stands_upto, without_return, pieces, IsExplainedBy, IsOldDoubt, IsRoundAfter}
+use Rattle.gd_runs.specs.Explained.{Numbered, Run, Outcome, no_request, no_memory, stored, refused, late, in_doubt, not_tried, answered, entry_at, IsOfLine, IsWithin, Prints, HasNumber, MayBeEntry, IsOfRun, SameSession, TakesIn, IsBounded, MayBe, stored_dateline, told_dateline, cursor_dateline, ask_dateline, line_dateline, is_upto, stands_upto, without_return, pieces, IsExplainedBy, IsOldDoubt, IsRoundAfter}
 use Rattle.gd_runs.specs.Core.{State}
 use Rattle.gd_runs.specs.Replay.{LineStep, Replies}
 
@@ -163,43 +163,29 @@ of_line_kept h new k e x (there, line) = (entry_old h new e x there, line)
 pub size_more : (h : History) (new : List Entry) → size h ≤ size (with_entries h new)
 size_more h new = let long = length-append h.entries new in omega (arith, long)
 
-pub prims_same : (h : History) (new : List Entry) (n : ℕ) → n ≤ size h → prims_at (batches (with_entries h new)) n ≡ prims_at (batches h) n
-prims_same h new n within =
-    let long : n ≤ length (batches h) = omega (arith, within, length_batches h) in
-    ap (λ (bs : List Batch). prims_at bs n) (batches_more h new) ∙ prims_kept (batches h) (map (λ e. e.batch) new) n long
-
-pub line_at_kept : (forms : Forms) (h : History) (new : List Entry) (n : ℕ) (bytes : List ℕ) (l : Result Line InputFault) → n ≤ size h
-    → line_at forms (prims_at (batches h) n) bytes ≡ l → line_at forms (prims_at (batches (with_entries h new)) n) bytes ≡ l
-line_at_kept forms h new n bytes l within is = ap (λ (prims : List Primitive). line_at forms prims bytes) (prims_same h new n within) ∙ is
-
 within_kept : (h : History) (new : List Entry) (n : ℕ) → IsWithin h n → IsWithin (with_entries h new) n
 within_kept h new n within = let longer = size_more h new in record { loaded = within.loaded; size = omega (arith, within.size, longer) }
 
-pub write_kept : (forms : Forms) (h : History) (new : List Entry) (bytes : List ℕ) → IsWrite forms h bytes → IsWrite forms (with_entries h new) bytes
-write_kept forms h new bytes (n, s, w, within, asked) = (n, s, w, within_kept h new n within, line_at_kept forms h new n bytes (Ok (write s w)) within.size asked)
-
-pub prints_kept : (forms : Forms) (h : History) (new : List Entry) (k : ℕ) (bytes : List ℕ) (o : Outcome) (reply : List ℕ) → Prints forms h k bytes o reply → Prints forms (with_entries h new) k bytes o reply
-prints_kept forms h new k bytes no_request reply (n, f, within, line, is) = (n, f, within_kept h new n within, line_at_kept forms h new n bytes (Err f) within.size line, is)
-prints_kept forms h new k bytes no_memory reply p = p
-prints_kept forms h new k bytes (stored e) reply (x, s, line, asked, is) =
-    let below = entry_below h e x line.0 in
-    (x, s, of_line_kept h new k e x line, line_at_kept forms h new e bytes (Ok (write s x.request)) (omega (arith, below)) asked, is)
-prints_kept forms h new k bytes (late e) reply (x, line, is) = (x, of_line_kept h new k e x line, is)
-prints_kept forms h new k bytes in_doubt reply (writes, is) = (write_kept forms h new bytes writes, is)
-prints_kept forms h new k bytes not_tried reply (writes, is) = (write_kept forms h new bytes writes, is)
-prints_kept forms h new k bytes (refused n) reply (s, w, moment, f, asked, within, does, is) = (
+pub prints_kept : (h : History) (new : List Entry) (k : ℕ) (bytes : List ℕ) (o : Outcome) (reply : List ℕ) → Prints h k bytes o reply → Prints (with_entries h new) k bytes o reply
+prints_kept h new k bytes no_request reply p = p
+prints_kept h new k bytes no_memory reply p = p
+prints_kept h new k bytes (stored e) reply (x, s, line, asked, is) = (x, s, of_line_kept h new k e x line, asked, is)
+prints_kept h new k bytes (late e) reply (x, line, is) = (x, of_line_kept h new k e x line, is)
+prints_kept h new k bytes in_doubt reply p = p
+prints_kept h new k bytes not_tried reply p = p
+prints_kept h new k bytes (refused n) reply (s, w, moment, f, asked, within, does, is) = (
   s,
   w,
   moment,
   f,
-  line_at_kept forms h new n bytes (Ok (write s w)) within.size asked,
+  asked,
   within_kept h new n within,
   ap (λ (g : History). exec_line g w moment (length bytes)) (upto_kept h new n within.size) ∙ does,
   is,
 )
-prints_kept forms h new k bytes (answered m) reply (s, r, asked, most, is) =
+prints_kept h new k bytes (answered m) reply (s, r, asked, most, is) =
     let longer = size_more h new in
-    (s, r, line_at_kept forms h new m bytes (Ok (read s r)) most asked, omega (arith, most, longer), is ∙ sym (reply_kept h new m k r most))
+    (s, r, asked, omega (arith, most, longer), is ∙ sym (reply_kept h new m k r most))
 
 -- ---- counting the entries of a round and those before it
 
@@ -275,15 +261,15 @@ line_within m (Ok (write s w)) = omega arith
 line_within m (Err f) = omega arith
 
 -- no dateline is printed above the history
-pub told_within : (forms : Forms) (h : History) (k : ℕ) (bytes : List ℕ) (o : Outcome) (reply : List ℕ) (d : ℕ) → Prints forms h k bytes o reply → told_dateline bytes o ≡ Some d → d ≤ size h
-told_within forms h k bytes no_request reply d p e = no_some e
-told_within forms h k bytes no_memory reply d p e = no_some e
-told_within forms h k bytes (stored n) reply d (x, s, (there, line), asked, is) e = let below = entry_below h n x there in let same = some_same e in omega (arith, below, same)
-told_within forms h k bytes (refused n) reply d p e = no_some e
-told_within forms h k bytes (late n) reply d p e = no_some e
-told_within forms h k bytes in_doubt reply d p e = no_some e
-told_within forms h k bytes not_tried reply d p e = no_some e
-told_within forms h k bytes (answered m) reply d (s, r, asked, most, is) e = let within = line_within m (line_from bytes) in let same = some_same e in omega (arith, within, same, most)
+pub told_within : (h : History) (k : ℕ) (bytes : List ℕ) (o : Outcome) (reply : List ℕ) (d : ℕ) → Prints h k bytes o reply → told_dateline bytes o ≡ Some d → d ≤ size h
+told_within h k bytes no_request reply d p e = no_some e
+told_within h k bytes no_memory reply d p e = no_some e
+told_within h k bytes (stored n) reply d (x, s, (there, line), asked, is) e = let below = entry_below h n x there in let same = some_same e in omega (arith, below, same)
+told_within h k bytes (refused n) reply d p e = no_some e
+told_within h k bytes (late n) reply d p e = no_some e
+told_within h k bytes in_doubt reply d p e = no_some e
+told_within h k bytes not_tried reply d p e = no_some e
+told_within h k bytes (answered m) reply d (s, r, asked, most, is) e = let within = line_within m (line_from bytes) in let same = some_same e in omega (arith, within, same, most)
 
 -- what a write printed with ok was told too
 pub stored_told : (bytes : List ℕ) (o : Outcome) (d : ℕ) → stored_dateline o ≡ Some d → told_dateline bytes o ≡ Some d
@@ -314,8 +300,8 @@ entries_after g (e ∷ es) fs (first, rest) b =
 
 -- ---- an explained run and one round more are an explained run
 
-module _ (forms : Forms) (loaded : List Batch) (may : ℕ → Bool) (given : List Numbered) (output : List ℕ) (h : History) (runs : List Run) (ex : IsExplainedBy forms loaded may given output h runs)
-    (round : ℕ) (lines : List Numbered) (out : List ℕ) (new : List Entry) (more : List Run) (rd : IsRoundAfter forms may h runs round lines out new more) where
+module _ (loaded : List Batch) (may : ℕ → Bool) (given : List Numbered) (output : List ℕ) (h : History) (runs : List Run) (ex : IsExplainedBy loaded may given output h runs)
+    (round : ℕ) (lines : List Numbered) (out : List ℕ) (new : List Entry) (more : List Run) (rd : IsRoundAfter may h runs round lines out new more) where
   -- an old entry is of a line before the round
   old_line : (e : ℕ) (x : Entry) → entry_at h e ≡ Some x → x.line < length runs
   old_line e x at = let (r, there, does, is) = ex.entries e x at in get_within runs x.line r there
@@ -373,7 +359,7 @@ module _ (forms : Forms) (loaded : List Batch) (may : ℕ → Bool) (given : Lis
   }
 
   told : (k : ℕ) (q : Run) (d : ℕ) → slice_get runs k ≡ Some q → told_dateline q.line.bytes q.outcome ≡ Some d → d ≤ size h
-  told k q d at is = told_within forms h k q.line.bytes q.outcome q.reply d (ex.each k q at) is
+  told k q d at is = told_within h k q.line.bytes q.outcome q.reply d (ex.each k q at) is
 
   -- the line that was in doubt, and is the first new entry
   doubt_bounds : (k : ℕ) (r : Run) (x : Entry) → slice_get runs k ≡ Some r → x.line ≡ k → IsOldDoubt h runs x r → IsBounded h runs k r (size h)
@@ -422,10 +408,10 @@ module _ (forms : Forms) (loaded : List Batch) (may : ℕ → Bool) (given : Lis
       (λ (j, is, there). subst (λ (l : ℕ). IsBounded (with_entries h new) (runs ++ more) l r n) (sym is) (new_bounds j r n there (subst (λ (l : ℕ). HasNumber (with_entries h new) l r.outcome n) is has)))
       (get_cases runs more k r at)
 
-  all_each : (k : ℕ) (r : Run) → slice_get (runs ++ more) k ≡ Some r → Prints forms (with_entries h new) k r.line.bytes r.outcome r.reply
+  all_each : (k : ℕ) (r : Run) → slice_get (runs ++ more) k ≡ Some r → Prints (with_entries h new) k r.line.bytes r.outcome r.reply
   all_each k r at = ⊎_elim
-      (λ old. prints_kept forms h new k r.line.bytes r.outcome r.reply (ex.each k r old))
-      (λ (j, is, there). subst (λ (l : ℕ). Prints forms (with_entries h new) l r.line.bytes r.outcome r.reply) (sym is) (rd.each j r there))
+      (λ old. prints_kept h new k r.line.bytes r.outcome r.reply (ex.each k r old))
+      (λ (j, is, there). subst (λ (l : ℕ). Prints (with_entries h new) l r.line.bytes r.outcome r.reply) (sym is) (rd.each j r there))
       (get_cases runs more k r at)
 
   all_moments : (e : ℕ) (x : Entry) → entry_at (with_entries h new) e ≡ Some x → MayBe may x.moment
@@ -514,7 +500,7 @@ module _ (forms : Forms) (loaded : List Batch) (may : ℕ → Bool) (given : Lis
   abbrev printed : Run → List ℕ
   printed r = r.reply ++ 10 ∷ []
 
-  pub one_round_more : IsExplainedBy forms loaded may (given ++ lines) (output ++ out) (with_entries h new) (runs ++ more)
+  pub one_round_more : IsExplainedBy loaded may (given ++ lines) (output ++ out) (with_entries h new) (runs ++ more)
   one_round_more = record {
     begins = ex.begins;
     legal = record { loaded = ex.legal.loaded; entries = entries_after (record { loaded = h.loaded; entries = [] }) h.entries new ex.legal.entries rd.legal; lines = lines_differ };
@@ -528,8 +514,8 @@ module _ (forms : Forms) (loaded : List Batch) (may : ℕ → Bool) (given : Lis
   }
 
 -- before the first round
-pub no_round : (forms : Forms) (loaded : List Batch) (may : ℕ → Bool) → all_follow builtin 0 loaded ≡ true → IsExplainedBy forms loaded may [] [] (record { loaded = loaded; entries = [] }) []
-no_round forms loaded may follow = record {
+pub no_round : (loaded : List Batch) (may : ℕ → Bool) → all_follow builtin 0 loaded ≡ true → IsExplainedBy loaded may [] [] (record { loaded = loaded; entries = [] }) []
+no_round loaded may follow = record {
   begins = refl;
   legal = record { loaded = follow; entries = tt; lines = λ i j x y a b before same. no_some a };
   lines = refl;

@@ -1,14 +1,12 @@
 -- The JSON that the bytes of a line are, and the line that they spell.
-use Rattle.std.specs.Prelude.{ℕ, List, [], length, nat_lt, Result, Ok, Err, if◌then◌else◌, codes, Bool, true, false}
-use Rattle.gd_prim.specs.declared.Primitive.{Primitive}
+use Rattle.std.specs.Prelude.{ℕ, List, [], length, nat_lt, Result, Err, if◌then◌else◌, codes}
 use Rattle.gd_grammar.specs.Chain.{◌>>=◌, map_err}
 use Rattle.gd_tree.specs.Json.{Json}
 use Rattle.gd_json.specs.declared.from.JsonFault.{JsonFault}
 use Rattle.gd_json.specs.declared.from.JsonFault.TheVariants as json_fault
 use Rattle.gd_json.specs.Reading.{json_from}
 use Rattle.gd_defs.specs.Lines.{Refusal, refusal, err_line_plain}
-use Rattle.gd_runs.specs.Request.{Line, LineFault, bad_line, bad_form, line_of, fault_line}
-use Rattle.gd_defs.specs.Query.{unbuilt}
+use Rattle.gd_runs.specs.Request.{Line, LineFault, line_of, fault_line}
 
 -- why bytes are no line: too many, no JSON of this profile, or no line that JSON spells
 pub data InputFault : Type 0 where
@@ -35,23 +33,6 @@ as_line r = map_err no_line r
 -- the line that bytes spell
 abbrev pub line_from : List ℕ → Result Line InputFault
 line_from bytes = bytes_line (λ j. as_line (line_of j)) bytes
-
--- which lines are of a form that is built, over a list of primitives
-abbrev pub Forms : Type 0
-Forms = List Primitive → Line → Bool
-
--- the fault of a line whose form is not built
-abbrev pub not_built : InputFault
-not_built = no_line (bad_form (record { code = unbuilt; path = [] }))
-
--- a line, where its form is built
-abbrev pub if_built : Bool → Line → Result Line InputFault
-if_built true l = Ok l
-if_built false l = Err not_built
-
--- the line that bytes spell over a list, where its form is built; that it is not comes after every other refusal of form
-abbrev pub line_at : Forms → List Primitive → List ℕ → Result Line InputFault
-line_at forms prims bytes = line_from bytes >>= λ l. if_built (forms prims l) l
 
 -- the refusal that a fault of JSON is
 abbrev pub json_refusal : JsonFault → Refusal

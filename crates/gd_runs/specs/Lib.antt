@@ -13,4 +13,3 @@ pub mod Fitting
 pub mod Work
 pub mod Pace
 pub mod Side
-pub mod Built

@@ -6,7 +6,6 @@ use Rattle.gd_prim.specs.declared.Batch.{Batch}
 use Rattle.gd_prim.specs.Builtin.{builtin}
 use Rattle.gd_prim.specs.WellFormed.{all_follow}
 use Rattle.gd_runs.specs.Explained.{Numbered, memory_line}
-use Rattle.gd_runs.specs.Built.{is_built}
 use Rattle.gd_runs.proofs.Rounds.{no_some, get_cases, no_round}
 use Rattle.gd_input.specs.Rounds.{in_round}
 use Rattle.gd_served_laws.specs.Served.{Progress, IsServed, AreUpto, GoesOn}
@@ -78,7 +77,7 @@ pub served_at_first : (loaded : List Batch) (may : ℕ → Bool) → all_follow 
 served_at_first loaded may follow = record {
   history = record { loaded = loaded; entries = [] };
   runs = [];
-  explained = no_round is_built loaded may follow;
+  explained = no_round loaded may follow;
   stored = append-nil loaded;
   numbered = refl;
   counted = refl;

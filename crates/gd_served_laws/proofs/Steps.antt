@@ -3,20 +3,18 @@ use Rattle.std.proofs.Common.{◌≡◌, refl, ℕ, zero, suc, ◌+◌, Bool, tr
 use Rattle.std.proofs.lemmas.List.{append-nil, length-map, map-append}
 use Rattle.std.proofs.lemmas.Grind.{fold-append}
 use Rattle.gd_prim.specs.declared.Batch.{Batch}
-use Rattle.gd_prim.specs.declared.Primitive.{Primitive}
 use Rattle.gd_prim.specs.declared.What.TheVariants as what
 use Rattle.gd_prim.specs.History.{prims_at}
 use Rattle.gd_tree.specs.Json.{Json}
 use Rattle.gd_defs.specs.Lines.{ok_line, err_line}
 use Rattle.gd_defs.specs.Write.{WriteRequest, ChangeFault, full, exec}
-use Rattle.gd_runs.specs.Request.{Line, read, write, ReadRequest, reply_of, change_refusal}
-use Rattle.gd_runs.specs.Input.{InputFault, line_at, input_fault_line}
+use Rattle.gd_runs.specs.Request.{read, write, ReadRequest, reply_of, change_refusal}
+use Rattle.gd_runs.specs.Input.{InputFault, line_from, input_fault_line}
 use Rattle.gd_runs.specs.Legal.{Entry, History, size, batches, with_entries, history_bytes, kept_bytes, max_history, exec_line}
-use Rattle.gd_runs.specs.Explained.{Numbered, Run, MayBe, IsExplainedBy, IsOldDoubt, IsRoundAfter, IsWrite, HasNumber, entry_at, memory_line, disk_line}
+use Rattle.gd_runs.specs.Explained.{Numbered, Run, MayBe, IsExplainedBy, IsOldDoubt, IsRoundAfter, HasNumber, entry_at, memory_line, disk_line}
 use Rattle.gd_runs.specs.Explained as outcome
-use Rattle.gd_runs.specs.Built.{is_built}
-use Rattle.gd_runs.proofs.Rounds.{no_some, some_same, get_left, get_right, get_within, length_batches, write_kept, one_round_more}
-use Rattle.gd_runs.proofs.LineMore.{UptoRound, line_more, line_from-at, fault_more, memory_more, read_more, refused_more, stored_more, whole, entry_of, run_of}
+use Rattle.gd_runs.proofs.Rounds.{no_some, some_same, get_left, get_right, get_within, length_batches, one_round_more}
+use Rattle.gd_runs.proofs.LineMore.{UptoRound, line_more, fault_more, memory_more, read_more, refused_more, stored_more, entry_of, run_of}
 use Rattle.gd_served_laws.specs.Served.{Doubt, Progress, IsDoubtOf, IsDoubted, IsServed, AreUpto}
 use Rattle.gd_served_laws.specs.Step.{ComesTo, faulty, answered, refused, too_long, stored, in_doubt, not_tried, without_memory, Settles, no_doubt, counts, counts_not}
 
@@ -37,7 +35,7 @@ nothing_more h = ap (λ (es : List Entry). record { loaded = h.loaded; entries =
 one_more : (given : List Numbered) (l : Numbered) → length (given ++ l ∷ []) ≡ length given + 1
 one_more given l = length-append given (l ∷ [])
 
-module _ (loaded : List Batch) (may : ℕ → Bool) (given : List Numbered) (output : List ℕ) (h : History) (runs : List Run) (ex : IsExplainedBy is_built loaded may given output h runs)
+module _ (loaded : List Batch) (may : ℕ → Bool) (given : List Numbered) (output : List ℕ) (h : History) (runs : List Run) (ex : IsExplainedBy loaded may given output h runs)
     (l : Numbered) (upto : AreUpto given l.round) where
   here : UptoRound runs l.round
   here = upto_runs given runs l.round ex.lines upto
@@ -75,47 +73,41 @@ module _ (loaded : List Batch) (may : ℕ → Bool) (given : List Numbered) (out
 
   -- what a line that stores nothing leaves
   quiet : (reply : ℕ → List ℕ) (r : Run) (d : Option Doubt) → IsDoubted may h (runs ++ r ∷ []) d
-      → IsExplainedBy is_built loaded may (given ++ l ∷ []) (output ++ (reply (length runs) ++ 10 ∷ [])) (with_entries h []) (runs ++ r ∷ [])
+      → IsExplainedBy loaded may (given ++ l ∷ []) (output ++ (reply (length runs) ++ 10 ∷ [])) (with_entries h []) (runs ++ r ∷ [])
       → IsServed loaded may (given ++ l ∷ []) (output ++ (reply (length given) ++ 10 ∷ [])) (record { batches = batches h; lines = length given + 1; kept = history_bytes h; doubt = d })
   quiet reply r d doubted explained = record {
     history = h;
     runs = runs ++ r ∷ [];
-    explained = subst (λ (g : History). IsExplainedBy is_built loaded may (given ++ l ∷ []) (output ++ (reply (length given) ++ 10 ∷ [])) g (runs ++ r ∷ [])) (nothing_more h)
-        (subst (λ (k : ℕ). IsExplainedBy is_built loaded may (given ++ l ∷ []) (output ++ (reply k ++ 10 ∷ [])) (with_entries h []) (runs ++ r ∷ [])) count explained);
+    explained = subst (λ (g : History). IsExplainedBy loaded may (given ++ l ∷ []) (output ++ (reply (length given) ++ 10 ∷ [])) g (runs ++ r ∷ [])) (nothing_more h)
+        (subst (λ (k : ℕ). IsExplainedBy loaded may (given ++ l ∷ []) (output ++ (reply k ++ 10 ∷ [])) (with_entries h []) (runs ++ r ∷ [])) count explained);
     stored = refl;
     numbered = one_more given l;
     counted = refl;
     doubted = doubted;
   }
 
-  prims_here : prims_at (batches h) (size h) ≡ prims_at (batches h) (length (batches h))
-  prims_here = ap (prims_at (batches h)) sized
-
-  line_here : (r : Result Line InputFault) → line_at is_built (prims_at (batches h) (length (batches h))) l.bytes ≡ r → line_at is_built (prims_at (batches h) (size h)) l.bytes ≡ r
-  line_here r is = ap (λ (ps : List Primitive). line_at is_built ps l.bytes) prims_here ∙ is
-
-  fault_at : (d : Option Doubt) → IsDoubted may h runs d → (f : InputFault) → line_at is_built (prims_at (batches h) (length (batches h))) l.bytes ≡ Err f
+  fault_at : (d : Option Doubt) → IsDoubted may h runs d → (f : InputFault) → line_from l.bytes ≡ Err f
       → IsServed loaded may (given ++ l ∷ []) (output ++ (input_fault_line (length given) f ++ 10 ∷ [])) (record { batches = batches h; lines = length given + 1; kept = history_bytes h; doubt = d })
-  fault_at d doubted f is = quiet (λ k. input_fault_line k f) _ d (doubt_kept _ d doubted) (fault_more is_built loaded may given output h runs ex l here f (line_here (Err f) is))
+  fault_at d doubted f is = quiet (λ k. input_fault_line k f) _ d (doubt_kept _ d doubted) (fault_more loaded may given output h runs ex l here f is)
 
   memory_at : (d : Option Doubt) → IsDoubted may h runs d
       → IsServed loaded may (given ++ l ∷ []) (output ++ (memory_line (length given) ++ 10 ∷ [])) (record { batches = batches h; lines = length given + 1; kept = history_bytes h; doubt = d })
-  memory_at d doubted = quiet memory_line _ d (doubt_kept _ d doubted) (memory_more is_built loaded may given output h runs ex l here)
+  memory_at d doubted = quiet memory_line _ d (doubt_kept _ d doubted) (memory_more loaded may given output h runs ex l here)
 
-  read_at : (d : Option Doubt) → IsDoubted may h runs d → (s : ℕ) (r : ReadRequest) → line_at is_built (prims_at (batches h) (length (batches h))) l.bytes ≡ Ok (read s r)
+  read_at : (d : Option Doubt) → IsDoubted may h runs d → (s : ℕ) (r : ReadRequest) → line_from l.bytes ≡ Ok (read s r)
       → IsServed loaded may (given ++ l ∷ []) (output ++ (reply_of (batches h) (length (batches h)) (length given) r ++ 10 ∷ [])) (record { batches = batches h; lines = length given + 1; kept = history_bytes h; doubt = d })
   read_at d doubted s r is = subst (λ (n : ℕ). IsServed loaded may (given ++ l ∷ []) (output ++ (reply_of (batches h) n (length given) r ++ 10 ∷ [])) (record { batches = batches h; lines = length given + 1; kept = history_bytes h; doubt = d })) sized
-      (quiet (λ k. reply_of (batches h) (size h) k r) _ d (doubt_kept _ d doubted) (read_more is_built loaded may given output h runs ex l here s r (line_here (Ok (read s r)) is)))
+      (quiet (λ k. reply_of (batches h) (size h) k r) _ d (doubt_kept _ d doubted) (read_more loaded may given output h runs ex l here s r is))
 
   -- what a write does after the history, its limit aside
   exec_here : (w : WriteRequest) (moment : ℕ) (r : Result (Batch × Json) ChangeFault) → exec (prims_at (batches h) (length (batches h))) (length (batches h)) w moment ≡ r → exec (prims_at (batches h) (size h)) (size h) w moment ≡ r
   exec_here w moment r is = ap (λ (n : ℕ). exec (prims_at (batches h) n) n w moment) sized ∙ is
 
-  refused_at : (s : ℕ) (w : WriteRequest) (moment : ℕ) (f : ChangeFault) → line_at is_built (prims_at (batches h) (length (batches h))) l.bytes ≡ Ok (write s w)
+  refused_at : (s : ℕ) (w : WriteRequest) (moment : ℕ) (f : ChangeFault) → line_from l.bytes ≡ Ok (write s w)
       → exec_line h w moment (length l.bytes) ≡ Err f
       → IsServed loaded may (given ++ l ∷ []) (output ++ (err_line (length (batches h)) (length given) (change_refusal f) ++ 10 ∷ [])) (record { batches = batches h; lines = length given + 1; kept = history_bytes h; doubt = None })
   refused_at s w moment f is does = subst (λ (n : ℕ). IsServed loaded may (given ++ l ∷ []) (output ++ (err_line n (length given) (change_refusal f) ++ 10 ∷ [])) (record { batches = batches h; lines = length given + 1; kept = history_bytes h; doubt = None })) sized
-      (quiet (λ k. err_line (size h) k (change_refusal f)) _ None tt (refused_more is_built loaded may given output h runs ex l here s w moment f (line_here (Ok (write s w)) is) does))
+      (quiet (λ k. err_line (size h) k (change_refusal f)) _ None tt (refused_more loaded may given output h runs ex l here s w moment f is does))
 
   -- what a write stores, where neither its refusals nor the limit of the history come
   exec_line_ok : (w : WriteRequest) (moment n : ℕ) (done : Batch × Json) → exec (prims_at (batches h) (size h)) (size h) w moment ≡ Ok done
@@ -135,22 +127,22 @@ module _ (loaded : List Batch) (may : ℕ → Bool) (given : List Numbered) (out
   bytes_with : (e : Entry) → history_bytes (with_entries h (e ∷ [])) ≡ history_bytes h + kept_bytes e.bytes e.result
   bytes_with e = fold-append (λ (n : ℕ) (x : Entry). n + kept_bytes x.bytes x.result) 0 h.entries (e ∷ [])
 
-  stored_at : (s : ℕ) (w : WriteRequest) (moment : ℕ) (done : Batch × Json) → line_at is_built (prims_at (batches h) (length (batches h))) l.bytes ≡ Ok (write s w)
+  stored_at : (s : ℕ) (w : WriteRequest) (moment : ℕ) (done : Batch × Json) → line_from l.bytes ≡ Ok (write s w)
       → exec (prims_at (batches h) (length (batches h))) (length (batches h)) w moment ≡ Ok done
       → nat_lt max_history (history_bytes h + kept_bytes (length l.bytes) done.1) ≡ false → MayBe may moment
       → IsServed loaded may (given ++ l ∷ []) (output ++ (ok_line (length (batches h) + 1) (length given) done.1 ++ 10 ∷ []))
       (record { batches = batches h ++ done.0 ∷ []; lines = length given + 1; kept = history_bytes h + kept_bytes (length l.bytes) done.1; doubt = None })
   stored_at s w moment done is does within may_be =
       let exec_is : exec_line h w moment (length l.bytes) ≡ Ok done = exec_line_ok w moment (length l.bytes) done (exec_here w moment (Ok done) does) within in
-      let explained = stored_more is_built loaded may given output h runs ex l here s w moment done (line_here (Ok (write s w)) is) exec_is may_be in
+      let explained = stored_more loaded may given output h runs ex l here s w moment done is exec_is may_be in
       record {
-        history = with_entries h (entry_of is_built loaded may given output h runs ex l here w moment done ∷ []);
+        history = with_entries h (entry_of loaded may given output h runs ex l here w moment done ∷ []);
         runs = _;
-        explained = subst (λ (k : ℕ). IsExplainedBy is_built loaded may (given ++ l ∷ []) (output ++ (ok_line (length (batches h) + 1) k done.1 ++ 10 ∷ [])) (with_entries h (entry_of is_built loaded may given output h runs ex l here w moment done ∷ [])) (runs ++ run_of l (outcome.stored (size h)) (ok_line (size h + 1) (length runs) done.1) ∷ [])) count
-            (subst (λ (n : ℕ). IsExplainedBy is_built loaded may (given ++ l ∷ []) (output ++ (ok_line (n + 1) (length runs) done.1 ++ 10 ∷ [])) (with_entries h (entry_of is_built loaded may given output h runs ex l here w moment done ∷ [])) (runs ++ run_of l (outcome.stored (size h)) (ok_line (size h + 1) (length runs) done.1) ∷ [])) sized explained);
-        stored = batches_with (entry_of is_built loaded may given output h runs ex l here w moment done);
+        explained = subst (λ (k : ℕ). IsExplainedBy loaded may (given ++ l ∷ []) (output ++ (ok_line (length (batches h) + 1) k done.1 ++ 10 ∷ [])) (with_entries h (entry_of loaded may given output h runs ex l here w moment done ∷ [])) (runs ++ run_of l (outcome.stored (size h)) (ok_line (size h + 1) (length runs) done.1) ∷ [])) count
+            (subst (λ (n : ℕ). IsExplainedBy loaded may (given ++ l ∷ []) (output ++ (ok_line (n + 1) (length runs) done.1 ++ 10 ∷ [])) (with_entries h (entry_of loaded may given output h runs ex l here w moment done ∷ [])) (runs ++ run_of l (outcome.stored (size h)) (ok_line (size h + 1) (length runs) done.1) ∷ [])) sized explained);
+        stored = batches_with (entry_of loaded may given output h runs ex l here w moment done);
         numbered = one_more given l;
-        counted = bytes_with (entry_of is_built loaded may given output h runs ex l here w moment done);
+        counted = bytes_with (entry_of loaded may given output h runs ex l here w moment done);
         doubted = tt;
       }
 
@@ -163,26 +155,23 @@ module _ (loaded : List Batch) (may : ℕ → Bool) (given : List Numbered) (out
       let within = get_within runs x.line of.0 of.1 in
       absurd (omega (arith, within, line))
 
-  writes_here : (s : ℕ) (w : WriteRequest) → line_at is_built (prims_at (batches h) (length (batches h))) l.bytes ≡ Ok (write s w) → IsWrite is_built (with_entries h []) l.bytes
-  writes_here s w is = write_kept is_built h [] l.bytes (size h, s, w, whole is_built loaded may given output h runs ex l here, line_here (Ok (write s w)) is)
-
-  not_tried_at : (d : Option Doubt) → IsDoubted may h runs d → (s : ℕ) (w : WriteRequest) → line_at is_built (prims_at (batches h) (length (batches h))) l.bytes ≡ Ok (write s w)
+  not_tried_at : (d : Option Doubt) → IsDoubted may h runs d → (s : ℕ) (w : WriteRequest) → line_from l.bytes ≡ Ok (write s w)
       → IsServed loaded may (given ++ l ∷ []) (output ++ (disk_line (length given) (codes "no") ++ 10 ∷ [])) (record { batches = batches h; lines = length given + 1; kept = history_bytes h; doubt = d })
   not_tried_at d doubted s w is = quiet (λ k. disk_line k (codes "no")) (run_of l outcome.not_tried (disk_line (length runs) (codes "no"))) d (doubt_kept _ d doubted)
-      (line_more is_built loaded may given output h runs ex l here outcome.not_tried (disk_line (length runs) (codes "no")) [] tt (writes_here s w is, refl) (λ i e there. no_some there) (λ n has. absurd has))
+      (line_more loaded may given output h runs ex l here outcome.not_tried (disk_line (length runs) (codes "no")) [] tt ((s, w, is), refl) (λ i e there. no_some there) (λ n has. absurd has))
 
-  doubtful_at : (s : ℕ) (w : WriteRequest) (moment : ℕ) (done : Batch × Json) → line_at is_built (prims_at (batches h) (length (batches h))) l.bytes ≡ Ok (write s w)
+  doubtful_at : (s : ℕ) (w : WriteRequest) (moment : ℕ) (done : Batch × Json) → line_from l.bytes ≡ Ok (write s w)
       → exec (prims_at (batches h) (length (batches h))) (length (batches h)) w moment ≡ Ok done
       → nat_lt max_history (history_bytes h + kept_bytes (length l.bytes) done.1) ≡ false → MayBe may moment
       → IsServed loaded may (given ++ l ∷ []) (output ++ (disk_line (length given) (codes "maybe") ++ 10 ∷ []))
       (record { batches = batches h; lines = length given + 1; kept = history_bytes h; doubt = Some (record { batch = done.0; kept = kept_bytes (length l.bytes) done.1 }) })
   doubtful_at s w moment done is does within may_be =
-      let e : Entry = entry_of is_built loaded may given output h runs ex l here w moment done in
+      let e : Entry = entry_of loaded may given output h runs ex l here w moment done in
       let r : Run = run_of l outcome.in_doubt (disk_line (length runs) (codes "maybe")) in
       let place : length runs + 0 ≡ length runs = omega arith in
       let old : IsOldDoubt h (runs ++ r ∷ []) e r = record {
         there = subst (λ (k : ℕ). slice_get (runs ++ r ∷ []) k ≡ Some r) place (get_right runs (r ∷ []) 0 r refl);
-        does = (s, line_from-at is_built (prims_at (batches h) (size h)) l.bytes (write s w) (line_here (Ok (write s w)) is), refl);
+        does = (s, is, refl);
         doubt = refl;
         last = λ n x q at there.
             let before = old_line r n x q at there in
@@ -192,11 +181,11 @@ module _ (loaded : List Batch) (may : ℕ → Bool) (given : List Numbered) (out
       } in
       quiet (λ k. disk_line k (codes "maybe")) r (Some (record { batch = done.0; kept = kept_bytes (length l.bytes) done.1 }))
       (record { entry = e; run = r; old = old; after = exec_line_ok w moment (length l.bytes) done (exec_here w moment (Ok done) does) within; moment = may_be; batch = refl; kept = refl })
-      (line_more is_built loaded may given output h runs ex l here outcome.in_doubt (disk_line (length runs) (codes "maybe")) [] tt (writes_here s w is, refl) (λ i x there. no_some there) not_of_line)
+      (line_more loaded may given output h runs ex l here outcome.in_doubt (disk_line (length runs) (codes "maybe")) [] tt ((s, w, is), refl) (λ i x there. no_some there) not_of_line)
 
   -- ---- the end of a doubt
 
-  settled_round : (d : Doubt) (is : IsDoubtOf may h runs d) → IsRoundAfter is_built may h runs l.round [] [] (is.entry ∷ []) []
+  settled_round : (d : Doubt) (is : IsDoubtOf may h runs d) → IsRoundAfter may h runs l.round [] [] (is.entry ∷ []) []
   settled_round d is = record {
     earlier = here;
     this = λ j r at. no_some at;
@@ -218,10 +207,10 @@ module _ (loaded : List Batch) (may : ℕ → Bool) (given : List Numbered) (out
   counted_at d is = record {
     history = with_entries h (is.entry ∷ []);
     runs = runs;
-    explained = subst (λ (rs : List Run). IsExplainedBy is_built loaded may given output (with_entries h (is.entry ∷ [])) rs) (append-nil runs)
-        (subst (λ (ls : List Numbered). IsExplainedBy is_built loaded may ls output (with_entries h (is.entry ∷ [])) (runs ++ [])) (append-nil given)
-        (subst (λ (out : List ℕ). IsExplainedBy is_built loaded may (given ++ []) out (with_entries h (is.entry ∷ [])) (runs ++ [])) (append-nil output)
-        (one_round_more is_built loaded may given output h runs ex l.round [] [] (is.entry ∷ []) [] (settled_round d is))));
+    explained = subst (λ (rs : List Run). IsExplainedBy loaded may given output (with_entries h (is.entry ∷ [])) rs) (append-nil runs)
+        (subst (λ (ls : List Numbered). IsExplainedBy loaded may ls output (with_entries h (is.entry ∷ [])) (runs ++ [])) (append-nil given)
+        (subst (λ (out : List ℕ). IsExplainedBy loaded may (given ++ []) out (with_entries h (is.entry ∷ [])) (runs ++ [])) (append-nil output)
+        (one_round_more loaded may given output h runs ex l.round [] [] (is.entry ∷ []) [] (settled_round d is))));
     stored = batches_with is.entry ∙ ap (λ (b : Batch). batches h ++ b ∷ []) is.batch;
     numbered = refl;
     counted = bytes_with is.entry ∙ ap (λ (n : ℕ). history_bytes h + n) is.kept;
@@ -244,8 +233,8 @@ module _ (loaded : List Batch) (may : ℕ → Bool) (given : List Numbered) (out
     Served reply bs lines kept d = IsServed loaded may (given ++ l ∷ []) (output ++ (reply ++ 10 ∷ [])) (record { batches = bs; lines = lines + 1; kept = kept; doubt = d })
 
     -- a line that is refused by its form
-    pub fault_served : (p : Progress) (f : InputFault) → IsServed loaded may given output p → line_at is_built (prims_at p.batches (length p.batches)) l.bytes ≡ Err f → Served (input_fault_line p.lines f) p.batches p.lines p.kept p.doubt
-    fault_served p f s = moved (λ bs k kept. line_at is_built (prims_at bs (length bs)) l.bytes ≡ Err f → Served (input_fault_line k f) bs k kept p.doubt) p s
+    pub fault_served : (p : Progress) (f : InputFault) → IsServed loaded may given output p → line_from l.bytes ≡ Err f → Served (input_fault_line p.lines f) p.batches p.lines p.kept p.doubt
+    fault_served p f s = moved (λ bs k kept. line_from l.bytes ≡ Err f → Served (input_fault_line k f) bs k kept p.doubt) p s
         (fault_at loaded may given output s.history s.runs s.explained l upto p.doubt s.doubted f)
 
     -- a line without memory
@@ -253,49 +242,49 @@ module _ (loaded : List Batch) (may : ℕ → Bool) (given : List Numbered) (out
     memory_served p s = moved (λ bs k kept. Served (memory_line k) bs k kept p.doubt) p s (memory_at loaded may given output s.history s.runs s.explained l upto p.doubt s.doubted)
 
     -- a read
-    pub read_served : (p : Progress) (sid : ℕ) (r : ReadRequest) → IsServed loaded may given output p → line_at is_built (prims_at p.batches (length p.batches)) l.bytes ≡ Ok (read sid r)
+    pub read_served : (p : Progress) (sid : ℕ) (r : ReadRequest) → IsServed loaded may given output p → line_from l.bytes ≡ Ok (read sid r)
         → Served (reply_of p.batches (length p.batches) p.lines r) p.batches p.lines p.kept p.doubt
-    read_served p sid r s = moved (λ bs k kept. line_at is_built (prims_at bs (length bs)) l.bytes ≡ Ok (read sid r) → Served (reply_of bs (length bs) k r) bs k kept p.doubt) p s
+    read_served p sid r s = moved (λ bs k kept. line_from l.bytes ≡ Ok (read sid r) → Served (reply_of bs (length bs) k r) bs k kept p.doubt) p s
         (read_at loaded may given output s.history s.runs s.explained l upto p.doubt s.doubted sid r)
 
     -- a write that was not tried
-    pub not_tried_served : (p : Progress) (sid : ℕ) (w : WriteRequest) → IsServed loaded may given output p → line_at is_built (prims_at p.batches (length p.batches)) l.bytes ≡ Ok (write sid w)
+    pub not_tried_served : (p : Progress) (sid : ℕ) (w : WriteRequest) → IsServed loaded may given output p → line_from l.bytes ≡ Ok (write sid w)
         → Served (disk_line p.lines (codes "no")) p.batches p.lines p.kept p.doubt
-    not_tried_served p sid w s = moved (λ bs k kept. line_at is_built (prims_at bs (length bs)) l.bytes ≡ Ok (write sid w) → Served (disk_line k (codes "no")) bs k kept p.doubt) p s
+    not_tried_served p sid w s = moved (λ bs k kept. line_from l.bytes ≡ Ok (write sid w) → Served (disk_line k (codes "no")) bs k kept p.doubt) p s
         (not_tried_at loaded may given output s.history s.runs s.explained l upto p.doubt s.doubted sid w)
 
     -- a write that is refused by what it asks
-    pub refused_served : (p : Progress) (sid : ℕ) (w : WriteRequest) (moment : ℕ) (f : ChangeFault) → IsServed loaded may given output p → line_at is_built (prims_at p.batches (length p.batches)) l.bytes ≡ Ok (write sid w)
+    pub refused_served : (p : Progress) (sid : ℕ) (w : WriteRequest) (moment : ℕ) (f : ChangeFault) → IsServed loaded may given output p → line_from l.bytes ≡ Ok (write sid w)
         → exec (prims_at p.batches (length p.batches)) (length p.batches) w moment ≡ Err f → Served (err_line (length p.batches) p.lines (change_refusal f)) p.batches p.lines p.kept None
-    refused_served p sid w moment f s = moved (λ bs k kept. line_at is_built (prims_at bs (length bs)) l.bytes ≡ Ok (write sid w) → exec (prims_at bs (length bs)) (length bs) w moment ≡ Err f
+    refused_served p sid w moment f s = moved (λ bs k kept. line_from l.bytes ≡ Ok (write sid w) → exec (prims_at bs (length bs)) (length bs) w moment ≡ Err f
         → Served (err_line (length bs) k (change_refusal f)) bs k kept None) p s
         (λ is does. refused_at loaded may given output s.history s.runs s.explained l upto sid w moment f is
         (exec_line_err loaded may given output s.history s.runs s.explained l upto w moment (length l.bytes) f (exec_here loaded may given output s.history s.runs s.explained l upto w moment (Err f) does)))
 
     -- a write by which the history would grow too long
-    pub full_served : (p : Progress) (sid : ℕ) (w : WriteRequest) (moment : ℕ) (done : Batch × Json) → IsServed loaded may given output p → line_at is_built (prims_at p.batches (length p.batches)) l.bytes ≡ Ok (write sid w)
+    pub full_served : (p : Progress) (sid : ℕ) (w : WriteRequest) (moment : ℕ) (done : Batch × Json) → IsServed loaded may given output p → line_from l.bytes ≡ Ok (write sid w)
         → exec (prims_at p.batches (length p.batches)) (length p.batches) w moment ≡ Ok done → nat_lt max_history (p.kept + kept_bytes (length l.bytes) done.1) ≡ true
         → Served (err_line (length p.batches) p.lines (change_refusal (full what.History (p.kept + kept_bytes (length l.bytes) done.1)))) p.batches p.lines p.kept None
-    full_served p sid w moment done s = moved (λ bs k kept. line_at is_built (prims_at bs (length bs)) l.bytes ≡ Ok (write sid w) → exec (prims_at bs (length bs)) (length bs) w moment ≡ Ok done
+    full_served p sid w moment done s = moved (λ bs k kept. line_from l.bytes ≡ Ok (write sid w) → exec (prims_at bs (length bs)) (length bs) w moment ≡ Ok done
         → nat_lt max_history (kept + kept_bytes (length l.bytes) done.1) ≡ true
         → Served (err_line (length bs) k (change_refusal (full what.History (kept + kept_bytes (length l.bytes) done.1)))) bs k kept None) p s
         (λ is does above. refused_at loaded may given output s.history s.runs s.explained l upto sid w moment _ is
         (exec_line_full loaded may given output s.history s.runs s.explained l upto w moment (length l.bytes) done (exec_here loaded may given output s.history s.runs s.explained l upto w moment (Ok done) does) above))
 
     -- a write that is stored
-    pub stored_served : (p : Progress) (sid : ℕ) (w : WriteRequest) (moment : ℕ) (done : Batch × Json) → IsServed loaded may given output p → line_at is_built (prims_at p.batches (length p.batches)) l.bytes ≡ Ok (write sid w)
+    pub stored_served : (p : Progress) (sid : ℕ) (w : WriteRequest) (moment : ℕ) (done : Batch × Json) → IsServed loaded may given output p → line_from l.bytes ≡ Ok (write sid w)
         → exec (prims_at p.batches (length p.batches)) (length p.batches) w moment ≡ Ok done → nat_lt max_history (p.kept + kept_bytes (length l.bytes) done.1) ≡ false → MayBe may moment
         → Served (ok_line (length p.batches + 1) p.lines done.1) (p.batches ++ done.0 ∷ []) p.lines (p.kept + kept_bytes (length l.bytes) done.1) None
-    stored_served p sid w moment done s = moved (λ bs k kept. line_at is_built (prims_at bs (length bs)) l.bytes ≡ Ok (write sid w) → exec (prims_at bs (length bs)) (length bs) w moment ≡ Ok done
+    stored_served p sid w moment done s = moved (λ bs k kept. line_from l.bytes ≡ Ok (write sid w) → exec (prims_at bs (length bs)) (length bs) w moment ≡ Ok done
         → nat_lt max_history (kept + kept_bytes (length l.bytes) done.1) ≡ false → MayBe may moment
         → Served (ok_line (length bs + 1) k done.1) (bs ++ done.0 ∷ []) k (kept + kept_bytes (length l.bytes) done.1) None) p s
         (stored_at loaded may given output s.history s.runs s.explained l upto sid w moment done)
 
     -- a write that is in doubt
-    pub doubtful_served : (p : Progress) (sid : ℕ) (w : WriteRequest) (moment : ℕ) (done : Batch × Json) → IsServed loaded may given output p → line_at is_built (prims_at p.batches (length p.batches)) l.bytes ≡ Ok (write sid w)
+    pub doubtful_served : (p : Progress) (sid : ℕ) (w : WriteRequest) (moment : ℕ) (done : Batch × Json) → IsServed loaded may given output p → line_from l.bytes ≡ Ok (write sid w)
         → exec (prims_at p.batches (length p.batches)) (length p.batches) w moment ≡ Ok done → nat_lt max_history (p.kept + kept_bytes (length l.bytes) done.1) ≡ false → MayBe may moment
         → Served (disk_line p.lines (codes "maybe")) p.batches p.lines p.kept (Some (record { batch = done.0; kept = kept_bytes (length l.bytes) done.1 }))
-    doubtful_served p sid w moment done s = moved (λ bs k kept. line_at is_built (prims_at bs (length bs)) l.bytes ≡ Ok (write sid w) → exec (prims_at bs (length bs)) (length bs) w moment ≡ Ok done
+    doubtful_served p sid w moment done s = moved (λ bs k kept. line_from l.bytes ≡ Ok (write sid w) → exec (prims_at bs (length bs)) (length bs) w moment ≡ Ok done
         → nat_lt max_history (kept + kept_bytes (length l.bytes) done.1) ≡ false → MayBe may moment
         → Served (disk_line k (codes "maybe")) bs k kept (Some (record { batch = done.0; kept = kept_bytes (length l.bytes) done.1 }))) p s
         (doubtful_at loaded may given output s.history s.runs s.explained l upto sid w moment done)

@@ -3,7 +3,6 @@ use Rattle.std.specs.Prelude.{◌≡◌, ℕ, ◌≤◌, List, ◌++◌, length,
 use Rattle.gd_prim.specs.declared.Batch.{Batch}
 use Rattle.gd_runs.specs.Legal.{Entry, History, batches, history_bytes, kept_bytes, IsEntryAfter}
 use Rattle.gd_runs.specs.Explained.{Numbered, Run, IsExplainedBy, IsOldDoubt, MayBe}
-use Rattle.gd_runs.specs.Built.{is_built}
 use Rattle.gd_input.specs.Rounds.{in_round}
 
 -- a write in doubt: the batch that it would add, and the bytes of its line and its result
@@ -37,7 +36,7 @@ IsDoubted may h runs (Some d) = IsDoubtOf may h runs d
 pub record IsServed (loaded : List Batch) (may : ℕ → Bool) (given : List Numbered) (output : List ℕ) (p : Progress) : Type 0 where
   pub history : History
   pub runs : List Run
-  pub explained : IsExplainedBy is_built loaded may given output history runs
+  pub explained : IsExplainedBy loaded may given output history runs
   pub stored : batches history ≡ p.batches
   pub numbered : length given ≡ p.lines
   pub counted : history_bytes history ≡ p.kept

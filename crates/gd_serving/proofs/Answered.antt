@@ -7,10 +7,9 @@ use Rattle.gd_mql.specs.Line.{fault_view}
 use Rattle.gd_mql.specs.Requests.{GivesLine}
 use Rattle.gd_runs.specs.Request as request
 use Rattle.gd_runs.specs.Request.{reply_of}
-use Rattle.gd_runs.specs.Input.{line_from, line_too_long, input_fault_line, value_line, as_line, max_line, not_built}
+use Rattle.gd_runs.specs.Input.{line_from, line_too_long, input_fault_line, value_line, as_line, max_line}
 use Rattle.gd_runs.specs.Explained.{tells_fault}
 use Rattle.gd_json.specs.Reading.{json_from}
-use Rattle.gd_defs.specs.Write.{WriteRequest}
 use Rattle.gd_input.specs.declared.line.RoundLine.{RoundLine}
 use Rattle.gd_input.specs.declared.line.RoundLine.TheVariants.{Bytes, TooLong}
 use Rattle.gd_input.specs.Line.{IsKept}
@@ -18,10 +17,8 @@ use Rattle.gd_base.specs.declared.memory.Memory.{Memory}
 use Rattle.gd_reply.specs.declared.reply.Reply.{Reply}
 use Rattle.gd_reply.specs.Replies.{reply_text}
 use Rattle.gd_served_laws.specs.Served.{Progress}
-use Rattle.gd_served_laws.specs.Step.{ComesTo, faulty, answered, line_now}
-use Rattle.gd_serving.specs.Here.{IsWriteRefused}
+use Rattle.gd_served_laws.specs.Step.{ComesTo, faulty, answered}
 use Rattle.gd_serving.proofs.Faults.{read_quiet}
-use Rattle.gd_serving.proofs.Here.{line_built, line_unbuilt, line_refused}
 use Rattle.gd_serving.specs.Judged.{made_of}
 use Rattle.gd_serving.proofs.Written.{above}
 
@@ -47,23 +44,23 @@ too_long_comes may p line bytes (Ok reply) is kept prints = faulty line_too_long
     long : max_line < length bytes
     long = subst (λ (l : RoundLine). IsKept 262_144 l bytes) is kept
 
-    line_is_long : line_now p bytes ≡ Err line_too_long
-    line_is_long = line_refused p bytes line_too_long (ap (λ (b : Bool). if b then Err line_too_long else value_line (λ j. as_line (request.line_of j)) (json_from bytes)) (above max_line (length bytes) long))
+    line_is_long : line_from bytes ≡ Err line_too_long
+    line_is_long = ap (λ (b : Bool). if b then Err line_too_long else value_line (λ j. as_line (request.line_of j)) (json_from bytes)) (above max_line (length bytes) long)
 
 -- a line that is refused by its form
 pub fault_comes : (may : ℕ → Bool) (p : Progress) (bytes : List ℕ) (f : LineFault) (r : Result (Vec ℕ Global) Memory) → GivesLine (line_from bytes) (Err f)
     → (f ≡ fault.Memory → IsErr r) → (f ≢ fault.Memory → IfOk r (λ reply. reply.items ≡ input_fault_line p.lines (fault_view f))) → IfOk r (λ reply. ComesTo may p bytes reply.items p)
 fault_comes may p bytes f (Err e) gives none prints = tt
 fault_comes may p bytes fault.Memory (Ok reply) gives none prints = cc (none refl)
-fault_comes may p bytes (fault.Json f) (Ok reply) gives none prints = faulty (fault_view (fault.Json f)) (line_refused p bytes (fault_view (fault.Json f)) (gives (λ is. cc is))) (prints (λ is. cc is)) refl
-fault_comes may p bytes fault.BadLine (Ok reply) gives none prints = faulty (fault_view fault.BadLine) (line_refused p bytes (fault_view fault.BadLine) (gives (λ is. cc is))) (prints (λ is. cc is)) refl
-fault_comes may p bytes (fault.BadQuery code path) (Ok reply) gives none prints = faulty (fault_view (fault.BadQuery code path)) (line_refused p bytes (fault_view (fault.BadQuery code path)) (gives (λ is. cc is))) (prints (λ is. cc is)) refl
+fault_comes may p bytes (fault.Json f) (Ok reply) gives none prints = faulty (fault_view (fault.Json f)) (gives (λ is. cc is)) (prints (λ is. cc is)) refl
+fault_comes may p bytes fault.BadLine (Ok reply) gives none prints = faulty (fault_view fault.BadLine) (gives (λ is. cc is)) (prints (λ is. cc is)) refl
+fault_comes may p bytes (fault.BadQuery code path) (Ok reply) gives none prints = faulty (fault_view (fault.BadQuery code path)) (gives (λ is. cc is)) (prints (λ is. cc is)) refl
 
 -- a read
 pub read_comes : (may : ℕ → Bool) (p : Progress) (bytes : List ℕ) (sid : ℕ) (asked : request.ReadRequest) (r : Result (Vec ℕ Global) Memory) → line_from bytes ≡ Ok (request.read sid asked)
     → IfOk r (λ reply. reply.items ≡ reply_of p.batches (length p.batches) p.lines asked) → IfOk r (λ reply. ComesTo may p bytes reply.items p)
 read_comes may p bytes sid asked (Err e) is prints = tt
-read_comes may p bytes sid asked (Ok reply) is prints = answered sid asked (line_built p bytes (request.read sid asked) is refl) prints refl
+read_comes may p bytes sid asked (Ok reply) is prints = answered sid asked is prints refl
 
 -- a reply to a read tells no failure of the disk
 pub read_tells_none : (p : Progress) (asked : request.ReadRequest) (P : Type 0) (r : Result (Vec ℕ Global) Memory) → IfOk r (λ reply. reply.items ≡ reply_of p.batches (length p.batches) p.lines asked)
@@ -72,17 +69,6 @@ read_tells_none p asked P (Err e) prints = tt
 read_tells_none p asked P (Ok reply) prints = λ tells.
     let quiet : tells_fault p.lines (reply_of p.batches (length p.batches) p.lines asked) ≡ false = read_quiet p.lines p.batches (length p.batches) p.lines asked in
     let same : tells_fault p.lines reply.items ≡ tells_fault p.lines (reply_of p.batches (length p.batches) p.lines asked) = ap (tells_fault p.lines) prints in cc
-
--- a write that is not carried out
-pub unbuilt_comes : (may : ℕ → Bool) (p : Progress) (bytes : List ℕ) (sid : ℕ) (w : WriteRequest) (r : Result (Vec ℕ Global) Memory) → line_from bytes ≡ Ok (request.write sid w) → IsWriteRefused p w
-    → IfOk r (λ reply. reply.items ≡ input_fault_line p.lines not_built) → IfOk r (λ reply. ComesTo may p bytes reply.items p)
-unbuilt_comes may p bytes sid w (Err e) is refused prints = tt
-unbuilt_comes may p bytes sid w (Ok reply) is refused prints = faulty not_built (line_unbuilt p bytes (request.write sid w) is (refused sid)) prints refl
-
--- the reply to it tells no failure of the disk
-pub unbuilt_tells_none : (k : ℕ) (P : Type 0) (r : Result (Vec ℕ Global) Memory) → IfOk r (λ reply. reply.items ≡ input_fault_line k not_built) → IfOk r (λ reply. tells_fault k reply.items ≡ true → P)
-unbuilt_tells_none k P (Err e) prints = tt
-unbuilt_tells_none k P (Ok reply) prints = λ tells. let same : tells_fault k reply.items ≡ false = ap (tells_fault k) prints in cc
 
 -- the kept bytes are as many as the line has
 pub kept_length : (line : RoundLine) (v : Vec ℕ Global) (items bytes : List ℕ) (n : ℕ) → line ≡ Bytes v → items ≡ v.items → n ≡ length items → IsKept 262_144 line bytes → length bytes ≡ n

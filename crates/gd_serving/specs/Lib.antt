@@ -3,4 +3,3 @@ pub mod Ready
 pub mod Kept
 pub mod Replies
 pub mod Judged
-pub mod Here

@@ -13,7 +13,7 @@ use Rattle.gd_defs.specs.Asked.{Asked, Unknown, asked_query}
 use Rattle.gd_defs.specs.Query.{Query}
 use Rattle.gd_defs.specs.Reply.{reply, meant_line, result_line, within_reply, max_reply, max_candidate_weight, max_page_weight, has_heavy_candidate, is_heavy_page, page, page_cursor, has_more, result_json, bad_query_refusal, unknown_refusal, rows_after}
 use Rattle.gd_runs.specs.Request.{bad_line, bad_form, CursorAsk, no_cursor, first_page, page_after, page_reply, reply_of, change_refusal}
-use Rattle.gd_runs.specs.Input.{Forms, InputFault, line_too_long, no_json, no_line, json_refusal, input_fault_line}
+use Rattle.gd_runs.specs.Input.{InputFault, line_too_long, no_json, no_line, json_refusal, input_fault_line}
 use Rattle.gd_runs.specs.Legal.{History, batches}
 use Rattle.gd_runs.specs.Explained.{Outcome, no_request, no_memory, stored, refused, late, in_doubt, not_tried, answered, Prints}
 
@@ -177,12 +177,12 @@ plain_fault k (no_line bad_line) = plain_refusal k (refusal (codes "BadLine") []
 plain_fault k (no_line (bad_form f)) = plain_refusal k (bad_query_refusal f.code f.path)
 
 -- what a line prints
-pub plain_reply : (forms : Forms) (h : History) (k : ℕ) (bytes : List ℕ) (o : Outcome) (line : List ℕ) → Prints forms h k bytes o line → Plain line
-plain_reply forms h k bytes no_request line (n, f, most, at, is) = subst Plain (sym is) (plain_fault k f)
-plain_reply forms h k bytes no_memory line is = subst Plain (sym is) (plain_refusal k (refusal (codes "Memory") []))
-plain_reply forms h k bytes (stored e) line (x, s, of, asked, is) = subst Plain (sym is) (plain_ok (e + 1) k x.result)
-plain_reply forms h k bytes (refused n) line (s, w, moment, f, asked, within, does, is) = subst Plain (sym is) (plain_err n k (change_refusal f))
-plain_reply forms h k bytes (late e) line (x, of, is) = subst Plain (sym is) (plain_refusal k (refusal (codes "MemoryLate") ((codes "entry", count_json e) ∷ [])))
-plain_reply forms h k bytes in_doubt line (writes, is) = subst Plain (sym is) (plain_refusal k (refusal (codes "DiskFault") ((codes "stored", text (codes "maybe")) ∷ [])))
-plain_reply forms h k bytes not_tried line (writes, is) = subst Plain (sym is) (plain_refusal k (refusal (codes "DiskFault") ((codes "stored", text (codes "no")) ∷ [])))
-plain_reply forms h k bytes (answered m) line (s, r, asked, most, is) = subst Plain (sym is) (plain_answer (batches h) m k r.cursor r.query)
+pub plain_reply : (h : History) (k : ℕ) (bytes : List ℕ) (o : Outcome) (line : List ℕ) → Prints h k bytes o line → Plain line
+plain_reply h k bytes no_request line (f, at, is) = subst Plain (sym is) (plain_fault k f)
+plain_reply h k bytes no_memory line is = subst Plain (sym is) (plain_refusal k (refusal (codes "Memory") []))
+plain_reply h k bytes (stored e) line (x, s, of, asked, is) = subst Plain (sym is) (plain_ok (e + 1) k x.result)
+plain_reply h k bytes (refused n) line (s, w, moment, f, asked, within, does, is) = subst Plain (sym is) (plain_err n k (change_refusal f))
+plain_reply h k bytes (late e) line (x, of, is) = subst Plain (sym is) (plain_refusal k (refusal (codes "MemoryLate") ((codes "entry", count_json e) ∷ [])))
+plain_reply h k bytes in_doubt line (writes, is) = subst Plain (sym is) (plain_refusal k (refusal (codes "DiskFault") ((codes "stored", text (codes "maybe")) ∷ [])))
+plain_reply h k bytes not_tried line (writes, is) = subst Plain (sym is) (plain_refusal k (refusal (codes "DiskFault") ((codes "stored", text (codes "no")) ∷ [])))
+plain_reply h k bytes (answered m) line (s, r, asked, most, is) = subst Plain (sym is) (plain_answer (batches h) m k r.cursor r.query)

@@ -8,7 +8,6 @@ use Rattle.std.proofs.lemmas.Option.{slice_get-get_or}
 use Rattle.std.specs.Io.KnownBytes.{Appends, Keeps}
 use Rattle.gd_base.specs.Counts.{Rose}
 use Rattle.gd_prim.specs.declared.Batch.{Batch}
-use Rattle.gd_runs.specs.Built.{is_built}
 use Rattle.gd_runs.specs.Explained.{Numbered, pieces, numbered, lines_of, lines_within, max_round, memory_line, IsExplainedBy, tells_fault, fault_count}
 use Rattle.gd_runs.proofs.Rounds.{no_some}
 use Rattle.gd_input.specs.declared.line.RoundLine.{RoundLine}
@@ -265,7 +264,7 @@ accounts loaded may a b p q given lines output replies served same is prints man
   history = served.history;
   runs = served.runs;
   begun = refl;
-  explained = subst (λ (ls : List Numbered). IsExplainedBy is_built loaded may ls output served.history served.runs) (sym is) served.explained;
+  explained = subst (λ (ls : List Numbered). IsExplainedBy loaded may ls output served.history served.runs) (sym is) served.explained;
   left = holds_same may p q served.history served.runs same (holds_as loaded may given output q served);
   counted = subst (RoseBy a b) (sym (told_is loaded may given output served.history served.runs replies served.explained prints (served.numbered ∙ many))) rose;
 }

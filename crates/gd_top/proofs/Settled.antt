@@ -5,7 +5,6 @@ use Rattle.std.specs.Option.{ForSome}
 use Rattle.gd_prim.specs.declared.Batch.{Batch}
 use Rattle.gd_bytes.specs.File.{StandsFor, MayStandFor}
 use Rattle.gd_runs.specs.Legal.{Entry, History, batches, with_entry}
-use Rattle.gd_runs.specs.Built.{is_built}
 use Rattle.gd_runs.specs.Explained.{Numbered, Run, MayBe, Holds, IsLeftInDoubt, IsExplainedBy, IsOldDoubt, IsRoundAfter}
 use Rattle.gd_runs.proofs.Rounds.{some_same, no_some, one_round_more}
 use Rattle.gd_served_laws.specs.Served.{Progress, Doubt, IsServed, IsDoubted, IsDoubtOf}
@@ -14,10 +13,10 @@ use Rattle.gd_journal.specs.State.{Journaled}
 use Rattle.gd_log.specs.State.{IsHeld}
 use Rattle.gd_top.specs.Held.{HoldsAs, Leaves, Loads, SameStore}
 
-module _ (loaded : List Batch) (may : ℕ → Bool) (given : List Numbered) (output : List ℕ) (h : History) (runs : List Run) (ex : IsExplainedBy is_built loaded may given output h runs) where
+module _ (loaded : List Batch) (may : ℕ → Bool) (given : List Numbered) (output : List ℕ) (h : History) (runs : List Run) (ex : IsExplainedBy loaded may given output h runs) where
   -- the write in doubt, as an entry more
   entry_round : (d : Doubt) (is : IsDoubtOf may h runs d) (round : ℕ) → ((k : ℕ) (r : Run) → slice_get runs k ≡ Some r → r.line.round ≤ round)
-      → IsRoundAfter is_built may h runs round [] [] (is.entry ∷ []) []
+      → IsRoundAfter may h runs round [] [] (is.entry ∷ []) []
   entry_round d is round upto = record {
     earlier = upto;
     this = λ j r at. no_some at;
@@ -51,10 +50,10 @@ batches_with : (h : History) (e : Entry) → batches (with_entry h e) ≡ batche
 batches_with h e = ap (λ (bs : List Batch). h.loaded ++ bs) (map-append (λ (x : Entry). x.batch) h.entries (e ∷ [])) ∙ sym (append_assoc h.loaded (map (λ (x : Entry). x.batch) h.entries) (e.batch ∷ []))
 
 -- the entry in doubt is one that was left so
-left_so : (loaded : List Batch) (may : ℕ → Bool) (given : List Numbered) (output : List ℕ) (h : History) (runs : List Run) → IsExplainedBy is_built loaded may given output h runs
+left_so : (loaded : List Batch) (may : ℕ → Bool) (given : List Numbered) (output : List ℕ) (h : History) (runs : List Run) → IsExplainedBy loaded may given output h runs
     → (d : Doubt) (is : IsDoubtOf may h runs d) → IsLeftInDoubt may h runs is.entry
 left_so loaded may given output h runs ex d is =
-    let more = one_round_more is_built loaded may given output h runs ex (last_round runs) [] [] (is.entry ∷ []) [] (entry_round loaded may given output h runs ex d is (last_round runs) (upto_last runs)) in
+    let more = one_round_more loaded may given output h runs ex (last_round runs) [] [] (is.entry ∷ []) [] (entry_round loaded may given output h runs ex d is (last_round runs) (upto_last runs)) in
     record { run = is.run; doubt = is.old; legal = more.legal; moment = is.moment }
 
 -- what holds of files holds of fewer ones
@@ -62,7 +61,7 @@ pub holds_fewer : (may : ℕ → Bool) (h : History) (runs : List Run) (files fe
 holds_fewer may h runs files fewer to holds = record { left = holds.left; may_be = holds.may_be; each = λ file is. holds.each file (to file is) }
 
 -- by the write that is in doubt
-holds_doubted : (loaded : List Batch) (may : ℕ → Bool) (given : List Numbered) (output : List ℕ) (h : History) (runs : List Run) → IsExplainedBy is_built loaded may given output h runs
+holds_doubted : (loaded : List Batch) (may : ℕ → Bool) (given : List Numbered) (output : List ℕ) (h : History) (runs : List Run) → IsExplainedBy loaded may given output h runs
     → (d : Option Doubt) → IsDoubted may h runs d → Holds may h runs (MayStandFor (batches h) (doubted_groups d))
 holds_doubted loaded may given output h runs ex None is = record { left = None; may_be = tt; each = λ file stands. stands }
 holds_doubted loaded may given output h runs ex (Some d) is =

@@ -3,7 +3,6 @@ use Rattle.std.proofs.Common.{◌≡◌, ℕ, suc, ◌+◌, ◌<◌, ◌≤◌, 
 use Rattle.std.proofs.lemmas.Bool.Decides.{nat_tests}
 use Rattle.gd_prim.specs.declared.Batch.{Batch}
 use Rattle.gd_runs.specs.Legal.{History}
-use Rattle.gd_runs.specs.Built.{is_built}
 use Rattle.gd_runs.specs.Explained.{Numbered, Run, without_return, pieces, IsExplainedBy, fault_count, faults_told}
 use Rattle.gd_top.specs.Serves.{printed}
 use Rattle.gd_top.proofs.Counted.{fault_count-append}
@@ -136,10 +135,10 @@ many_of [] = refl
 many_of (r ∷ rs) = ap suc (many_of rs)
 
 -- they are those that its replies tell
-pub told_is : (loaded : List Batch) (may : ℕ → Bool) (given : List Numbered) (output : List ℕ) (h : History) (runs : List Run) (replies : List (List ℕ)) → IsExplainedBy is_built loaded may given output h runs
+pub told_is : (loaded : List Batch) (may : ℕ → Bool) (given : List Numbered) (output : List ℕ) (h : History) (runs : List Run) (replies : List (List ℕ)) → IsExplainedBy loaded may given output h runs
     → output ≡ printed replies → length given ≡ length replies → faults_told output ≡ fault_count 0 replies
 told_is loaded may given output h runs replies ex prints many =
-    let plain : ArePlain (replies_of runs) = all_plain runs (λ k r at. plain_reply is_built h k r.line.bytes r.outcome r.reply (ex.each k r at)) in
+    let plain : ArePlain (replies_of runs) = all_plain runs (λ k r at. plain_reply h k r.line.bytes r.outcome r.reply (ex.each k r at)) in
     let same : replies_of runs ≡ replies = same_lines (replies_of runs) replies plain (many_of runs ∙ (ap length ex.lines ∙ many)) (sym (printed_of runs) ∙ (sym ex.replies ∙ prints)) in
     let all : ArePlain replies = subst ArePlain same plain in
     ap (λ (out : List ℕ). fault_count 0 (pieces [] out)) prints ∙ (ap (fault_count 0) (cut_all replies all) ∙ (fault_count-append 0 replies ([] ∷ []) ∙ none (0 + length replies) (fault_count 0 replies)))

@@ -3,7 +3,6 @@ use Rattle.std.specs.Prelude.{◌≡◌, ℕ, ◌+◌, ◌<◌, List, [], ◌∷
 use Rattle.std.specs.Io.KnownBytes.{Appends}
 use Rattle.gd_prim.specs.declared.Batch.{Batch}
 use Rattle.gd_runs.specs.Legal.{History}
-use Rattle.gd_runs.specs.Built.{is_built}
 use Rattle.gd_runs.specs.Explained.{Numbered, Run, pieces, numbered, lines_of, lines_within, IsExplainedBy, fault_count, faults_told}
 use Rattle.gd_served_laws.specs.Served.{Progress, IsServed, GoesOn}
 use Rattle.gd_top.specs.Held.{RoseBy, SameStore}
@@ -14,7 +13,7 @@ pub record Accounts (may : ℕ → Bool) (begins : List Batch → Type 0) (leave
   pub history : History
   pub runs : List Run
   pub begun : begins loaded
-  pub explained : IsExplainedBy is_built loaded may given output history runs
+  pub explained : IsExplainedBy loaded may given output history runs
   pub left : leaves history runs
   pub counted : rises (faults_told output)
 

@@ -15,6 +15,18 @@ pub created : AreReplies (
 unfolding replies
 created = refl
 
+-- An object needs no name; a name is a text.
+pub bare_creates : AreReplies (
+    codes "{\"sid\":0,\"write\":{\"query\":{\"create\":\"unconditional\"}}}"
+    ⇒ codes "{\"code\":\"/api/status/ok\",\"dateline\":1,\"line\":0,\"result\":{\"create\":\"created\"}}"
+    ∷ codes "{\"sid\":0,\"write\":{\"query\":{\"create\":\"unconditional\",\"name\":0}}}"
+    ⇒ codes "{\"code\":\"/api/status/error\",\"dateline\":1,\"error\":\"BadQuery\",\"info\":{\"code\":\"bad_value\",\"path\":[\"name\"]},\"line\":1}"
+    ∷ codes "{\"sid\":0,\"write\":{\"query\":{\"create\":\"unconditional\",\"name\":\"a\"},\"scope\":\"/\"}}"
+    ⇒ codes "{\"code\":\"/api/status/ok\",\"dateline\":2,\"line\":2,\"result\":{\"create\":\"created\",\"name\":\"a\"}}"
+    ∷ [])
+unfolding replies
+bare_creates = refl
+
 -- The second request finds the object of the first; its batch is empty, and counts. Two such objects are one too many.
 pub created_then_existed : AreReplies (
     codes "{\"sid\":0,\"write\":{\"query\":{\"create\":\"unless_exists\",\"guid\":null,\"name\":\"Ann\"}}}"

@@ -3,11 +3,10 @@ use Rattle.std.specs.Option.{option_flatten}
 use Rattle.std.specs.Prelude.{◌≡◌, ℕ, ◌+◌, ◌≤◌, List, [], ◌∷◌, ◌++◌, length, map, nat_le, Option, Some, None, slice_get, Result, Ok, Err, if◌then◌else◌, codes}
 use Rattle.gd_tree.specs.Json.{text}
 use Rattle.gd_bytes.specs.Cursor.{Cursor, cursor_of}
-use Rattle.gd_defs.specs.History.{prims_at}
 use Rattle.gd_defs.specs.Lines.{refusal, ok_line, err_line, err_line_plain, count_json}
 use Rattle.gd_defs.specs.Write.{WriteRequest, ChangeFault}
 use Rattle.gd_runs.specs.Request.{Line, read, write, ReadRequest, CursorAsk, page_after, reply_of, change_refusal}
-use Rattle.gd_runs.specs.Input.{Forms, line_from, line_at, InputFault, input_fault_line}
+use Rattle.gd_runs.specs.Input.{line_from, InputFault, input_fault_line}
 use Rattle.gd_runs.specs.Legal.{Entry, History, batches, size, upto, exec_line}
 
 -- what a line came to: no request, or no memory for it; a write that was stored as an entry, was refused over the first n batches, is an entry that is not shown yet, is in doubt, or was not tried; a read that was answered at a snapshot
@@ -41,30 +40,26 @@ entry_at h e = option_flatten (slice_get (places_of h) e)
 abbrev pub IsOfLine : History → ℕ → ℕ → Entry → Type 0
 IsOfLine h k e entry = (entry_at h e ≡ Some entry) × (entry.line ≡ k)
 
--- the bytes are this request over the first n batches of a history, where its form is built
-abbrev pub IsAskedAt : Forms → History → ℕ → List ℕ → Line → Type 0
-IsAskedAt forms h n bytes l = line_at forms (prims_at (batches h) n) bytes ≡ Ok l
-
 -- a number of batches lies between the loaded ones and all of a history
 pub record IsWithin (h : History) (n : ℕ) : Type 0 where
   pub loaded : length h.loaded ≤ n
   pub size : n ≤ size h
 
--- the bytes are a write over some of the batches of a history, where its form is built
-abbrev pub IsWrite : Forms → History → List ℕ → Type 0
-IsWrite forms h bytes = (n : ℕ) × (s : ℕ) × (w : WriteRequest) × IsWithin h n × IsAskedAt forms h n bytes (write s w)
+-- the bytes are a write
+abbrev pub IsWrite : List ℕ → Type 0
+IsWrite bytes = (s : ℕ) × (w : WriteRequest) × (line_from bytes ≡ Ok (write s w))
 
 -- line k, where it came to this, prints this reply by the history
-abbrev pub Prints : Forms → History → ℕ → List ℕ → Outcome → List ℕ → Type 0
-Prints forms h k bytes no_request reply = (n : ℕ) × (f : InputFault) × IsWithin h n × (line_at forms (prims_at (batches h) n) bytes ≡ Err f) × (reply ≡ input_fault_line k f)
-Prints forms h k bytes no_memory reply = reply ≡ memory_line k
-Prints forms h k bytes (stored e) reply = (entry : Entry) × (s : ℕ) × IsOfLine h k e entry × IsAskedAt forms h e bytes (write s entry.request) × (reply ≡ ok_line (e + 1) k entry.result)
-Prints forms h k bytes (late e) reply = (entry : Entry) × IsOfLine h k e entry × (reply ≡ late_line k e)
-Prints forms h k bytes in_doubt reply = IsWrite forms h bytes × (reply ≡ disk_line k (codes "maybe"))
-Prints forms h k bytes not_tried reply = IsWrite forms h bytes × (reply ≡ disk_line k (codes "no"))
-Prints forms h k bytes (refused n) reply = (s : ℕ) × (w : WriteRequest) × (moment : ℕ) × (f : ChangeFault) × IsAskedAt forms h n bytes (write s w)
+abbrev pub Prints : History → ℕ → List ℕ → Outcome → List ℕ → Type 0
+Prints h k bytes no_request reply = (f : InputFault) × (line_from bytes ≡ Err f) × (reply ≡ input_fault_line k f)
+Prints h k bytes no_memory reply = reply ≡ memory_line k
+Prints h k bytes (stored e) reply = (entry : Entry) × (s : ℕ) × IsOfLine h k e entry × (line_from bytes ≡ Ok (write s entry.request)) × (reply ≡ ok_line (e + 1) k entry.result)
+Prints h k bytes (late e) reply = (entry : Entry) × IsOfLine h k e entry × (reply ≡ late_line k e)
+Prints h k bytes in_doubt reply = IsWrite bytes × (reply ≡ disk_line k (codes "maybe"))
+Prints h k bytes not_tried reply = IsWrite bytes × (reply ≡ disk_line k (codes "no"))
+Prints h k bytes (refused n) reply = (s : ℕ) × (w : WriteRequest) × (moment : ℕ) × (f : ChangeFault) × (line_from bytes ≡ Ok (write s w))
     × IsWithin h n × (exec_line (upto n h) w moment (length bytes) ≡ Err f) × (reply ≡ err_line n k (change_refusal f))
-Prints forms h k bytes (answered m) reply = (s : ℕ) × (r : ReadRequest) × IsAskedAt forms h m bytes (read s r) × (m ≤ size h) × (reply ≡ reply_of (batches h) m k r)
+Prints h k bytes (answered m) reply = (s : ℕ) × (r : ReadRequest) × (line_from bytes ≡ Ok (read s r)) × (m ≤ size h) × (reply ≡ reply_of (batches h) m k r)
 
 -- the number of line k, where it came to this: of an entry its place, of a refusal or a read the number of batches over which it was made
 abbrev pub HasNumber : History → ℕ → Outcome → ℕ → Type 0

@@ -1,6 +1,5 @@
 -- One round more, or a part of one, after lines and a history that explains them.
 use Rattle.std.specs.Prelude.{◌≡◌, ℕ, ◌+◌, ◌<◌, ◌≤◌, ◌⊎◌, List, [], ◌∷◌, ◌++◌, length, map, flat_map, Bool, Some, slice_get}
-use Rattle.gd_runs.specs.Input.{Forms}
 use Rattle.gd_runs.specs.Legal.{Entry, History, size, with_entries, AreEntriesAfter}
 use Rattle.gd_runs.specs.Explained.Lines.{Numbered}
 use Rattle.gd_runs.specs.Explained.Outcomes.{in_doubt, DoesLine, MayBeEntry, entry_at, Prints, HasNumber}
@@ -19,13 +18,13 @@ pub record IsOldDoubt (h : History) (runs : List Run) (entry : Entry) (r : Run) 
       → (q.line.round ≤ r.line.round) × (SameSession r q → x.line < entry.line) × (x.line ≡ entry.line → ⊥)
 
 -- A round, or a part of one: after the lines before it and the history that explains them, its lines, what they came to, and the entries that the history gained.
-pub record IsRoundAfter (forms : Forms) (may : ℕ → Bool) (h : History) (runs : List Run) (round : ℕ) (given : List Numbered) (output : List ℕ) (new : List Entry) (more : List Run) : Type 0 where
+pub record IsRoundAfter (may : ℕ → Bool) (h : History) (runs : List Run) (round : ℕ) (given : List Numbered) (output : List ℕ) (new : List Entry) (more : List Run) : Type 0 where
   pub earlier : (k : ℕ) (r : Run) → slice_get runs k ≡ Some r → r.line.round ≤ round
   pub this : (j : ℕ) (r : Run) → slice_get more j ≡ Some r → r.line.round ≡ round
   pub lines : map (λ r. r.line) more ≡ given
   pub replies : output ≡ flat_map (λ r. r.reply ++ 10 ∷ []) more
   pub legal : AreEntriesAfter h new
-  pub each : (j : ℕ) (r : Run) → slice_get more j ≡ Some r → Prints forms (with_entries h new) (length runs + j) r.line.bytes r.outcome r.reply
+  pub each : (j : ℕ) (r : Run) → slice_get more j ≡ Some r → Prints (with_entries h new) (length runs + j) r.line.bytes r.outcome r.reply
   pub entries : (i : ℕ) (entry : Entry) → slice_get new i ≡ Some entry → IsOfRound (length runs) more (size h + i) entry ⊎ ((i ≡ 0) × ((r : Run) × IsOldDoubt h runs entry r))
   pub bounds : (j : ℕ) (r : Run) (n : ℕ) → slice_get more j ≡ Some r → HasNumber (with_entries h new) (length runs + j) r.outcome n
       → TakesIn (length h.loaded) (runs ++ more) (length runs + j) r n × (n ≤ size (with_entries h new))

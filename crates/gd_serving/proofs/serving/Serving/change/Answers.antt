@@ -1,7 +1,7 @@
 use Rattle.std.proofs.Common.{subst, rules, arith}
 use Rattle.std.proofs.lemmas.Grind.{common_steps}
 use Rattle.std.proofs.lemmas.Result.{IfOk-weaker}
-use Rattle.gd_runs.specs.Built.{create_request}
+use Rattle.gd_mql.specs.Requests.{write_view}
 use Rattle.gd_serving.specs.Judged.{IsJudged}
 use Rattle.gd_serving.proofs.Backed.{backs_nothing}
 use Rattle.gd_serving.proofs.serving.Serving.change.Goals as goal
@@ -10,7 +10,7 @@ pub returns-in-Refused : goal.returns-in-Refused
 returns-in-Refused g c before settled =
     let d = g.D.Disk in
     let p = c.args.self.now.progress in
-    let asked = create_request c.args.form.now.asks_guid c.args.form.now.name in
+    let asked = write_view c.args.request.now in
     let judged = subst (IsJudged p c.args.bytes asked c.moment-moment.result) c.in-Refused.is c.in_ok-reply.ensures in
     record {
       comes = λ line asks. judged.comes (g.C.Clock.may c.args.clock.now) before line settled asks;
@@ -24,7 +24,7 @@ returns-in-Refused g c before settled =
 pub returns-in-Storable : goal.returns-in-Storable
 returns-in-Storable g c before settled =
     let p = c.args.self.now.progress in
-    let asked = create_request c.args.form.now.asks_guid c.args.form.now.name in
+    let asked = write_view c.args.request.now in
     let judged = subst (IsJudged p c.args.bytes asked c.moment-moment.result) c.in-Storable.is c.in_ok-reply.ensures in
     record {
       comes = λ line asks. IfOk-weaker c.store_next.result _ _ (λ reply gives. gives c.args.bytes asked c.moment-moment.result judged (g.C.Clock.may c.args.clock.now) c.moment-moment.ensures.given before line settled asks) c.store_next.ensures.comes;

@@ -1,9 +1,8 @@
-use Rattle.std.proofs.lemmas.Result.{IfOk-weaker}
-use Rattle.gd_serving.proofs.Says.{says_here, says_more}
+use Rattle.gd_mql.specs.Requests.{write_view}
+use Rattle.gd_serving.proofs.Written.{may_be_written}
 use Rattle.gd_serving.proofs.serving.Serving.evaluate.Goals as goal
 
-pub evaluate-requires-clause-says : goal.evaluate-requires-clause-says
-evaluate-requires-clause-says g c = says_here c.store.result.now c.args.self.now.progress.batches c.store.ensures c.requires.says
-
-pub returns-clause-says : goal.returns-clause-says
-returns-clause-says g c = IfOk-weaker c.evaluate.result _ _ (λ done says. says_more c.store.result.now c.args.self.now.progress.batches done.0 c.store.ensures c.requires.says says) c.evaluate.ensures.says
+pub returns-clause-may : goal.returns-clause-may
+returns-clause-may g c =
+    may_be_written c.store.result.now c.args.self.now.progress.batches (write_view c.args.request.now) c.args.moment c.evaluate.result c.store.ensures c.requires
+    c.evaluate.ensures.exec c.evaluate.ensures.well_formed c.evaluate.ensures.fits

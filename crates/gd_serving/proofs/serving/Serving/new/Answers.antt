@@ -10,4 +10,4 @@ pub returns-clause-served : goal.returns-clause-served
 unfolding is_history
 returns-clause-served g c = λ may.
     subst (λ (bs : List Batch). IsServed c.args.store may [] [] (record { batches = bs; lines = 0; kept = 0; doubt = None })) (sym (ap (λ (s : Stored _). s.batches) c.of.ensures))
-    (served_at_first c.args.store may c.says_name_in-says_name.ensures.history)
+    (served_at_first c.args.store may c.requests-_requests.ensures.history)

@@ -1,0 +1,10 @@
+pub mod Answered
+pub mod Depths
+pub mod Facts
+pub mod Fields
+pub mod Nested
+pub mod Nesting
+pub mod Owners
+pub mod Views
+pub mod Walks
+pub mod Whole

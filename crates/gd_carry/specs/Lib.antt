@@ -1,0 +1,4 @@
+pub mod Printed
+pub mod Outcome
+pub mod Exec
+pub mod Depth

@@ -1,0 +1,32 @@
+-- The root of a write of which the clause has no meaning.
+use Rattle.std.proofs.Common.{◌≡◌, ℕ, List, [], Option, Some, None, Result, Ok, Err, ap, subst, ◌∙◌}
+use Rattle.gd_grammar.specs.Chain.{◌>>=◌}
+use Rattle.gd_prim.specs.declared.Primitive.{Primitive}
+use Rattle.gd_defs.specs.Asked as asked
+use Rattle.gd_defs.specs.Change as change
+use Rattle.gd_defs.specs.Write.Parts as parts
+use Rattle.gd_intent.specs.Walk.{Outcome, clause_resolved, root_in, root_object}
+
+abbrev pub Rooted : Type 0
+Rooted = Result (Option ℕ × parts.Members) asked.Unknown
+
+-- of two steps the first refusal decides
+clause_unknown : (a : Result (Option ℕ) asked.Unknown) (b : Option ℕ → Outcome) (on : Option ℕ) (e : asked.Unknown) → ◌≡◌ {A = Outcome} (a >>= b) (Err e) → ◌≡◌ {A = Rooted} (a >>= λ t. b t >>= λ ms. Ok (on, ms)) (Err e)
+clause_unknown (Err x) b on e is = cc
+clause_unknown (Ok t) b on e is = ap (λ (w : Outcome). w >>= λ ms. Ok (on, ms)) is
+
+named_unknown : (p : Result ℕ asked.Unknown) (on : Option ℕ) (k : Option ℕ → Rooted) (e : asked.Unknown) → (p >>= λ o. Ok (Some o)) ≡ Ok on → k on ≡ Err e → (p >>= λ o. k (Some o)) ≡ Err e
+named_unknown (Err x) on k e named unknown = cc
+named_unknown (Ok o) on k e named unknown = let is : Some o ≡ on = cc in ap k is ∙ unknown
+
+-- the object of the root is there, and its clause is refused
+pub root_unknown : (prims : List Primitive) (scope : Option ℕ) (root : change.Root) (ms : change.Members) (on : Option ℕ) (e : asked.Unknown)
+    → root_object prims root ≡ Ok on → clause_resolved prims on None [] ms ≡ Err e → root_in scope prims (record { root = root; members = ms }) ≡ Err e
+root_unknown prims scope (change.to_create w) ms on e named unknown =
+    let is : on ≡ None = cc in
+    ap (λ (r : Rooted). r >>= λ x. Ok (scope, x))
+    (clause_unknown (asked.context_of prims None (parts.type_text ms)) (λ t. parts.resolved prims None t [] ms) None e (subst (λ (o : Option ℕ). clause_resolved prims o None [] ms ≡ Err e) is unknown))
+root_unknown prims scope (change.existing_object t) ms on e named unknown =
+    ap (λ (r : Rooted). r >>= λ x. Ok (scope, x))
+    (named_unknown (asked.place_named prims t) on (λ o. asked.context_of prims None (parts.type_text ms) >>= λ x. parts.resolved prims o x [] ms >>= λ all. Ok (o, all)) e named
+    (clause_unknown (asked.context_of prims None (parts.type_text ms)) (λ x. parts.resolved prims on x [] ms) on e unknown))
