@@ -72,6 +72,13 @@ tested prims path name p operator literal j e t g is passed made =
     ap (λ (x : Expects). checked_test prims x path operator j >>= λ t. Ok (operand_form name p x literal j t)) (sym is)
     ∙ (ap (λ (r : Result Test defs.Unknown). r >>= λ t. Ok (operand_form name p e literal j t)) passed ∙ ap Ok (sym made))
 
+-- or that is refused
+pub untested : (prims : List Primitive) (path : List (List ℕ)) (name : List ℕ) (p : Property) (operator : query.Operator) (literal : Bool) (j : Json) (e : Expects) (f : defs.Unknown)
+    → e ≡ expects_of p.expected → checked_test prims e path operator j ≡ Err f → tested_form prims path name p operator literal j ≡ Err f
+untested prims path name p operator literal j e f is refused =
+    ap (λ (x : Expects). checked_test prims x path operator j >>= λ t. Ok (operand_form name p x literal j t)) (sym is)
+    ∙ ap (λ (r : Result Test defs.Unknown). r >>= λ t. Ok (operand_form name p e literal j t)) refused
+
 -- forms lie as deep in a part and behind it as in all
 pub part_within : (p : Part) (ms : query.Members) → forms_depth (with_part p ms) ≡ max (part_depth p) (forms_depth ms)
 part_within (part.Member n f) ms = refl
