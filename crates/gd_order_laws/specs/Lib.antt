@@ -1,3 +1,4 @@
 pub mod Window
+pub mod Up
 pub mod Pages
 pub mod Laws

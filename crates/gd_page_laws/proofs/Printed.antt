@@ -26,7 +26,7 @@ untold r = r >>= λ x. Ok (x, [])
 
 -- ---- what is computed
 
-id_json-untold : (prims : List Primitive) (d : Datum) → shape.id_json prims d [] ≡ (reply.id_json prims d, [])
+pub id_json-untold : (prims : List Primitive) (d : Datum) → shape.id_json prims d [] ≡ (reply.id_json prims d, [])
 id_json-untold prims (datum.Object o) = refl
 id_json-untold prims (datum.Bool b) = refl
 id_json-untold prims (datum.Int n) = refl
@@ -124,8 +124,9 @@ each_ranked prims a c r vs = if is_clause a.style then (object_shape prims c r.0
 abbrev pub each_answer : List Primitive → Asking → Members → Row → Result Json Path
 each_answer prims a c r = if is_clause a.style then (object_json prims c r.link r.object >>= λ m. Ok (object m)) else Ok (answer_json prims a r)
 
-object-untold : (x : Printed JsonMembers) (y : Result JsonMembers Path) → x ≡ untold y → (x >>= λ m. Ok (object m.0, m.1)) ≡ untold (y >>= λ m. Ok (object m))
-object-untold x y is = ap (λ x. x >>= λ m. Ok (object m.0, m.1)) is ∙ by y
+-- an object of printed members
+pub as_object-untold : (x : Printed JsonMembers) (y : Result JsonMembers Path) → x ≡ untold y → (x >>= λ m. Ok (object m.0, m.1)) ≡ untold (y >>= λ m. Ok (object m))
+as_object-untold x y is = ap (λ x. x >>= λ m. Ok (object m.0, m.1)) is ∙ by y
   where
     by : (y : Result JsonMembers Path) → (untold y >>= λ m. Ok (object m.0, m.1)) ≡ untold (y >>= λ m. Ok (object m))
     by (Ok m) = refl
@@ -146,4 +147,4 @@ one-untold prims a c r row link clause name = by a.style refl
     by as_value is = rw is (ap (λ d. Ok (datum_json d, [])) datum_here)
     by as_name is = rw is (ap (λ j. Ok (j, [])) (name is))
     by as_id is = rw is (ap (λ p. Ok p) (id_json-untold prims (answer_datum prims a.property r.0.link)) ∙ ap (λ d. Ok (reply.id_json prims d, [])) datum_here)
-    by as_clause is = rw is (object-untold _ _ clause)
+    by as_clause is = rw is (as_object-untold _ _ clause)

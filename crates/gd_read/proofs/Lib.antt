@@ -1,7 +1,7 @@
-pub mod Bounds
 pub mod KeyLinks
 pub mod Weighed
 pub mod ReadLines
 pub mod Refused
 pub mod Scanned
 pub mod Cases
+pub mod Paging

@@ -29,7 +29,7 @@ use Rattle.gd_plan.specs.declared.asked.Asked.{Asked as Found}
 use Rattle.gd_read.specs.declared.fault.ReadFault.{ReadFault}
 use Rattle.gd_read.specs.Body.{IsPage, IsBody, IsAnswered, IsRefused, fault_line}
 use Rattle.gd_read.specs.Planned.{IsPlanned, body_prints}
-use Rattle.gd_read.proofs.Bounds.{read_bounded}
+use Rattle.gd_paging_laws.proofs.Bounds.{read_bounded}
 use Rattle.gd_read.proofs.Refused.{length-map}
 
 -- a query that was read and has a meaning is planned

@@ -3,8 +3,10 @@
 
 mod answers;
 pub mod asked;
+mod cursor;
 pub mod fault;
 pub mod keys;
 pub mod page;
+pub mod pages;
 pub mod read;
 pub mod scan;

@@ -1,6 +1,5 @@
 pub mod Data
 pub mod InTrees
-pub mod Insertion
 pub mod Knowing
 pub mod Left
 pub mod Lengths

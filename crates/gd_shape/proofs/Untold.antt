@@ -1,43 +1,18 @@
 -- What is printed with no walks told is what is printed without walks.
-use Rattle.std.proofs.Common.{◌≡◌, ℕ, List, [], ◌∷◌, length, Bool, true, false, Option, Some, None, Result, Ok, Err, refl, ap, ◌∙◌}
+use Rattle.std.proofs.Common.{◌≡◌, ℕ, List, [], ◌∷◌, length, Bool, true, false, Result, Ok, Err, refl, ap, ◌∙◌}
 use Rattle.std.specs.Prelude.{unwrap_or, if◌then◌else◌}
-use Rattle.gd_base.specs.declared.datum.Datum.{Datum}
-use Rattle.gd_base.specs.declared.datum.Datum.TheVariants as datum
 use Rattle.gd_prim.specs.declared.Primitive.{Primitive}
-use Rattle.gd_prim.specs.Live.{end_at, object_datum}
 use Rattle.gd_grammar.specs.Chain.{◌>>=◌}
-use Rattle.gd_tree.specs.Json.{Json, object, Items, item, Members as JsonMembers, member as json_member}
+use Rattle.gd_tree.specs.Json.{Json, object, Items, item, Members as JsonMembers}
 use Rattle.gd_tree.specs.Trees.{Tree, tree, TreeLists, first_list, rest_lists}
 use Rattle.gd_bytes.specs.Frozen.{Walk}
 use Rattle.gd_defs.specs.Property.{answer_datum}
-use Rattle.gd_defs.specs.Asked.{Own, its_id, its_guid, its_timestamp, its_link, its_value, its_namespace, Style, as_operand, as_value, as_name, as_id, as_clause, Asking, Members, no_members, own, asks, Asked}
-use Rattle.gd_defs.specs.Reply as reply
-use Rattle.gd_defs.specs.Reply.{Path, under, is_ambiguous, operand_of, is_clause, as_list, own_json}
-use Rattle.gd_runs.specs.Shape as shape
-use Rattle.gd_runs.specs.Shape.{Printed, own_shape, plain_shape, each_shape, list_shape, answers_shape, object_shape, rows_shape, page_shape}
+use Rattle.gd_defs.specs.Asked.{Style, as_operand, as_value, as_name, as_id, as_clause, Asking, Members, no_members, own, asks, Asked}
+use Rattle.gd_defs.specs.Reply.{Path, is_ambiguous, operand_of, as_list, own_json}
+use Rattle.gd_runs.specs.Shape.{Printed, each_shape, list_shape, answers_shape, object_shape, rows_shape, page_shape}
 use Rattle.gd_runs.specs.Shape.Answers.{Ranked}
-use Rattle.gd_shape.specs.Printed.{each_print, given_or, found_print, cut_of, as_object, in_front, object_print, answer_print, asks_print, rows_print, page_print}
-
--- what is printed where no walks are told, and none are left
-abbrev untold : {A : Type 0} → Result A Path → Printed A
-untold r = r >>= λ x. Ok (x, [])
-
-id_json-untold : (prims : List Primitive) (d : Datum) → shape.id_json prims d [] ≡ (reply.id_json prims d, [])
-id_json-untold prims (datum.Object o) = refl
-id_json-untold prims (datum.Bool b) = refl
-id_json-untold prims (datum.Int n) = refl
-id_json-untold prims (datum.Moment ms precision) = refl
-id_json-untold prims (datum.Text t) = refl
-id_json-untold prims datum.Empty = refl
-
-own-untold : (prims : List Primitive) (w : Own) (operand : Option Json) (link o : ℕ) → own_shape prims w operand link o [] ≡ (unwrap_or operand (own_json prims w link o), [])
-own-untold prims w (Some j) link o = refl
-own-untold prims its_id None link o = refl
-own-untold prims its_guid None link o = refl
-own-untold prims its_timestamp None link o = refl
-own-untold prims its_link None link o = refl
-own-untold prims its_value None link o = refl
-own-untold prims its_namespace None link o = id_json-untold prims (object_datum (end_at (λ p. p.right) prims link))
+use Rattle.gd_page_laws.proofs.Printed.{untold, id_json-untold, own-untold, list-untold, front-untold, own-front, each_ranked, as_object-untold}
+use Rattle.gd_shape.specs.Printed.{each_print, given_or, found_print, cut_of, as_object, object_print, answer_print, asks_print, rows_print, page_print}
 
 -- ---- lists of answers
 
@@ -54,12 +29,6 @@ each-untold f g (r ∷ rs) same = ap (λ x. x >>= λ j. each_shape f rs j.1 >>= 
     by (Err e) rest = refl
     by (Ok j) rest = ap (λ x. x >>= λ js. Ok (item j js.0, js.1)) rest ∙ last j (each_print g rs)
 
-list-untold : (listed : Bool) (r : Result Items Path) → list_shape listed (untold r) ≡ untold (as_list listed r)
-list-untold true (Ok js) = refl
-list-untold true (Err e) = refl
-list-untold false (Ok js) = refl
-list-untold false (Err e) = refl
-
 answers-untold : (a : Asking) (f : Ranked → List Walk → Printed Json) (found : ℕ) (rs : List Ranked) (printed : Result Items Path) → each_shape f rs [] ≡ untold printed
     → answers_shape a f found rs [] ≡ untold (given_or (operand_of a.style) (found_print a.single a.listed found printed))
 answers-untold a f found rs printed same = by a.style refl
@@ -74,40 +43,6 @@ answers-untold a f found rs printed same = by a.style refl
     by as_name is = rw is (told (is_ambiguous a.single found))
     by as_id is = rw is (told (is_ambiguous a.single found))
     by as_clause is = rw is (told (is_ambiguous a.single found))
-
--- a member in front of the rest
-front-untold : (name : List ℕ) (x : Printed Json) (y : Result Json Path) (f : List Walk → Printed JsonMembers) (z : Result JsonMembers Path) → x ≡ untold y → f [] ≡ untold z
-    → (under name x >>= λ j. f j.1 >>= λ rest. Ok (json_member name j.0 rest.0, rest.1)) ≡ untold (in_front name (under name y) z)
-front-untold name x y f z here rest = ap (λ x. under name x >>= λ j. f j.1 >>= λ rest. Ok (json_member name j.0 rest.0, rest.1)) here ∙ by y
-  where
-    last : (j : Json) (z : Result JsonMembers Path) → (untold z >>= λ rest. Ok (json_member name j rest.0, rest.1)) ≡ untold (z >>= λ rest. Ok (json_member name j rest))
-    last j (Ok ms) = refl
-    last j (Err e) = refl
-
-    by : (y : Result Json Path) → (under name (untold y) >>= λ j. f j.1 >>= λ rest. Ok (json_member name j.0 rest.0, rest.1)) ≡ untold (in_front name (under name y) z)
-    by (Err e) = refl
-    by (Ok j) = ap (λ x. x >>= λ rest. Ok (json_member name j rest.0, rest.1)) rest ∙ last j z
-
--- a computed member in front of the rest
-own-front : (prims : List Primitive) (name : List ℕ) (w : Own) (operand : Option Json) (link o : ℕ) (f : List Walk → Printed JsonMembers) (j : Json) (z : Result JsonMembers Path) → own_shape prims w operand link o [] ≡ (j, []) → f [] ≡ untold z
-    → (f (own_shape prims w operand link o []).1 >>= λ rest. Ok (json_member name (own_shape prims w operand link o []).0 rest.0, rest.1)) ≡ untold (in_front name (Ok j) z)
-own-front prims name w operand link o f j z here rest =
-    ap (λ (p : Json × List Walk). f p.1 >>= λ rest. Ok (json_member name p.0 rest.0, rest.1)) here ∙ ap (λ x. x >>= λ rest. Ok (json_member name j rest.0, rest.1)) rest ∙ last z
-  where
-    last : (z : Result JsonMembers Path) → (untold z >>= λ rest. Ok (json_member name j rest.0, rest.1)) ≡ untold (z >>= λ rest. Ok (json_member name j rest))
-    last (Ok ms) = refl
-    last (Err e) = refl
-
--- what each answer of a member prints
-abbrev each_ranked : List Primitive → Asking → Members → Ranked → List Walk → Printed Json
-each_ranked prims a c r vs = if is_clause a.style then (object_shape prims c r.0.link r.0.object r.1 vs >>= λ m. Ok (object m.0, m.1)) else Ok (plain_shape prims a r vs)
-
-as_object-untold : (x : Printed JsonMembers) (y : Result JsonMembers Path) → x ≡ untold y → (x >>= λ m. Ok (object m.0, m.1)) ≡ untold (as_object y)
-as_object-untold x y is = ap (λ x. x >>= λ m. Ok (object m.0, m.1)) is ∙ by y
-  where
-    by : (y : Result JsonMembers Path) → (untold y >>= λ m. Ok (object m.0, m.1)) ≡ untold (as_object y)
-    by (Ok m) = refl
-    by (Err e) = refl
 
 one-untold : (prims : List Primitive) (a : Asking) (c : Members) (r : Ranked) → object_shape prims c r.0.link r.0.object r.1 [] ≡ untold (object_print prims c r.0.link r.0.object r.1)
     → each_ranked prims a c r [] ≡ untold (answer_print prims a c r)

@@ -4,4 +4,3 @@ pub mod Outcome
 pub mod Printed
 pub mod Ranking
 pub mod Shaping
-pub mod Up

@@ -14,6 +14,8 @@ mod outside;
 #[cfg(test)]
 mod prims;
 #[cfg(test)]
+mod shared;
+#[cfg(test)]
 mod stores;
 #[cfg(test)]
 mod words;

@@ -8,7 +8,7 @@ use gd_store::store::{Full, Store};
 use std::alloc::Global;
 
 /// A batch of so many objects.
-fn objects(alloc: Global, count: usize) -> Result<Batch, Memory> {
+pub(crate) fn objects(alloc: Global, count: usize) -> Result<Batch, Memory> {
     let mut prims = Prims::new(alloc);
     for _ in 0..count {
         prims.push(Primitive::object(5))?;

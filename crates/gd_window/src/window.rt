@@ -26,7 +26,8 @@ pub struct Window {
 
 impl Model for Window {
     ghost use Rattle.std.specs.Prelude.{◌+◌, ◌≤◌, length};
-    ghost use Rattle.gd_window.specs.Rows.{row_cmp, IsUp};
+    ghost use Rattle.gd_order_laws.specs.Up.{IsUp};
+    ghost use Rattle.gd_window.specs.Rows.{row_cmp};
     ghost use Rattle.gd_window.specs.Kept.{Kept};
 
     ghost Value = { Kept };

@@ -1,0 +1,63 @@
+-- Pages go on by one page, up to the last one.
+use Rattle.std.proofs.Common.{◌≡◌, ℕ, Bool, true, false, if◌then◌else◌, List, [], ◌∷◌, ◌++◌, length, flat_map, Some, None, Result, Ok, Err, refl, sym, ap, subst, arith, append_assoc, length-append, ◌∙◌}
+use Rattle.std.specs.Prelude.{nat_lt}
+use Rattle.gd_prim.specs.declared.Batch.{Batch}
+use Rattle.gd_prim.specs.Builtin.{builtin}
+use Rattle.gd_prim.specs.History.{prims_of, prims_at}
+use Rattle.gd_bytes.specs.Cursor.{Cursor, cursor_of}
+use Rattle.gd_tree.specs.Json.{Json, boolean, list, Items}
+use Rattle.gd_defs.specs.Query.{Query, query_of}
+use Rattle.gd_defs.specs.Lines.{err_line, bad_cursor, cursor_ahead, ok_cursor_line}
+use Rattle.gd_defs.specs.Reply.{reply}
+use Rattle.gd_runs.specs.Request.{CursorAsk, no_cursor, first_page, page_after, page_reply, reply_of}
+use Rattle.gd_order_laws.specs.Window.{Each}
+use Rattle.gd_paging_laws.specs.Paged.{Page, IsPageOf, Follow, Grown, OfOneStore, AreWithin, AreWhole}
+use Rattle.gd_paging_laws.specs.Told.{IsCursor}
+use Rattle.gd_paging_laws.proofs.Told.{not_refused}
+use Rattle.gd_paging_laws.proofs.Lines.{line_cursor}
+use Rattle.gd_paging_laws.proofs.Whole.{whole}
+
+-- the cursor of a page is false or a clear text
+pub page_told : (batches : List Batch) (n line d : ℕ) (ask : CursorAsk) (q : Query) (c : Json) (js : Items) → reply_of batches n line (record { cursor = ask; query = q }) ≡ ok_cursor_line d line c (list js) → IsCursor c
+page_told batches n line d no_cursor q c js e = line_cursor (prims_at batches n) q n line d false None c js e
+page_told batches n line d first_page q c js e = line_cursor (prims_at batches n) q n line d true None c js e
+page_told batches n line d (page_after t) q c js e = by (cursor_of t) e
+  where
+    by : (r : Result Cursor ℕ) → page_reply batches n line q r ≡ ok_cursor_line d line c (list js) → IsCursor c
+    by (Err offset) e = absurd (not_refused n d line line (bad_cursor offset) c (list js) e)
+    by (Ok k) e = behind (nat_lt n k.dateline) e
+      where
+        behind : (b : Bool) → (if b then err_line n line (cursor_ahead k.dateline n) else reply (prims_at batches k.dateline) k.dateline line true (Some k.after) q) ≡ ok_cursor_line d line c (list js) → IsCursor c
+        behind true e = absurd (not_refused n d line line (cursor_ahead k.dateline n) c (list js) e)
+        behind false e = line_cursor (prims_at batches k.dateline) q k.dateline line d true (Some k.after) c js e
+
+-- one page more
+pub follow_on : (q : Query) (from next : Json) (ps : List Page) (p : Page) → Follow q from ps next → IsPageOf q next p → Follow q from (ps ++ p ∷ []) p.cursor
+follow_on q from next [] p is page = (subst (λ c. IsPageOf q c p) (sym is) page, refl)
+follow_on q from next (r ∷ rs) p (here, more) page = (here, follow_on q r.cursor next rs p more page)
+
+-- ---- stores that grow
+
+prims_append : (first more : List Batch) → prims_of (first ++ more) ≡ prims_of first ++ flat_map (λ b. b.prims) more
+unfolding prims_of
+prims_append first more = ap (λ l. builtin ++ l) (flat first) ∙ sym (append_assoc builtin (flat_map (λ b. b.prims) first) (flat_map (λ b. b.prims) more))
+  where
+    flat : (bs : List Batch) → flat_map (λ b. b.prims) (bs ++ more) ≡ flat_map (λ b. b.prims) bs ++ flat_map (λ b. b.prims) more
+    flat [] = refl
+    flat (b ∷ bs) = ap (λ l. b.prims ++ l) (flat bs) ∙ sym (append_assoc b.prims (flat_map (λ b. b.prims) bs) (flat_map (λ b. b.prims) more))
+
+-- what has grown to within the limits was within them
+within_before : (first batches : List Batch) → Grown first batches → AreWithin batches → AreWithin first
+within_before first batches (more, is) within =
+    let requests = ap length is ∙ length-append first more in
+    let prims = ap length (ap prims_of is ∙ prims_append first more) ∙ length-append (prims_of first) (flat_map (λ b. b.prims) more) in
+    record { requests = omega (arith, requests, within.requests); prims = omega (arith, prims, within.prims) }
+
+last_grown : (first : List Batch) (ps : List Page) (p : Page) → Each (λ r. Grown first r.batches) (ps ++ p ∷ []) → Grown first p.batches
+last_grown first [] p grown = grown.0
+last_grown first (r ∷ rs) p grown = last_grown first rs p grown.1
+
+-- the law, of pages behind which a last one comes, and the limits at this
+pub whole_at : (j : Json) (q : Query) (ps : List Page) (p : Page) → query_of j ≡ Ok q → AreWithin p.batches → OfOneStore (ps ++ p ∷ []) → Follow q (boolean true) (ps ++ p ∷ []) (boolean false) → AreWhole q (ps ++ p ∷ [])
+whole_at j q [] p spelled within grown follow = whole j q p [] spelled within grown follow
+whole_at j q (r ∷ rs) p spelled within grown follow = whole j q r (rs ++ p ∷ []) spelled (within_before r.batches p.batches (last_grown r.batches rs p grown) within) grown follow

@@ -1,0 +1,10 @@
+pub mod Bytes
+pub mod Told
+pub mod Text
+pub mod Lines
+pub mod Marks
+pub mod Joined
+pub mod Bounds
+pub mod Whole
+pub mod Laws
+pub mod Going

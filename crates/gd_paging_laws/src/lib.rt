@@ -1,0 +1,10 @@
+//! Pages of a query that were read one after another. The law is the contract of a function that does nothing: whoever calls
+//! it may use the law, and code above cites its statement from `specs/Laws.antt`.
+#![tactic(auto)]
+
+ghost use Rattle.gd_paging_laws.specs.Laws.{PagesAreWhole};
+
+/// Pages joined, from the cursor `true` up to the cursor `false`, are all rows of the query, each once.
+pub fn pages_are_whole()
+    ensures { PagesAreWhole }
+{}
