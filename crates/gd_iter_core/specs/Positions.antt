@@ -60,14 +60,15 @@ left p q old new set turn.Unfinished gives moves e = ap (ids_from q) gives ∙ l
 
 -- a turn
 pub at_next : {W : Type 0} (walk new_walk : Walk W) (w : W) (p q : ℕ) (a b : Option ℕ) (old new : List ℕ) (t : Turn) → new_walk ≡ walk
-    → old ≡ owed_from walk w p a → IsShaped walk w q b new → NextGives old t new → Moves (front p a) t (front q b) → new ≡ owed_from new_walk w q b
+    → old ≡ owed_from walk w p a → IsShaped new_walk w q b new → NextGives old t new → Moves (front p a) t (front q b) → new ≡ owed_from new_walk w q b
 at_next {W = W} walk new_walk w p q a b old new t same at shaped gives moves =
-    agreed walk w q b new shaped (left (front p a) (front q b) old new (walk.set w) t gives moves (agrees walk w p a old at))
-    ∙ ap (λ (v : Walk W). owed_from v w q b) (sym same)
+    agreed new_walk w q b new shaped
+    (left (front p a) (front q b) old new (walk.set w) t gives moves (agrees walk w p a old at) ∙ ap (λ (v : Walk W). ids_from (front q b) (v.set w)) (sym same))
 
 -- places that are given up
-pub at_skip : {W : Type 0} (walk : Walk W) (w : W) (p q from : ℕ) (a b : Option ℕ) (old new : List ℕ)
-    → old ≡ owed_from walk w p a → new ≡ ids_from from old → IsShaped walk w q b new → front p a ≤ front q b → from ≤ front q b → new ≡ owed_from walk w q b
-at_skip walk w p q from a b old new at e shaped up low =
-    agreed walk w q b new shaped
-    (ap (ids_from (front q b)) e ∙ (from_from from (front q b) old low ∙ later (front p a) (front q b) old (walk.set w) up (agrees walk w p a old at)))
+pub at_skip : {W : Type 0} (walk new_walk : Walk W) (w : W) (p q from : ℕ) (a b : Option ℕ) (old new : List ℕ) → new_walk ≡ walk
+    → old ≡ owed_from walk w p a → IsShaped new_walk w q b new → new ≡ ids_from from old → front p a ≤ front q b → from ≤ front q b → new ≡ owed_from new_walk w q b
+at_skip {W = W} walk new_walk w p q from a b old new same at shaped e up low =
+    agreed new_walk w q b new shaped
+    (ap (ids_from (front q b)) e ∙ (from_from from (front q b) old low
+    ∙ (later (front p a) (front q b) old (walk.set w) up (agrees walk w p a old at) ∙ ap (λ (v : Walk W). ids_from (front q b) (v.set w)) (sym same))))

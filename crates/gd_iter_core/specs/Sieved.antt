@@ -4,8 +4,8 @@ use Rattle.std.specs.Prelude.{filter, max, nat_lt, if◌then◌else◌}
 use Rattle.std.proofs.lemmas.Bool.{cases_Bool, cases_lt, lt-ltb, le-ltb}
 use Rattle.gd_iter_core.specs.declared.turn.Turn.{Turn}
 use Rattle.gd_iter_core.specs.declared.turn.Turn.TheVariants as turn
-use Rattle.gd_iter_core.specs.Owed.{RisesFrom, ids_from, id_if, NextGives}
-use Rattle.gd_iter_core.specs.Rising.{from_no, from_from, from_filter, from_all, rises_from, rises_filter, rises_weaker, length-ids_from}
+use Rattle.gd_iter_core.specs.Owed.{RisesFrom, ids_from, id_if, NextGives, FindGives}
+use Rattle.gd_iter_core.specs.Rising.{from_no, from_from, from_filter, from_all, rises_from, rises_filter, rises_weaker, length-ids_from, first_from}
 
 -- the places from one on that pass
 abbrev pub kept : (ℕ → Bool) → ℕ → List ℕ → List ℕ
@@ -22,11 +22,17 @@ abbrev pub left_to_judge : {A : Type 0} → List ℕ → Option A → ℕ
 left_to_judge owed None = length owed
 left_to_judge owed (Some a) = length owed + 1
 
--- a place is produced, or there is none, or that is not yet known; what is owed stays
-abbrev pub Produces : List ℕ → Turn → List ℕ → Type 0
-Produces old (turn.Found id) new = new ≡ old
-Produces old turn.Done new = (old ≡ []) × (new ≡ [])
-Produces old turn.Unfinished new = new ≡ old
+-- a place is produced, of which it says what is owed while it is judged; or there is none, or that is not yet known
+abbrev pub Produces : List ℕ → Turn → (ℕ → List ℕ) → List ℕ → Type 0
+Produces old (turn.Found id) judged new = judged id ≡ old
+Produces old turn.Done judged new = (old ≡ []) × (new ≡ [])
+Produces old turn.Unfinished judged new = new ≡ old
+
+-- what is produced is not below the place, and its producer owes less
+abbrev pub IsProduced : ℕ → Turn → ℕ → ℕ → Type 0
+IsProduced place (turn.Found id) old new = (place ≤ id) × (new < old)
+IsProduced place turn.Done old new = Unit {0}
+IsProduced place turn.Unfinished old new = Unit {0}
 
 -- a judged place is given, or that is not yet known; one that is refused was not owed
 abbrev pub Judges : List ℕ → Option Turn → List ℕ → Type 0
@@ -47,23 +53,31 @@ filter_first passes x xs = ⊎_elim
     (cases_Bool (passes x))
 
 -- a produced place takes the place of what the producer gave
-pub sieved_found : (passes : ℕ → Bool) (owed new : List ℕ) (p id : ℕ) → RisesFrom 0 owed → ids_from p owed ≡ id ∷ new
+sieved_found : (passes : ℕ → Bool) (owed new : List ℕ) (p id : ℕ) → RisesFrom 0 owed → ids_from p owed ≡ id ∷ new
     → sieved passes new id (Some (passes id)) ≡ sieved passes owed p None
 sieved_found passes owed new p id r e =
     let rest : ids_from (id + 1) new ≡ new = from_all (id + 1) (id + 1) new (omega arith) (rises_rest p id owed new r e) in
     ap (λ l. id_if (passes id) id ++ filter passes l) rest ∙ (filter_first passes id new ∙ ap (filter passes) (sym e))
 
--- and the producer owes less
-pub owes_less : (p id : ℕ) (owed new : List ℕ) → ids_from p owed ≡ id ∷ new → length new < length owed
-owes_less p id owed new e = omega (arith, ap length e, length-ids_from p owed)
-
-pub sieved_done : (passes : ℕ → Bool) (owed : List ℕ) (p : ℕ) → ids_from p owed ≡ [] → sieved passes owed p None ≡ []
+sieved_done : (passes : ℕ → Bool) (owed : List ℕ) (p : ℕ) → ids_from p owed ≡ [] → sieved passes owed p None ≡ []
 sieved_done passes owed p e = ap (filter passes) e
 
 -- an unfinished producer gave up places below the one from which on it was asked
-pub sieved_unfinished : (passes : ℕ → Bool) (owed new : List ℕ) (p q : ℕ) → q ≤ p → new ≡ ids_from q owed
+sieved_unfinished : (passes : ℕ → Bool) (owed new : List ℕ) (p q : ℕ) → q ≤ p → new ≡ ids_from q owed
     → sieved passes new p None ≡ sieved passes owed p None
 sieved_unfinished passes owed new p q low e = ap (kept passes p) e ∙ ap (filter passes) (from_from q p owed low)
+
+-- what a producer that is asked from the place on gives
+pub produces : (passes : ℕ → Bool) (owed new : List ℕ) (p : ℕ) (t : Turn) → RisesFrom 0 owed → FindGives p owed t new
+    → Produces (sieved passes owed p None) t (λ id. sieved passes new id (Some (passes id))) (sieved passes new p None)
+produces passes owed new p (turn.Found id) r h = sieved_found passes owed new p id r h
+produces passes owed new p turn.Done r h = (sieved_done passes owed p h.0, ap (kept passes p) h.1)
+produces passes owed new p turn.Unfinished r (q, (low, e)) = sieved_unfinished passes owed new p q low e
+
+pub is_produced : (owed new : List ℕ) (p : ℕ) (t : Turn) → FindGives p owed t new → IsProduced p t (length owed) (length new)
+is_produced owed new p (turn.Found id) h = (first_from p id owed new h, omega (arith, ap length h, length-ids_from p owed))
+is_produced owed new p turn.Done h = tt
+is_produced owed new p turn.Unfinished h = tt
 
 -- a place before a list that rises behind it
 before_rises : (b : Bool) (p : ℕ) (ids : List ℕ) → RisesFrom (p + 1) ids → RisesFrom p (id_if b p ++ ids)

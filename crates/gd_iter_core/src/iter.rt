@@ -1,5 +1,5 @@
 //! The calls that all iterators have.
-ghost use Rattle.std.specs.Prelude.{◌≡◌, ◌+◌, ◌-◌, ◌*◌, ◌^◌, ◌<◌, ◌≤◌, List, ℕ, MatchBool, length, min};
+ghost use Rattle.std.specs.Prelude.{◌≡◌, ◌+◌, ◌-◌, ◌*◌, ◌^◌, ◌<◌, ◌≤◌, List, ℕ, MatchBool, length, min, true};
 ghost use Rattle.std.specs.Bool.{OnTrue};
 ghost use Rattle.gd_iter_core.specs.Owed.{Walk, RisesFrom, NextGives, FindGives, CheckGives, IsLow, Reaches, CheckReaches, is_position, has_id, owed_at, IsAt};
 ghost use Rattle.gd_iter_core.specs.declared.turn.FrozenIter.{FrozenIter};
@@ -86,6 +86,9 @@ pub trait Iter<W> {
 
     /// What is owed is rising.
     ghost owed_rises: { (it : Self) (world : W) → RisesFrom 0 (owed it world) };
+
+    /// A number of members that accept its place is below the number of members.
+    ghost fits: { (it : Self) → is_position (walk it).members (position it) ≡ true };
 }
 
 /// An iterator that is made of no others, and says at once whether a place is a member. Only such ones are members of
