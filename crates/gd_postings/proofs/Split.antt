@@ -1,5 +1,5 @@
 -- Where a rising list is split, and how far a halving goes.
-use Rattle.std.proofs.Common.{◌≡◌, ◌∙◌, ◌+◌, ◌-◌, ◌*◌, ◌^◌, ◌<◌, ◌≤◌, ℕ, zero, suc, true, false, List, [], ◌∷◌, length, Some, None, refl, sym, subst, ap, arith, ◌++◌, ⊎_elim, length-append}
+use Rattle.std.proofs.Common.{◌≡◌, ◌∙◌, ◌+◌, ◌-◌, ◌*◌, ◌^◌, ◌<◌, ◌≤◌, ℕ, zero, suc, true, false, List, [], ◌∷◌, length, take, Some, None, refl, sym, subst, ap, arith, ◌++◌, ⊎_elim, length-append}
 use Rattle.std.specs.Prelude.{nat_lt, slice_index}
 use Rattle.std.proofs.Math.Nat.{pow-succ'}
 use Rattle.std.proofs.lemmas.Bool.{lt-ltb, le-ltb, cases_lt}
@@ -32,6 +32,19 @@ counts (x ∷ xs) end (suc i) s =
 
 pub is_count : (ids : List ℕ) (end i : ℕ) → IsSplit ids end i i → i ≡ length (ids_below end ids)
 is_count ids end i s = sym (counts ids end i s)
+
+-- the part before a split is what lies below its end
+pub are_below : (ids : List ℕ) (end i : ℕ) → IsSplit ids end i i → take i ids ≡ ids_below end ids
+are_below [] end zero s = refl
+are_below [] end (suc i) s = refl
+are_below (x ∷ xs) end zero s =
+    let no : nat_lt x end ≡ false = le-ltb x end (s.behind 0 (omega arith) (omega arith)) in
+    let rest = are_below xs end 0 (first_split x xs end s) in
+    grind (arith, common_steps, no, rest)
+are_below (x ∷ xs) end (suc i) s =
+    let yes : nat_lt x end ≡ true = lt-ltb x end (s.before 0 (omega arith)) in
+    let rest = are_below xs end i (rest_split x xs end i s) in
+    grind (arith, common_steps, yes, rest)
 
 pub finds : (ids : List ℕ) (end i : ℕ) → IsSplit ids end i i → i < length ids → first_from end ids ≡ Some (slice_index ids i)
 finds [] end i s there = absurd (omega (arith, there))
@@ -100,13 +113,13 @@ rising_more ids id more rising above is = subst IsRising (sym is) pushed
     pushed i j before there = ⊎_elim (λ less. within i j before less) (λ end. last i j before (omega (arith, end, there, length-append ids (id ∷ [])))) (cases_lt j (length ids))
 
 -- the same of what contracts see and of what is stored
-pub above_here : (p q : Places) (place id : ℕ) → p ≡ q → place ≡ id → IsAbove q.ids id → IsAbove p.ids place
-above_here p q place id same is above = rw (same, is) above
+pub above_here : (p q : Places) (id : ℕ) → p ≡ q → IsAbove q.ids id → IsAbove p.ids id
+above_here p q id same above = rw same above
 
 -- and so does the bound on its length
-pub still_few : (ids more : List ℕ) (place id : ℕ) → length ids ≤ place → place ≡ id → id < 2_097_151 → more ≡ ids ++ place ∷ [] → length more ≤ 2_097_151
-still_few ids more place id low is small longer = let count = ap length longer ∙ length-append ids (place ∷ []) in omega (arith, low, is, small, count)
+pub still_few : (ids more : List ℕ) (id : ℕ) → length ids ≤ id → id < 2_097_151 → more ≡ ids ++ id ∷ [] → length more ≤ 2_097_151
+still_few ids more id low small longer = let count = ap length longer ∙ length-append ids (id ∷ []) in omega (arith, low, small, count)
 
-pub is_count_here : (seen : List ℕ) (p q : Places) (place end i : ℕ) → seen ≡ p.ids → p ≡ q → place ≡ end → IsSplit seen place i i → i ≡ length (ids_below end q.ids)
-is_count_here seen p q place end i stored same is split =
-    is_count seen place i split ∙ (ap (λ (ids : List ℕ). length (ids_below place ids)) (stored ∙ ap (λ (x : Places). x.ids) same) ∙ ap (λ (n : ℕ). length (ids_below n q.ids)) is)
+pub is_count_here : (seen : List ℕ) (p q : Places) (end i : ℕ) → seen ≡ p.ids → p ≡ q → IsSplit seen end i i → i ≡ length (ids_below end q.ids)
+is_count_here seen p q end i stored same split =
+    is_count seen end i split ∙ ap (λ (ids : List ℕ). length (ids_below end ids)) (stored ∙ ap (λ (x : Places). x.ids) same)

@@ -15,7 +15,7 @@ use std::marker::Model;
 /// and `spare`, the number of identities that may be pushed without memory.
 #[derive(Debug, Drop)]
 pub struct Postings {
-    ids: Vec<u32>,
+    ids: Vec<Id>,
     spare: usize,
 }
 
@@ -67,7 +67,7 @@ impl Postings {
         ensures ids { self.new.ids ≡ self.old.ids ++ id ∷ [] }
         ensures spare { self.new.spare + 1 ≡ self.old.spare }
     {
-        match self.ids.push(id.0) {
+        match self.ids.push(id) {
             Ok(()) => self.spare -= 1,
             Err(_) => unreachable!(),
         }
@@ -80,9 +80,9 @@ impl Postings {
         ensures none { IfNone result ((self.old.ids ≡ []) × (self.new ≡ self.old)) }
     {
         match self.ids.pop() {
-            Some(place) => {
+            Some(id) => {
                 self.spare += 1;
-                Some(Id(place))
+                Some(id)
             }
             None => None,
         }
@@ -105,7 +105,20 @@ impl Postings {
         ensures later { steps.old ≤ steps.new }
     {
         steps.tick();
-        Id(self.ids[k as usize])
+        self.ids[k as usize]
+    }
+
+    /// The identities that are less than `end`, in rising order. They are found in at most 22 steps, and at least one where
+    /// the list is not empty.
+    #[tactic(auto, using(crate::proofs::Split::are_below))]
+    pub fn below<L>(&self, end: Id, steps: &mut Steps<L>) -> &[Id]
+        ensures ids { result.now ≡ ids_below end self.now.ids }
+        ensures work { steps.new ≤ steps.old + 22 }
+        ensures later { steps.old ≤ steps.new }
+        ensures counted { 0 < length self.now.ids → Rose steps.old steps.new }
+    {
+        let place = search(&self.ids, end, steps);
+        &self.ids[..place]
     }
 
     /// How many identities are less than `end`, in at most 22 steps, and at least one where the list is not empty.
@@ -115,7 +128,7 @@ impl Postings {
         ensures later { steps.old ≤ steps.new }
         ensures counted { 0 < length self.now.ids → Rose steps.old steps.new }
     {
-        search(&self.ids, end.0, steps) as u32
+        search(&self.ids, end, steps) as u32
     }
 
     /// The least identity that is `id` or greater, in at most 22 steps, and at least one where the list is not empty.
@@ -127,12 +140,12 @@ impl Postings {
         ensures later { steps.old ≤ steps.new }
         ensures counted { 0 < length self.now.ids → Rose steps.old steps.new }
     {
-        let place = search(&self.ids, id.0, steps);
+        let place = search(&self.ids, id, steps);
         if place == self.ids.len() {
             return None;
         }
         steps.tick();
-        Some(Id(self.ids[place]))
+        Some(self.ids[place])
     }
 
     /// Whether the identity is in the list, in at most 22 steps, and at least one where the list is not empty.
@@ -142,12 +155,12 @@ impl Postings {
         ensures later { steps.old ≤ steps.new }
         ensures counted { 0 < length self.now.ids → Rose steps.old steps.new }
     {
-        let place = search(&self.ids, id.0, steps);
+        let place = search(&self.ids, id, steps);
         if place == self.ids.len() {
             return false;
         }
         steps.tick();
-        self.ids[place] == id.0
+        self.ids[place] == id
     }
 }
 
@@ -159,7 +172,7 @@ struct Part {
 }
 
 /// The half of the part that is still in question once its middle was looked at.
-fn halve(ids: &[u32], end: u32, part: Part) -> Part
+fn halve(ids: &[Id], end: Id, part: Part) -> Part
     requires few { length ids.now ≤ 2_097_151 }
     requires rising { IsRising ids.now }
     requires split { IsSplit ids.now end part.low part.high }
@@ -168,7 +181,7 @@ fn halve(ids: &[u32], end: u32, part: Part) -> Part
     ensures half { (result.high - result.low) + (result.high - result.low) ≤ part.high - part.low }
 {
     let middle = part.low + (part.high - part.low) / 2;
-    if ids[middle] < end {
+    if ids[middle].place() < end.place() {
         Part {
             low: middle + 1,
             high: part.high,
@@ -182,7 +195,7 @@ fn halve(ids: &[u32], end: u32, part: Part) -> Part
 }
 
 /// The place before which each identity of a rising list is less than `end`, and from which none is.
-fn search<L>(ids: &[u32], end: u32, steps: &mut Steps<L>) -> usize
+fn search<L>(ids: &[Id], end: Id, steps: &mut Steps<L>) -> usize
     requires few { length ids.now ≤ 2_097_151 }
     requires rising { IsRising ids.now }
     ensures split { IsSplit ids.now end result result }

@@ -1,8 +1,8 @@
 -- The identities of a rising list that are less than an end.
-use Rattle.std.proofs.Common.{◌≡◌, ℕ, zero, suc, ◌-◌, ◌<◌, ◌≤◌, Bool, true, false, cond, List, [], ◌∷◌, length, take, refl, sym, ap, ◌∙◌, arith}
+use Rattle.std.proofs.Common.{◌≡◌, ℕ, zero, suc, ◌-◌, ◌<◌, ◌≤◌, Bool, true, false, cond, min, List, [], ◌∷◌, length, take, refl, sym, ap, ◌∙◌, arith}
 use Rattle.std.specs.Prelude.{Option, None, Some, nat_lt, slice_get, slice_index, if◌then◌else◌}
 use Rattle.std.specs.List.{last_or}
-use Rattle.std.proofs.lemmas.Bool.{le-ltb, ltb-false}
+use Rattle.std.proofs.lemmas.Bool.{lt-ltb, le-ltb, ltb-true, ltb-false}
 use Rattle.gd_postings.specs.Postings.{IsRising, ids_below}
 
 rest_rising : (x : ℕ) (xs : List ℕ) → IsRising (x ∷ xs) → IsRising xs
@@ -107,3 +107,22 @@ at_below (y ∷ xs) end (suc k) x rising is = either (nat_lt y end) refl (at_bel
         let up : end ≤ y = ltb-false y end less in
         let above : end ≤ x = above_at y xs end (suc k) x rising up place.0 place.1 in
         ap (λ ys. slice_get ys (suc k)) (none xs end (rest_above y xs end rising up)) ∙ ap (λ c. if c then Some x else None) (sym (le-ltb x end above))
+
+-- those below two ends are those below the nearer one
+pub below_both : (from end : ℕ) (ids : List ℕ) → ids_below (min from end) ids ≡ ids_below from (ids_below end ids)
+below_both from end [] = refl
+below_both from end (x ∷ xs) = either (nat_lt x from) (nat_lt x end) refl refl (below_both from end xs)
+  where
+    either : (a b : Bool) → nat_lt x from ≡ a → nat_lt x end ≡ b → ids_below (min from end) xs ≡ ids_below from (ids_below end xs)
+        → ids_below (min from end) (x ∷ xs) ≡ ids_below from (cond b (x ∷ ids_below end xs) (ids_below end xs))
+    either true true near less rest =
+        ap (λ c. cond c (x ∷ ids_below (min from end) xs) (ids_below (min from end) xs)) (lt-ltb x (min from end) (omega (arith, ltb-true x from near, ltb-true x end less)))
+        ∙ ap (λ ys. x ∷ ys) rest
+        ∙ ap (λ c. cond c (x ∷ ids_below from (ids_below end xs)) (ids_below from (ids_below end xs))) (sym near)
+    either false true near less rest =
+        ap (λ c. cond c (x ∷ ids_below (min from end) xs) (ids_below (min from end) xs)) (le-ltb x (min from end) (omega (arith, ltb-false x from near)))
+        ∙ rest
+        ∙ ap (λ c. cond c (x ∷ ids_below from (ids_below end xs)) (ids_below from (ids_below end xs))) (sym near)
+    either a false near less rest =
+        ap (λ c. cond c (x ∷ ids_below (min from end) xs) (ids_below (min from end) xs)) (le-ltb x (min from end) (omega (arith, ltb-false x end less)))
+        ∙ rest

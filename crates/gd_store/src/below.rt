@@ -22,6 +22,32 @@ pub(crate) fn count_below<L>(list: &Postings, end: Id, steps: &mut Steps<L>) -> 
     list.len_below(end, steps)
 }
 
+/// The identities that are less than `end`, in rising order.
+pub(crate) fn front<'a, L>(list: &'a Postings, end: Id, steps: &mut Steps<L>) -> &'a [Id]
+    ensures ids { result.now ≡ ids_below end list.now.ids }
+    ensures work { steps.new ≤ steps.old + 22 }
+    ensures later { steps.old ≤ steps.new }
+    ensures counted { Rose steps.old steps.new }
+{
+    if list.len() == 0 {
+        steps.tick();
+        return &[];
+    }
+    list.below(end, steps)
+}
+
+/// How many of the identities that are less than `end` are less than `from`.
+#[tactic(auto, using(crate::proofs::Rising::below_both))]
+pub(crate) fn count_front<L>(list: &Postings, from: Id, end: Id, steps: &mut Steps<L>) -> u32
+    ensures count { result ≡ length (ids_below from (ids_below end list.now.ids)) }
+    ensures work { steps.new ≤ steps.old + 22 }
+    ensures later { steps.old ≤ steps.new }
+    ensures counted { Rose steps.old steps.new }
+{
+    let nearer = Id(from.place().min(end.place()));
+    count_below(list, nearer, steps)
+}
+
 /// The last identity that is less than `end`, if there is one.
 pub(crate) fn last_below<L>(list: &Postings, end: Id, steps: &mut Steps<L>) -> Option<Id>
     ensures last { result ≡ last_or None (ids_below end list.now.ids) }

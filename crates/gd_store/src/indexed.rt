@@ -4,6 +4,7 @@ ghost use Rattle.std.specs.List.{last_or};
 ghost use Rattle.gd_base.specs.Counts.{Rose};
 ghost use Rattle.gd_prim.specs.End.{places_with};
 ghost use Rattle.gd_prim.specs.Live as graph;
+ghost use Rattle.gd_postings.specs.Postings.{ids_below};
 ghost use Rattle.gd_store.specs.Indexed.{may_enter};
 ghost use Rattle.gd_store.specs.Keys.{is_key_link, is_key_of};
 ghost use Rattle.gd_store.specs.Valued.{number_in, places_of_number};
@@ -178,6 +179,33 @@ impl IndexedPrims {
         self.indexes.link_count(end, node, Id(below), steps)
     }
 
+    /// The places below `below` whose primitive has this node at the end, in rising order.
+    pub(crate) fn links<L>(&self, end: End, node: Id, below: u32, steps: &mut Steps<L>) -> &[Id]
+        ensures places { result.now ≡ places_with end node (take below self.now) }
+        ensures work { steps.new ≤ steps.old + 22 }
+        ensures later { steps.old ≤ steps.new }
+        ensures counted { Rose steps.old steps.new }
+    {
+        self.indexes.links(end, node, Id(below), steps)
+    }
+
+    /// How many of these places are below `from`.
+    pub(crate) fn links_before<L>(
+        &self,
+        end: End,
+        node: Id,
+        from: Id,
+        below: u32,
+        steps: &mut Steps<L>,
+    ) -> u32
+        ensures count { result ≡ length (ids_below from (places_with end node (take below self.now))) }
+        ensures work { steps.new ≤ steps.old + 22 }
+        ensures later { steps.old ≤ steps.new }
+        ensures counted { Rose steps.old steps.new }
+    {
+        self.indexes.links_before(end, node, from, Id(below), steps)
+    }
+
     /// The k-th place, from 0 in rising order, whose primitive has this node at the end.
     pub(crate) fn link_at<L>(&self, end: End, node: Id, k: u32, steps: &mut Steps<L>) -> Id
         requires { k < length (places_with end node self.now) }
@@ -212,6 +240,32 @@ impl IndexedPrims {
         ensures counted { Rose steps.old steps.new }
     {
         self.indexes.value_count(number, Id(end), steps)
+    }
+
+    /// The places below `end` whose primitive has the value with a number, in rising order.
+    pub(crate) fn value_places<L>(&self, number: u32, end: u32, steps: &mut Steps<L>) -> &[Id]
+        ensures places { result.now ≡ places_of_number number (take end self.now) }
+        ensures work { steps.new ≤ steps.old + 22 }
+        ensures later { steps.old ≤ steps.new }
+        ensures counted { Rose steps.old steps.new }
+    {
+        self.indexes.value_places(number, Id(end), steps)
+    }
+
+    /// How many of these places are below `from`.
+    pub(crate) fn values_before<L>(
+        &self,
+        number: u32,
+        from: Id,
+        end: u32,
+        steps: &mut Steps<L>,
+    ) -> u32
+        ensures count { result ≡ length (ids_below from (places_of_number number (take end self.now))) }
+        ensures work { steps.new ≤ steps.old + 22 }
+        ensures later { steps.old ≤ steps.new }
+        ensures counted { Rose steps.old steps.new }
+    {
+        self.indexes.values_before(number, from, Id(end), steps)
     }
 
     /// The k-th place, from 0 in rising order, whose primitive has the value with a number.

@@ -14,7 +14,7 @@ ghost use Rattle.gd_base.specs.Order.{datum_eq};
 ghost use Rattle.gd_valueidx.specs.Values.{value_list, values_in, number_list};
 ghost use Rattle.gd_store.specs.Valued.{AreValues};
 
-use crate::below::{at_below, count_below, last_below};
+use crate::below::{at_below, count_below, count_front, front, last_below};
 use gd_base::datum::Datum;
 use gd_base::id::Id;
 use gd_base::memory::Memory;
@@ -328,6 +328,33 @@ impl Indexes {
         count_below(self.linkage.list(end, node), below, steps)
     }
 
+    /// The places below `below` that name this node at this end.
+    pub(crate) fn links<L>(&self, end: End, node: Id, below: Id, steps: &mut Steps<L>) -> &[Id]
+        ensures places { result.now ≡ ids_below below (list_of end node self.now.linkage).ids }
+        ensures work { steps.new ≤ steps.old + 22 }
+        ensures later { steps.old ≤ steps.new }
+        ensures counted { Rose steps.old steps.new }
+    {
+        front(self.linkage.list(end, node), below, steps)
+    }
+
+    /// How many of the places below `below` that name this node at this end are below `from`.
+    pub(crate) fn links_before<L>(
+        &self,
+        end: End,
+        node: Id,
+        from: Id,
+        below: Id,
+        steps: &mut Steps<L>,
+    ) -> u32
+        ensures count { result ≡ length (ids_below from (ids_below below (list_of end node self.now.linkage).ids)) }
+        ensures work { steps.new ≤ steps.old + 22 }
+        ensures later { steps.old ≤ steps.new }
+        ensures counted { Rose steps.old steps.new }
+    {
+        count_front(self.linkage.list(end, node), from, below, steps)
+    }
+
     /// The k-th place, from 0, that names this node at this end.
     pub(crate) fn link_at<L>(&self, end: End, node: Id, k: u32, steps: &mut Steps<L>) -> Id
         requires { k < length (list_of end node self.now.linkage).ids }
@@ -358,6 +385,32 @@ impl Indexes {
         ensures counted { Rose steps.old steps.new }
     {
         count_below(self.values.list_at(number as usize), end, steps)
+    }
+
+    /// The places below `end` that have the value with a number.
+    pub(crate) fn value_places<L>(&self, number: u32, end: Id, steps: &mut Steps<L>) -> &[Id]
+        ensures places { result.now ≡ ids_below end (number_list number self.now.values).ids }
+        ensures work { steps.new ≤ steps.old + 22 }
+        ensures later { steps.old ≤ steps.new }
+        ensures counted { Rose steps.old steps.new }
+    {
+        front(self.values.list_at(number as usize), end, steps)
+    }
+
+    /// How many of the places below `end` that have the value with a number are below `from`.
+    pub(crate) fn values_before<L>(
+        &self,
+        number: u32,
+        from: Id,
+        end: Id,
+        steps: &mut Steps<L>,
+    ) -> u32
+        ensures count { result ≡ length (ids_below from (ids_below end (number_list number self.now.values).ids)) }
+        ensures work { steps.new ≤ steps.old + 22 }
+        ensures later { steps.old ≤ steps.new }
+        ensures counted { Rose steps.old steps.new }
+    {
+        count_front(self.values.list_at(number as usize), from, end, steps)
     }
 
     /// The k-th place, from 0, that has the value with a number.

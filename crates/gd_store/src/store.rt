@@ -7,6 +7,7 @@ ghost use Rattle.gd_prim.specs.History.{prims_of, prims_at, is_history, AreHeld,
 ghost use Rattle.gd_prim.specs.Live as graph;
 ghost use Rattle.gd_prim.specs.WellFormed.{bad_place};
 ghost use Rattle.gd_prim.specs.Limits.{limits, first_full, text_bytes};
+ghost use Rattle.gd_postings.specs.Postings.{ids_below};
 ghost use Rattle.gd_store.specs.Indexed.{may_enter};
 ghost use Rattle.gd_store.specs.Keys.{is_key_link, is_key_of};
 ghost use Rattle.gd_store.specs.Stored as stored;
@@ -381,6 +382,36 @@ impl Store {
         self.prims.link_count(end, node, self.end(dateline), steps)
     }
 
+    /// The places below a dateline whose primitive has this node at the end, in rising order.
+    pub(crate) fn links<L>(&self, dateline: u32, end: End, node: Id, steps: &mut Steps<L>) -> &[Id]
+        requires { dateline ≤ length self.now }
+        ensures places { result.now ≡ places_with end node (prims_at self.now dateline) }
+        ensures work { steps.new ≤ steps.old + 22 }
+        ensures later { steps.old ≤ steps.new }
+        ensures counted { Rose steps.old steps.new }
+    {
+        self.prims.links(end, node, self.end(dateline), steps)
+    }
+
+    /// How many of these places are below `from`.
+    pub(crate) fn links_before<L>(
+        &self,
+        dateline: u32,
+        end: End,
+        node: Id,
+        from: Id,
+        steps: &mut Steps<L>,
+    ) -> u32
+        requires { dateline ≤ length self.now }
+        ensures count { result ≡ length (ids_below from (places_with end node (prims_at self.now dateline))) }
+        ensures work { steps.new ≤ steps.old + 22 }
+        ensures later { steps.old ≤ steps.new }
+        ensures counted { Rose steps.old steps.new }
+    {
+        self.prims
+            .links_before(end, node, from, self.end(dateline), steps)
+    }
+
     /// The k-th place below a dateline, from 0 in rising order, whose primitive has this node at the end.
     pub(crate) fn link_at<L>(
         &self,
@@ -427,6 +458,35 @@ impl Store {
         ensures counted { Rose steps.old steps.new }
     {
         self.prims.value_count(number, self.end(dateline), steps)
+    }
+
+    /// The places below a dateline whose primitive has the value with a number, in rising order.
+    pub(crate) fn value_places<L>(&self, dateline: u32, number: u32, steps: &mut Steps<L>) -> &[Id]
+        requires { dateline ≤ length self.now }
+        ensures places { result.now ≡ places_of_number number (prims_at self.now dateline) }
+        ensures work { steps.new ≤ steps.old + 22 }
+        ensures later { steps.old ≤ steps.new }
+        ensures counted { Rose steps.old steps.new }
+    {
+        self.prims.value_places(number, self.end(dateline), steps)
+    }
+
+    /// How many of these places are below `from`.
+    pub(crate) fn values_before<L>(
+        &self,
+        dateline: u32,
+        number: u32,
+        from: Id,
+        steps: &mut Steps<L>,
+    ) -> u32
+        requires { dateline ≤ length self.now }
+        ensures count { result ≡ length (ids_below from (places_of_number number (prims_at self.now dateline))) }
+        ensures work { steps.new ≤ steps.old + 22 }
+        ensures later { steps.old ≤ steps.new }
+        ensures counted { Rose steps.old steps.new }
+    {
+        self.prims
+            .values_before(number, from, self.end(dateline), steps)
     }
 
     /// The k-th place below a dateline, from 0 in rising order, whose primitive has the value with a number.

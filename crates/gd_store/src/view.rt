@@ -1,11 +1,12 @@
 //! Views of a store.
-ghost use Rattle.std.specs.Prelude.{◌≡◌, ◌+◌, ◌-◌, ◌^◌, ◌<◌, ◌≤◌, None, Some, length, take, slice_get, min, IfSome, IsTrue};
+ghost use Rattle.std.specs.Prelude.{◌≡◌, ℕ, ◌+◌, ◌-◌, ◌^◌, ◌<◌, ◌≤◌, None, Some, length, take, slice_get, min, IfSome, IsTrue};
 ghost use Rattle.std.specs.List.{last_or};
 ghost use Rattle.gd_base.specs.Counts.{Rose};
 ghost use Rattle.gd_prim.specs.End.{places_with};
 ghost use Rattle.gd_prim.specs.History.{prims_of, is_history, AreHeld, AreTimed};
 ghost use Rattle.gd_prim.specs.Live as graph;
 ghost use Rattle.gd_prim.specs.WellFormed.{may_hold};
+ghost use Rattle.gd_postings.specs.Postings.{ids_below};
 ghost use Rattle.gd_store.specs.Keys.{is_key_link, is_key_of};
 ghost use Rattle.gd_store.specs.Valued.{number_in, places_of_number};
 
@@ -69,11 +70,13 @@ impl<'a> View<'a> {
         }
     }
 
-    /// The primitives below the dateline.
-    fn prims(&self) -> &'a [Primitive]
+    /// The primitives below the dateline, of which there are some. It takes no memory.
+    pub fn primitives(&self) -> &'a [Primitive]
         ensures prims { result.now ≡ prims_of self.now }
         ensures few { length result.now ≤ 2_097_151 }
         ensures some { 0 < length result.now }
+
+        // Each may hold its value, and is of a moment of a clock.
         ensures held { AreHeld result.now }
         ensures timed { AreTimed result.now }
     {
@@ -90,7 +93,7 @@ impl<'a> View<'a> {
         ensures held { AreHeld (prims_of self.now) }
         ensures timed { AreTimed (prims_of self.now) }
     {
-        Id(self.prims().len() as u32)
+        Id(self.primitives().len() as u32)
     }
 
     /// The primitive at a place. It takes no memory.
@@ -104,7 +107,7 @@ impl<'a> View<'a> {
         ensures counted { steps.new ≡ min (steps.old + 1) (2 ^ 64 - 1) }
     {
         steps.tick();
-        &self.prims()[id.place() as usize]
+        &self.primitives()[id.place() as usize]
     }
 
     /// Whether the primitive at a place is marked live and no primitive below the dateline has it as `previous`. A place
@@ -183,6 +186,31 @@ impl<'a> View<'a> {
         store.link_at(self.dateline, end, node, k, steps)
     }
 
+    /// The places whose primitive has this node at the end, in rising order. They are found in at most 22 steps, and to go
+    /// over them takes none. It takes no memory.
+    pub fn links<L>(&self, end: End, node: Id, steps: &mut Steps<L>) -> &'a [Id]
+        ensures places { result.now ≡ places_with end node (prims_of self.now) }
+        ensures below { (k place : ℕ) → slice_get result.now k ≡ Some place → place < length (prims_of self.now) }
+        ensures work { steps.new ≤ steps.old + 22 }
+        ensures later { steps.old ≤ steps.new }
+        ensures counted { Rose steps.old steps.new }
+    {
+        let store = self.store;
+        store.links(self.dateline, end, node, steps)
+    }
+
+    /// How many of the places whose primitive has this node at the end are less than `from`: so this is the index among
+    /// them of the first that is `from` or greater. It takes no memory.
+    pub fn list_from<L>(&self, end: End, node: Id, from: Id, steps: &mut Steps<L>) -> u32
+        ensures index { result ≡ length (ids_below from (places_with end node (prims_of self.now))) }
+        ensures work { steps.new ≤ steps.old + 22 }
+        ensures later { steps.old ≤ steps.new }
+        ensures counted { Rose steps.old steps.new }
+    {
+        let store = self.store;
+        store.links_before(self.dateline, end, node, from, steps)
+    }
+
     /// The number of a value that a primitive below the dateline has: values are numbered from 0 in the order in which
     /// they first come. None where no primitive has it. It takes no memory.
     pub fn number_of<L>(&self, value: &Datum, steps: &mut Steps<L>) -> Option<u32>
@@ -217,5 +245,30 @@ impl<'a> View<'a> {
     {
         let store = self.store;
         store.value_place(self.dateline, number, k, steps)
+    }
+
+    /// The places whose primitive has the value with this number, in rising order: none where the number was not given.
+    /// They are found in at most 22 steps, and to go over them takes none. It takes no memory.
+    pub fn value_places<L>(&self, number: u32, steps: &mut Steps<L>) -> &'a [Id]
+        ensures places { result.now ≡ places_of_number number (prims_of self.now) }
+        ensures below { (k place : ℕ) → slice_get result.now k ≡ Some place → place < length (prims_of self.now) }
+        ensures work { steps.new ≤ steps.old + 22 }
+        ensures later { steps.old ≤ steps.new }
+        ensures counted { Rose steps.old steps.new }
+    {
+        let store = self.store;
+        store.value_places(self.dateline, number, steps)
+    }
+
+    /// How many of the places whose primitive has the value with this number are less than `from`: so this is the index
+    /// among them of the first that is `from` or greater. It takes no memory.
+    pub fn value_from<L>(&self, number: u32, from: Id, steps: &mut Steps<L>) -> u32
+        ensures index { result ≡ length (ids_below from (places_of_number number (prims_of self.now))) }
+        ensures work { steps.new ≤ steps.old + 22 }
+        ensures later { steps.old ≤ steps.new }
+        ensures counted { Rose steps.old steps.new }
+    {
+        let store = self.store;
+        store.values_before(self.dateline, number, from, steps)
     }
 }

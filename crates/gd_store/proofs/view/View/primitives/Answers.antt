@@ -2,7 +2,7 @@ use Rattle.std.proofs.Common.{◌<◌, List, length, take, subst, sym}
 use Rattle.gd_prim.specs.declared.Primitive.{Primitive}
 use Rattle.gd_prim.specs.History.{AreHeld, AreTimed}
 use Rattle.gd_store.proofs.Held.{history_some, history_held, history_timed}
-use Rattle.gd_store.proofs.view.View.prims.Goals as goal
+use Rattle.gd_store.proofs.view.View.primitives.Goals as goal
 
 pub returns-clause-some : goal.returns-clause-some
 returns-clause-some c =
