@@ -2,6 +2,7 @@
 use Rattle.std.proofs.Common.{◌≡◌, ◌∙◌, ◌+◌, ◌<◌, ◌≤◌, ℕ, Bool, List, [], ◌∷◌, ◌++◌, Option, Some, None, refl, sym, ap, subst, arith}
 use Rattle.gd_iter_core.specs.declared.turn.Turn.{Turn}
 use Rattle.gd_iter_core.specs.declared.turn.Turn.TheVariants as turn
+use Rattle.gd_iter_core.specs.declared.turn.FrozenIter.{FrozenIter}
 use Rattle.gd_iter_core.specs.Owed.{Walk, RisesFrom, ids_from, id_if, NextGives, FindGives, owed_from}
 use Rattle.gd_iter_core.specs.Rising.{from_no, from_from, from_all}
 use Rattle.gd_iter_core.specs.Sieved.{from_above}
@@ -72,3 +73,7 @@ at_skip {W = W} walk new_walk w p q from a b old new same at shaped e up low =
     agreed new_walk w q b new shaped
     (ap (ids_from (front q b)) e ∙ (from_from from (front q b) old low
     ∙ (later (front p a) (front q b) old (walk.set w) up (agrees walk w p a old at) ∙ ap (λ (v : Walk W). ids_from (front q b) (v.set w)) (sym same))))
+
+-- the position of an iterator without members
+abbrev pub at_place : ℕ → FrozenIter
+at_place place = record { place = place; accepted = None }

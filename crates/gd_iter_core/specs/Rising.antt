@@ -202,16 +202,17 @@ has_none p f ids r e = ⊎_elim
     (λ (no : has_id ids p ≡ false). no)
     (cases_Bool (has_id ids p))
 
+-- from a place on, and of these from an earlier one on
+pub from_low : (p q : ℕ) (ids : List ℕ) → q ≤ p → ids_from q (ids_from p ids) ≡ ids_from p ids
+from_low p q [] h = refl
+from_low p q (x ∷ xs) h = ⊎_elim
+    (λ (less : x < p). ap (ids_from q) (from_no p x xs less) ∙ (from_low p q xs h ∙ sym (from_no p x xs less)))
+    (λ (more : p ≤ x). ap (ids_from q) (from_yes p x xs more) ∙ (from_yes q x (ids_from p xs) (omega (arith, h, more)) ∙ (ap (λ l. x ∷ l) (from_low p q xs h) ∙ sym (from_yes p x xs more))))
+    (cases_lt x p)
+
 -- from the greater of two places on
 pub from_max : (p q : ℕ) (ids : List ℕ) → ids_from (max p q) ids ≡ ids_from q (ids_from p ids)
 from_max p q ids = ⊎_elim
     (λ (low : p < q). let top : max p q ≡ q = omega (arith, low) in rw top (sym (from_from p q ids (omega (arith, low)))))
-    (λ (high : q ≤ p). let top : max p q ≡ p = omega (arith, high) in rw top (sym (from_from_low p q ids high)))
+    (λ (high : q ≤ p). let top : max p q ≡ p = omega (arith, high) in rw top (sym (from_low p q ids high)))
     (cases_lt p q)
-  where
-    from_from_low : (p q : ℕ) (ids : List ℕ) → q ≤ p → ids_from q (ids_from p ids) ≡ ids_from p ids
-    from_from_low p q [] h = refl
-    from_from_low p q (x ∷ xs) h = ⊎_elim
-        (λ (less : x < p). ap (ids_from q) (from_no p x xs less) ∙ (from_from_low p q xs h ∙ sym (from_no p x xs less)))
-        (λ (more : p ≤ x). ap (ids_from q) (from_yes p x xs more) ∙ (from_yes q x (ids_from p xs) (omega (arith, h, more)) ∙ (ap (λ l. x ∷ l) (from_from_low p q xs h) ∙ sym (from_yes p x xs more))))
-        (cases_lt x p)

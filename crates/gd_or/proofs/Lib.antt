@@ -1,0 +1,4 @@
+pub mod Members
+pub mod Steps
+pub mod Union
+pub mod Without
