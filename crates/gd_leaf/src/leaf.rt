@@ -156,8 +156,9 @@ impl<'a> Iter<View<'a>> for Leaf {
     }
 
     fn thaw<L>(&mut self, world: &View<'a>, at: FrozenIter, steps: &mut Steps<L>) -> bool {
-        if at.accepted.is_some() {
-            return false;
+        match at.accepted {
+            Some(_) => return false,
+            None => {}
         }
         self.place = at.place;
         true

@@ -1,4 +1,4 @@
 pub mod Members
 pub mod Steps
-pub mod Union
-pub mod Without
+pub mod Unions
+pub mod Differences

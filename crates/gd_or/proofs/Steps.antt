@@ -6,13 +6,13 @@ use Rattle.std.proofs.lemmas.Bool.{cases_order}
 use Rattle.gd_iter_core.specs.declared.turn.Checked.{Checked}
 use Rattle.gd_iter_core.specs.declared.turn.Checked.TheVariants as checked
 use Rattle.gd_iter_core.specs.declared.turn.Turn.{Turn}
-use Rattle.gd_iter_core.specs.Owed.{Walk, RisesFrom, ids_from, NextGives, CheckGives, owed_from}
+use Rattle.gd_iter_core.specs.Owed.{Walk, RisesFrom, ids_from, has_id, NextGives, CheckGives, owed_from}
 use Rattle.gd_iter_core.specs.Positions.{Moves, at_next, at_skip}
 use Rattle.gd_iter_core.specs.Rising.{first_from, rises_from, from_max}
 use Rattle.gd_or.specs.declared.branch.Head.{Head}
 use Rattle.gd_or.specs.Or.{insert_id, sorted_set, joined, union, any_has, or_walk, part, is_known, least, AnyGives}
 use Rattle.gd_or.specs.Union.{union_rises, insert_less, insert_same, insert_more}
-use Rattle.gd_or.proofs.Union.{Says, heads_say, union_starts, union_empty, parts_later, from_union, has_union}
+use Rattle.gd_or.proofs.Unions.{Says, heads_say, union_starts, union_empty, parts_later, from_union, has_union}
 
 -- what the branches owe from a place on
 abbrev parts : {B : Type 0} → (B → List ℕ) → (B → Head) → ℕ → List B → List (List ℕ)
@@ -41,12 +41,13 @@ or_low owed h p q m bs sl r eq es known e =
     first_from p m (union (parts owed h p bs)) (ids_from (m + 1) (union (parts owed h p bs)))
     (parts_later owed h p p bs (omega arith) ∙ found_here owed h p q m bs sl r eq es known e)
 
-pub or_found : {B : Type 0} (owed : B → List ℕ) (h : B → Head) (p q m : ℕ) (bs sl old : List B) → ((b : B) → RisesFrom 0 (owed b)) → q ≡ p → sl ≡ bs
+pub or_found : {B : Type 0} (owed : B → List ℕ) (h : B → Head) (p q m n : ℕ) (bs sl old : List B) → n ≡ m → ((b : B) → RisesFrom 0 (owed b)) → q ≡ p → sl ≡ bs
     → list_all (λ b. is_known p (h b)) bs ≡ true → Some m ≡ least q (map h sl) → parts owed h p bs ≡ parts owed h p old
-    → union (parts owed h p old) ≡ m ∷ union (parts owed h (m + 1) bs)
-or_found owed h p q m bs sl old r eq es known e same =
+    → union (parts owed h p old) ≡ m ∷ union (parts owed h (n + 1) bs)
+or_found owed h p q m n bs sl old en r eq es known e same =
     let low = or_low owed h p q m bs sl r eq es known e in
-    ap union (sym same) ∙ (found_here owed h p q m bs sl r eq es known e ∙ ap (λ l. m ∷ l) (parts_later owed h p (m + 1) bs (omega (arith, low))))
+    ap union (sym same) ∙ (found_here owed h p q m bs sl r eq es known e ∙ (ap (λ l. m ∷ l) (parts_later owed h p (m + 1) bs (omega (arith, low)))
+    ∙ ap (λ k. m ∷ union (parts owed h (k + 1) bs)) (sym en)))
 
 -- from the greater of two places on
 pub or_skip : {B : Type 0} (owed : B → List ℕ) (h : B → Head) (p q from : ℕ) (bs cs : List B) → q ≡ max p from → cs ≡ bs
@@ -64,11 +65,14 @@ map_twice : {A B C : Type 0} (f : A → B) (g : B → C) (xs : List A) → map g
 map_twice f g [] = refl
 map_twice f g (a ∷ xs) = ap (λ bs. g (f a) ∷ bs) (map_twice f g xs)
 
-pub check_union : {B W : Type 0} (walk : B → Walk W) (w : W) (bs : List B) (id : ℕ) (c : Checked)
-    → AnyGives (map (λ b. (walk b).set w) bs) id c → CheckGives (union (map (λ v. v.set w) (map walk bs))) id c
-check_union walk w bs id checked.Yes h = has_union id (map (λ v. v.set w) (map walk bs)) ∙ (ap (any_has id) (map_twice walk (λ v. v.set w) bs) ∙ h)
-check_union walk w bs id checked.No h = has_union id (map (λ v. v.set w) (map walk bs)) ∙ (ap (any_has id) (map_twice walk (λ v. v.set w) bs) ∙ h)
-check_union walk w bs id checked.Unfinished h = tt
+asked : {B W : Type 0} (walk : B → Walk W) (w : W) (bs : List B) (id : ℕ) → has_id (union (map (λ v. v.set w) (map walk bs))) id ≡ any_has id (map (λ b. (walk b).set w) bs)
+asked walk w bs id = has_union id (map (λ v. v.set w) (map walk bs)) ∙ ap (any_has id) (map_twice walk (λ v. v.set w) bs)
+
+pub check_union : {B W : Type 0} (walk : B → Walk W) (w : W) (bs sl : List B) (id : ℕ) (c : Checked) → sl ≡ bs
+    → AnyGives (map (λ b. (walk b).set w) sl) id c → CheckGives (union (map (λ v. v.set w) (map walk bs))) id c
+check_union walk w bs sl id checked.Yes same h = asked walk w bs id ∙ (ap (λ xs. any_has id (map (λ b. (walk b).set w) xs)) (sym same) ∙ h)
+check_union walk w bs sl id checked.No same h = asked walk w bs id ∙ (ap (λ xs. any_has id (map (λ b. (walk b).set w) xs)) (sym same) ∙ h)
+check_union walk w bs sl id checked.Unfinished same h = tt
 
 insert_short : (x : ℕ) (ys : List ℕ) → length (insert_id x ys) ≤ length ys + 1
 insert_short x [] = omega arith
