@@ -1,21 +1,14 @@
 //! What leaves walk.
 ghost use Rattle.std.specs.Prelude.{◌≡◌, ◌+◌, ◌<◌, ◌≤◌, length, IfSome};
 ghost use Rattle.gd_prim.specs.History.{prims_of};
-ghost use Rattle.gd_postings.specs.Postings.{IsRising, ids_below, first_from};
+ghost use Rattle.gd_postings.specs.Postings.{first_from};
 ghost use Rattle.gd_leaf.specs.Leaf.{all_places};
 
+use crate::listed::Listed;
 use gd_base::id::Id;
 use gd_base::steps::Steps;
-use gd_postings::postings::Postings;
 use gd_prim::End;
 use gd_store::view::View;
-
-/// A list of places.
-#[derive(Drop)]
-pub(crate) struct Listed {
-    pub(crate) ids: Postings,
-    ghost rises: { IsRising ids.ids },
-}
 
 /// What a leaf walks.
 #[derive(Drop)]
@@ -28,19 +21,6 @@ pub(crate) enum Kind {
     Fixed(Listed),
 }
 
-impl Listed {
-    /// The first place below the view's end that is `from` or greater.
-    pub(crate) fn first<L>(&self, view: &View<'_>, from: Id, steps: &mut Steps<L>) -> Option<Id>
-        ensures first { result ≡ first_from from (ids_below (length (prims_of view.now)) self.now.ids.ids) }
-        ensures below { IfSome result (λ id. id < length (prims_of view.now)) }
-        ensures work { steps.new ≤ steps.old + 22 }
-        ensures later { steps.old ≤ steps.new }
-    {
-        let first = self.ids.first_from(from, steps)?;
-        if first < view.end() { Some(first) } else { None }
-    }
-}
-
 /// The first of all places that is `from` or greater.
 pub(crate) fn first_of_all<L>(view: &View<'_>, from: Id, steps: &mut Steps<L>) -> Option<Id>
     ensures first { result ≡ first_from from (all_places view.now) }
@@ -48,7 +28,7 @@ pub(crate) fn first_of_all<L>(view: &View<'_>, from: Id, steps: &mut Steps<L>) -
     ensures work { steps.new ≤ steps.old + 22 }
     ensures later { steps.old ≤ steps.new }
 {
-    if from >= view.end() {
+    if from.place() >= view.end().place() {
         return None;
     }
     steps.tick();

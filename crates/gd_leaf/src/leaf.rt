@@ -1,22 +1,25 @@
 //! Leaves.
-ghost use Rattle.std.specs.Prelude.{◌≡◌, ◌+◌, ◌-◌, ◌^◌, ◌<◌, ◌≤◌, length, true, false, max, IfSome, refl, List};
+ghost use Rattle.std.specs.Prelude.{◌≡◌, ◌+◌, ◌-◌, ◌^◌, ◌<◌, ◌≤◌, length, true, false, max, IfSome, IfOk, refl, List, ℕ, ◌&&◌, nat_lt};
 ghost use Rattle.gd_prim.specs.declared.Batch.{Batch};
 ghost use Rattle.gd_prim.specs.End.{places_with};
 ghost use Rattle.gd_prim.specs.History.{prims_of};
 ghost use Rattle.gd_postings.specs.Postings.{first_from};
 ghost use Rattle.gd_store.specs.Valued.{places_of_number};
-ghost use Rattle.gd_iter_core.specs.Owed.{ids_from, has_id, NextGives, IsLow};
+ghost use Rattle.gd_iter_core.specs.Owed.{ids_from, has_id, NextGives, IsLow, Reaches};
 ghost use Rattle.gd_iter_core.specs.Positions.{Moves, at_place};
 ghost use Rattle.gd_leaf.specs.Leaf.{all_places, leaf_set, leaf_walk};
 ghost use Rattle.gd_leaf.specs.Rising.{leaf_rises, leaf_owed_rises};
 
 use crate::kind::{Kind, first_of_all};
+use crate::listed::Listed;
 use gd_base::id::Id;
+use gd_base::memory::Memory;
 use gd_base::steps::Steps;
 use gd_iter_core::iter::{Iter, Simple};
 use gd_iter_core::turn::{Checked, FrozenIter, Turn};
 use gd_prim::End;
 use gd_store::view::View;
+use std::alloc::Global;
 
 /// The places below a view's end that are of some kind, in rising order. It owes those from its place on.
 #[derive(Drop)]
@@ -60,6 +63,20 @@ impl Leaf {
         }
     }
 
+    /// The places of a list, in any order, that are below the view's end. At first all of them are owed. `Memory`: there is
+    /// no room for them.
+    pub fn fixed(alloc: Global, ids: &[Id]) -> Result<Leaf, Memory>
+        ensures members { IfOk result (λ leaf. (batches : List Batch) → length (prims_of batches) ≤ 2_097_151 → (id : ℕ)
+            → has_id ((⟦<Leaf as Iter<View<'static>>>⟧.walk leaf).set batches) id ≡ (has_id ids.now id && nat_lt id (length (prims_of batches)))) }
+        ensures owed { IfOk result (λ leaf. (batches : List Batch) → ⟦<Leaf as Iter<View<'static>>>⟧.owed leaf batches ≡ (⟦<Leaf as Iter<View<'static>>>⟧.walk leaf).set batches) }
+    {
+        let list = Listed::new(alloc, ids)?;
+        Ok(Leaf {
+            kind: Kind::Fixed(list),
+            place: Id(0),
+        })
+    }
+
     /// The first member that is `from` or greater.
     fn first<L>(&self, view: &View<'_>, from: Id, steps: &mut Steps<L>) -> Option<Id>
         ensures first { result ≡ first_from from (leaf_set self.now.kind view.now) }
@@ -80,6 +97,7 @@ impl Leaf {
         ensures gives { NextGives (ids_from self.old.place (leaf_set self.old.kind view.now)) result (ids_from self.new.place (leaf_set self.new.kind view.now)) }
         ensures kind { self.new.kind ≡ self.old.kind }
         ensures low { IsLow result }
+        ensures known { (before budget now : ℕ) → Reaches before budget result now }
         ensures work { steps.new ≤ steps.old + 22 }
         ensures later { steps.old ≤ steps.new }
     {
@@ -143,12 +161,16 @@ impl<'a> Iter<View<'a>> for Leaf {
 
     fn size(&self, world: &View<'a>) -> u32 {
         match &self.kind {
+            Kind::All => world.end().place(),
+            Kind::Linkage(_, _) => world.end().place(),
+            Kind::Value(_) => world.end().place(),
             Kind::Fixed(list) => list.ids.len(),
-            Kind::All | Kind::Linkage(_, _) | Kind::Value(_) => world.end().place(),
         }
     }
 
-    fn freeze(&self) -> FrozenIter {
+    fn freeze(&self) -> FrozenIter
+        ensures { result ≡ at_place self.now.place }
+    {
         FrozenIter {
             place: self.place,
             accepted: None,

@@ -3,3 +3,4 @@
 
 mod kind;
 pub mod leaf;
+mod listed;
