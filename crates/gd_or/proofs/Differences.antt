@@ -5,7 +5,7 @@ use Rattle.std.proofs.lemmas.Bool.{cases_lt, lt-ltb, le-ltb}
 use Rattle.gd_iter_core.specs.declared.turn.Turn.{Turn}
 use Rattle.gd_iter_core.specs.Owed.{Walk, RisesFrom, ids_from, has_id, NextGives, FindGives, owed_from}
 use Rattle.gd_iter_core.specs.Positions.{Moves, at_next, at_skip}
-use Rattle.gd_iter_core.specs.Rising.{has-filter}
+use Rattle.gd_iter_core.specs.Rising.{has-filter, from_all}
 use Rattle.gd_iter_core.specs.Sieved.{kept, Produces, produces, sieved_skip, sieved_rises_from, sieved_begins}
 use Rattle.gd_or.specs.Without.{lacks, without_walk, without_owed}
 
@@ -69,3 +69,13 @@ has_less from less w id a b ha hb = has-filter (lacks less w) (from.set w) id �
 
 pub has_less_no : {W : Type 0} (from less : Walk W) (w : W) (id : ℕ) → has_id (from.set w) id ≡ false → has_id (filter (lacks less w) (from.set w)) id ≡ false
 has_less_no from less w id ha = has-filter (lacks less w) (from.set w) id ∙ rw ha refl
+
+-- a new difference
+pub new_walks : {I J W : Type 0} (from : I → Walk W) (less : J → Walk W) (w : W) (i j : I) (x y : J) → j ≡ i → y ≡ x
+    → filter (lacks (less y) w) ((from j).set w) ≡ filter (lacks (less x) w) ((from i).set w)
+new_walks from less w i j x y ei ex = rw (ei, ex) refl
+
+pub new_owes : {I J W : Type 0} (from : I → Walk W) (less : J → Walk W) (owed : I → W → List ℕ) (w : W) (i j : I) (y : J) (p : ℕ) (b : Bool)
+    → j ≡ i → p ≡ 0 → b ≡ false → owed i w ≡ (from i).set w → RisesFrom 0 ((from i).set w) → without_owed (less y) w (owed j w) p b ≡ filter (lacks (less y) w) ((from j).set w)
+new_owes from less owed w i j y p b ei start none fresh r =
+    rw (ei, start, none, fresh) (ap (filter (lacks (less y) w)) (from_all 0 0 ((from i).set w) (omega arith) r))

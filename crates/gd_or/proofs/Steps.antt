@@ -1,15 +1,16 @@
 -- What a union owes, step by step.
-use Rattle.std.proofs.Common.{◌≡◌, ◌∙◌, ◌+◌, ◌-◌, ◌^◌, ◌<◌, ◌≤◌, ℕ, true, List, [], ◌∷◌, length, Option, Some, None, refl, sym, ap, subst, arith, map, ⊎_elim}
-use Rattle.std.specs.Prelude.{max, min}
-use Rattle.std.specs.List.{list_all}
+use Rattle.std.proofs.Common.{◌≡◌, ◌∙◌, ◌+◌, ◌-◌, ◌^◌, ◌<◌, ◌≤◌, ℕ, suc, true, List, [], ◌∷◌, length, Option, Some, None, refl, sym, ap, subst, arith, map, get_or, ⊎_elim}
+use Rattle.std.specs.Prelude.{All, ◌||◌, max, min}
+use Rattle.std.specs.List.{list_all, list_any}
 use Rattle.std.proofs.lemmas.Bool.{cases_order}
 use Rattle.gd_iter_core.specs.declared.turn.Checked.{Checked}
 use Rattle.gd_iter_core.specs.declared.turn.Checked.TheVariants as checked
 use Rattle.gd_iter_core.specs.declared.turn.Turn.{Turn}
 use Rattle.gd_iter_core.specs.Owed.{Walk, RisesFrom, ids_from, has_id, NextGives, CheckGives, owed_from}
 use Rattle.gd_iter_core.specs.Positions.{Moves, at_next, at_skip}
-use Rattle.gd_iter_core.specs.Rising.{first_from, rises_from, from_max}
+use Rattle.gd_iter_core.specs.Rising.{first_from, rises_from, from_all, from_max}
 use Rattle.gd_or.specs.declared.branch.Head.{Head}
+use Rattle.gd_or.specs.declared.branch.Head.TheVariants as head
 use Rattle.gd_or.specs.Or.{insert_id, sorted_set, joined, union, any_has, or_walk, part, is_known, least, AnyGives}
 use Rattle.gd_or.specs.Union.{union_rises, insert_less, insert_same, insert_more}
 use Rattle.gd_or.proofs.Unions.{Says, heads_say, union_starts, union_empty, parts_later, from_union, has_union}
@@ -119,3 +120,41 @@ pub or_at_skip : {B W : Type 0} (walk : B → Walk W) (owed : B → List ℕ) (h
 or_at_skip walk owed h w p q from bs cs e same at =
     at_skip (or_walk (map walk bs)) (or_walk (map walk cs)) w p q from None None (union (parts owed h p bs)) (union (parts owed h q cs))
     (ap (λ xs. or_walk (map walk xs)) same) at (or_rises_from owed h q cs) (or_skip owed h p q from bs cs e same) (omega (arith, e)) (omega (arith, e))
+
+-- ---- a new union
+
+-- some member has a place
+any_member : {I : Type 0} (set : I → List ℕ) (ms : List I) (id : ℕ) → any_has id (map set ms) ≡ list_any (λ m. has_id (set m) id) ms
+any_member set [] id = refl
+any_member set (m ∷ ms) id = ap (λ b. has_id (set m) id || b) (any_member set ms id)
+
+-- it walks what some member has
+pub new_walks : {B I W : Type 0} (walk : I → Walk W) (iter : B → I) (w : W) (bs : List B) (ms : List I) (id : ℕ) → map iter bs ≡ ms
+    → has_id (union (map (λ v. v.set w) (map (λ b. walk (iter b)) bs))) id ≡ list_any (λ m. has_id ((walk m).set w) id) ms
+new_walks walk iter w bs ms id same =
+    asked (λ b. walk (iter b)) w bs id
+    ∙ (ap (any_has id) (sym (map_twice iter (λ m. (walk m).set w) bs)) ∙ (ap (λ l. any_has id (map (λ m. (walk m).set w) l)) same ∙ any_member (λ m. (walk m).set w) ms id))
+
+parts_new : {B I W : Type 0} (walk : I → Walk W) (owed : I → W → List ℕ) (iter : B → I) (h : B → Head) (w : W) (bs : List B) (ms : List I)
+    → ((m : I) → RisesFrom 0 ((walk m).set w)) → map iter bs ≡ ms → map h bs ≡ map (λ _. head.Unknown) ms
+    → ((k : ℕ) (d : I) → k < length ms → owed (get_or ms k d) w ≡ (walk (get_or ms k d)).set w)
+    → map (λ b. part 0 (owed (iter b) w) (h b)) bs ≡ map (λ b. (walk (iter b)).set w) bs
+parts_new walk owed iter h w [] ms r same heads fresh = refl
+parts_new walk owed iter h w (b ∷ bs) [] r same heads fresh = absurd (cc same)
+parts_new {I = I} walk owed iter h w (b ∷ bs) (m ∷ ms) r same heads fresh =
+    let is : iter b ≡ m = cc same in
+    let unknown : h b ≡ head.Unknown = cc heads in
+    let rest : map iter bs ≡ ms = cc same in
+    let heads_rest : map h bs ≡ map (λ _. head.Unknown) ms = cc heads in
+    let here : owed (iter b) w ≡ (walk (iter b)).set w = subst (λ (i : I). owed i w ≡ (walk i).set w) (sym is) (fresh 0 m (omega arith)) in
+    let first : part 0 (owed (iter b) w) (h b) ≡ (walk (iter b)).set w = rw (unknown, here) (from_all 0 0 ((walk (iter b)).set w) (omega arith) (r (iter b))) in
+    ap (λ l. l ∷ map (λ b. part 0 (owed (iter b) w) (h b)) bs) first
+    ∙ ap (λ ls. (walk (iter b)).set w ∷ ls) (parts_new walk owed iter h w bs ms r rest heads_rest (λ k d there. fresh (suc k) d (omega (arith, there))))
+
+-- and owes all of it
+pub new_owes : {B I W : Type 0} (walk : I → Walk W) (owed : I → W → List ℕ) (iter : B → I) (h : B → Head) (w : W) (bs : List B) (ms : List I) (p : ℕ)
+    → ((m : I) → RisesFrom 0 ((walk m).set w)) → map iter bs ≡ ms → map h bs ≡ map (λ _. head.Unknown) ms → p ≡ 0
+    → All (λ m. owed m w ≡ (walk m).set w) ms
+    → union (map (λ b. part p (owed (iter b) w) (h b)) bs) ≡ union (map (λ v. v.set w) (map (λ b. walk (iter b)) bs))
+new_owes walk owed iter h w bs ms p r same heads start fresh =
+    rw start (ap union (parts_new walk owed iter h w bs ms r same heads fresh ∙ sym (map_twice (λ b. walk (iter b)) (λ v. v.set w) bs)))
