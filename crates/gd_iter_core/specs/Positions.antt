@@ -1,5 +1,5 @@
 -- What is owed stays what the position says.
-use Rattle.std.proofs.Common.{◌≡◌, ◌∙◌, ◌+◌, ◌<◌, ◌≤◌, ℕ, Bool, List, [], ◌∷◌, ◌++◌, Option, Some, None, refl, sym, ap, subst, arith}
+use Rattle.std.proofs.Common.{◌≡◌, ◌∙◌, ◌+◌, ◌<◌, ◌≤◌, ℕ, List, ◌++◌, Option, Some, None, sym, ap, arith}
 use Rattle.gd_iter_core.specs.declared.turn.Turn.{Turn}
 use Rattle.gd_iter_core.specs.declared.turn.Turn.TheVariants as turn
 use Rattle.gd_iter_core.specs.declared.turn.FrozenIter.{FrozenIter}

@@ -98,10 +98,6 @@ length-ids_from p (x ∷ xs) =
     (λ (more : p ≤ x). omega (arith, rest, ap length (from_yes p x xs more)))
     (cases_lt x p)
 
--- behind the first
-pub from_behind : (p x : ℕ) (xs : List ℕ) → x < p → ids_from p (x ∷ xs) ≡ ids_from p xs
-from_behind p x xs h = from_no p x xs h
-
 -- what passes a test and is in the list
 pub has-filter : (t : ℕ → Bool) (ids : List ℕ) (id : ℕ) → has_id (filter t ids) id ≡ (has_id ids id && t id)
 has-filter t [] id = refl
@@ -168,14 +164,6 @@ front_split p f (x ∷ xs) r = ⊎_elim
     ∙ rw (test, none) (sym (from_yes (p + 1) x xs (omega (arith, more)) ∙ ap (λ l. x ∷ l) (from_all (p + 1) (x + 1) xs (omega (arith, more)) r.1)))))
     apart)
     (cases_order x p)
-
--- a list that has nothing from a place on
-pub none_from : (p : ℕ) (ids : List ℕ) → ((id : ℕ) → p ≤ id → has_id ids id ≡ false) → ids_from p ids ≡ []
-none_from p [] none = refl
-none_from p (x ∷ xs) none = ⊎_elim
-    (λ (less : x < p). from_no p x xs less ∙ none_from p xs (λ id h. (or_parts (x == id) (has_id xs id) (none id h)).1))
-    (λ (more : p ≤ x). absurd (false≢true (sym ((or_parts (x == x) (has_id xs x) (none x more)).0) ∙ eq_refl x)))
-    (cases_lt x p)
 
 -- the first of the part from a place on says whether the list has that place
 pub has_first : (p x f : ℕ) (ids xs : List ℕ) → RisesFrom f ids → ids_from p ids ≡ x ∷ xs → has_id ids p ≡ (x == p)

@@ -111,5 +111,4 @@ pub fn owes_alike<W, I: Iter<W>>(iter: &I, world: &W, later: &W)
     ensures set { (I.walk iter.now).set later.now ≡ (I.walk iter.now).set world.now }
     ensures bound { (I.walk iter.now).bound later.now ≡ (I.walk iter.now).bound world.now }
     ensures owed { I.owed iter.now later.now ≡ I.owed iter.now world.now }
-{
-}
+{}

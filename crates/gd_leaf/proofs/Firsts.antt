@@ -1,12 +1,10 @@
 -- The first place of a rising list from one on.
-use Rattle.std.proofs.Common.{◌≡◌, ◌∙◌, ◌+◌, ◌<◌, ◌≤◌, ℕ, zero, suc, Bool, true, false, List, [], ◌∷◌, refl, sym, ap, arith, ⊎_elim}
-use Rattle.std.specs.Prelude.{Option, Some, None, nat_lt, ◌==◌, filter}
+use Rattle.std.proofs.Common.{◌≡◌, ◌∙◌, ◌+◌, ◌<◌, ◌≤◌, ℕ, zero, suc, false, List, [], ◌∷◌, refl, sym, ap, arith, ⊎_elim}
+use Rattle.std.specs.Prelude.{Some, None, nat_lt, ◌==◌}
 use Rattle.std.specs.List.{range_with_len}
-use Rattle.std.proofs.lemmas.Bool.{cases_lt, lt-ltb, le-ltb, eq-eqb}
-use Rattle.gd_postings.specs.Postings.{IsRising, ids_below, first_from}
-use Rattle.gd_iter_core.specs.declared.turn.Turn.{Turn}
-use Rattle.gd_iter_core.specs.declared.turn.Turn.TheVariants as turn
-use Rattle.gd_iter_core.specs.Owed.{RisesFrom, ids_from, has_id, NextGives}
+use Rattle.std.proofs.lemmas.Bool.{cases_lt, lt-ltb, le-ltb}
+use Rattle.gd_postings.specs.Postings.{ids_below, first_from}
+use Rattle.gd_iter_core.specs.Owed.{RisesFrom, ids_from, has_id}
 use Rattle.gd_iter_core.specs.Rising.{from_yes, from_no, from_all, filter_yes, filter_no, has_first, has_none}
 
 first_low : (p y : ℕ) (ys : List ℕ) → y < p → first_from p (y ∷ ys) ≡ first_from p ys

@@ -1,5 +1,5 @@
 -- What a difference owes, step by step.
-use Rattle.std.proofs.Common.{◌≡◌, ◌∙◌, ◌+◌, ◌<◌, ◌≤◌, ℕ, Bool, true, false, List, Option, Some, None, refl, sym, ap, arith, ⊎_elim}
+use Rattle.std.proofs.Common.{◌≡◌, ◌∙◌, ◌<◌, ◌≤◌, ℕ, Bool, true, false, List, Option, Some, None, refl, ap, arith, ⊎_elim}
 use Rattle.std.specs.Prelude.{max, nat_lt, if◌then◌else◌, not, ◌&&◌, filter}
 use Rattle.std.proofs.lemmas.Bool.{cases_lt, lt-ltb, le-ltb}
 use Rattle.gd_iter_core.specs.declared.turn.Turn.{Turn}

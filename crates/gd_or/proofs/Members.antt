@@ -1,6 +1,6 @@
 -- Members that are gone over one after another.
 use Rattle.std.proofs.Common.{◌≡◌, ◌∙◌, ◌+◌, ◌<◌, ◌≤◌, ℕ, zero, suc, Bool, true, false, List, [], ◌∷◌, length, refl, sym, ap, arith, map, take, drop, get_or, add-one}
-use Rattle.std.specs.Prelude.{◌&&◌, ◌||◌, slice_set}
+use Rattle.std.specs.Prelude.{◌||◌, slice_set}
 use Rattle.std.specs.List.{list_all}
 use Rattle.std.proofs.lemmas.Bool.{and_parts, and_from}
 use Rattle.gd_iter_core.specs.Owed.{has_id, ids_from}

@@ -1,6 +1,6 @@
 -- The laws of unions.
-use Rattle.std.proofs.Common.{◌≡◌, ◌∙◌, ◌+◌, ◌<◌, ◌≤◌, ℕ, Bool, true, false, List, [], ◌∷◌, ◌++◌, length, Option, Some, None, refl, sym, ap, subst, arith, map, ◌⊎◌, ⊎_elim}
-use Rattle.std.specs.Prelude.{nat_lt, nat_le, ◌==◌, ◌||◌, min}
+use Rattle.std.proofs.Common.{◌≡◌, ◌∙◌, ◌+◌, ◌<◌, ◌≤◌, ℕ, Bool, true, false, List, [], ◌∷◌, ◌++◌, Option, Some, None, refl, sym, ap, subst, arith, map, ◌⊎◌, ⊎_elim}
+use Rattle.std.specs.Prelude.{nat_le, ◌==◌, ◌||◌, min}
 use Rattle.std.specs.List.{list_all}
 use Rattle.std.proofs.lemmas.Bool.{cases_lt, cases_order, le-leb, lt-leb, eq-eqb, leb-false, and_parts}
 use Rattle.std.proofs.Math.Bool.{or-true}
@@ -94,9 +94,6 @@ part_found p id owed new h e r gives =
     let all : RisesFrom p (id ∷ new) = subst (RisesFrom p) gives (rises_from p 0 owed r) in
     let low : p ≤ id = all.0 in
     part_high p id new low ∙ (ap (λ l. id ∷ l) (from_all (id + 1) (id + 1) new (omega arith) all.1) ∙ (sym gives ∙ sym (not_known p owed h e)))
-
-pub part_done : (p : ℕ) (owed : List ℕ) (h : Head) → is_known p h ≡ false → ids_from p owed ≡ [] → [] ≡ part p owed h
-part_done p owed h e gives = sym gives ∙ sym (not_known p owed h e)
 
 pub part_unfinished : (p q : ℕ) (owed new : List ℕ) (h : Head) → is_known p h ≡ false → q ≤ p → new ≡ ids_from q owed → ids_from p new ≡ part p owed h
 part_unfinished p q owed new h e low gives = ap (ids_from p) gives ∙ (from_from q p owed low ∙ sym (not_known p owed h e))
@@ -237,4 +234,3 @@ parts_later {B = B} owed h p q bs up = from_union q (map (λ b. part p (owed b) 
     maps : (bs : List B) → map (ids_from q) (map (λ b. part p (owed b) (h b)) bs) ≡ map (λ b. part q (owed b) (h b)) bs
     maps [] = refl
     maps (b ∷ bs) = ap (λ l. l ∷ map (ids_from q) (map (λ b. part p (owed b) (h b)) bs)) (part_later p q (owed b) (h b) up) ∙ ap (λ ls. part q (owed b) (h b) ∷ ls) (maps bs)
-

@@ -32,4 +32,3 @@ sorted_rises (x ∷ xs) = insert_rises 0 x (sorted_set xs) (omega arith) (sorted
 
 pub union_rises : (ls : List (List ℕ)) → RisesFrom 0 (union ls)
 union_rises ls = sorted_rises (joined ls)
-

@@ -1,5 +1,5 @@
 -- What a difference walks and owes, by what its two sides walk and what the first one owes.
-use Rattle.std.specs.Prelude.{ℕ, ◌+◌, List, length, Bool, false, not, Option, Some, None, filter, if◌then◌else◌}
+use Rattle.std.specs.Prelude.{ℕ, ◌+◌, List, length, Bool, false, not, Some, None, filter, if◌then◌else◌}
 use Rattle.gd_iter_core.specs.Owed.{Walk, has_id}
 use Rattle.gd_iter_core.specs.Sieved.{sieved}
 

@@ -70,13 +70,7 @@ impl<I> Branch<I> {
     }
 
     /// Has the iterator give its first place from one on, where that is not known. False: the budget was spent first.
-    fn settle<W, L>(
-        &mut self,
-        world: &W,
-        place: Id,
-        budget: Budget,
-        steps: &mut Steps<L>,
-    ) -> bool
+    fn settle<W, L>(&mut self, world: &W, place: Id, budget: Budget, steps: &mut Steps<L>) -> bool
     where
         I: Simple<W>,
         requires begun { budget.before ≤ steps.old }

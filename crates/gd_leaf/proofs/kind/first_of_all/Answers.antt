@@ -1,4 +1,4 @@
-use Rattle.std.proofs.Common.{◌+◌, ◌<◌, ◌≤◌, length, sym, arith, rules}
+use Rattle.std.proofs.Common.{◌<◌, ◌≤◌, length, sym, arith, rules}
 use Rattle.gd_prim.specs.History.{prims_of}
 use Rattle.gd_leaf.proofs.Firsts.{first_all, none_all}
 use Rattle.gd_leaf.proofs.kind.first_of_all.Goals as goal

@@ -1,5 +1,5 @@
 use Rattle.std.proofs.Common.{◌<◌, ◌≤◌, length, get_or, refl, rules}
-use Rattle.gd_leaf.proofs.Distinct.{rest_is, again, beyond, takes}
+use Rattle.gd_leaf.proofs.Distinct.{rest_is, beyond}
 use Rattle.gd_leaf.proofs.listed.distinct.Goals as goal
 
 pub loop-place-preserved-then-place-ge-PLACES : goal.loop-place-preserved-then-place-ge-PLACES

@@ -1,4 +1,4 @@
-use Rattle.std.proofs.Common.{◌≡◌, ◌∙◌, ◌<◌, ◌≤◌, ◌+◌, ap, sym, length, arith, rules}
+use Rattle.std.proofs.Common.{◌∙◌, ◌<◌, ◌≤◌, ap, sym, length, arith, rules}
 use Rattle.gd_iter_core.specs.Owed.{Walk, ids_from}
 use Rattle.gd_or.specs.Or.{part}
 use Rattle.gd_or.proofs.Members.{map-set, front-set, take_all, part_restarted}
