@@ -30,14 +30,20 @@ fn sum_of<'a, I: Iter<View<'a>>>(iter: &mut I, view: &View<'a>, calls: u32) -> u
 
 /// The links of type key to the root that are none of a list.
 fn keys_of_the_root(alloc: Global) -> Result<Without<And<Leaf>, Leaf>, Memory> {
-    let members = vec![in alloc; Leaf::linkage(End::Typ, Id(15)), Leaf::linkage(End::Right, Id(0))]?;
+    let members = vec![in alloc;
+        Leaf::linkage(End::Typ, Id(15)),
+        Leaf::linkage(End::Right, Id(0)),
+    ]?;
     let less = Leaf::fixed(alloc, &[Id(19), Id(19)])?;
     Ok(Without::new(And::new(members), less))
 }
 
 /// The links from either of two nodes.
 fn links_of_two(alloc: Global) -> Result<Or<Leaf>, Memory> {
-    let members = vec![in alloc; Leaf::linkage(End::Left, Id(1)), Leaf::linkage(End::Left, Id(2))]?;
+    let members = vec![in alloc;
+        Leaf::linkage(End::Left, Id(1)),
+        Leaf::linkage(End::Left, Id(2)),
+    ]?;
     Or::new(alloc, members)
 }
 
