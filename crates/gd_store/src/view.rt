@@ -213,13 +213,7 @@ impl<'a> View<'a> {
 
     /// The first place that is `from` or greater whose primitive has this node at the end, if there is one. It takes no
     /// memory.
-    pub fn first_link<L>(
-        &self,
-        end: End,
-        node: Id,
-        from: Id,
-        steps: &mut Steps<L>,
-    ) -> Option<Id>
+    pub fn first_link<L>(&self, end: End, node: Id, from: Id, steps: &mut Steps<L>) -> Option<Id>
         ensures first { result ≡ first_from from (places_with end node (prims_of self.now)) }
         ensures below { IfSome result (λ place. place < length (prims_of self.now)) }
         ensures work { steps.new ≤ steps.old + 22 }
