@@ -42,8 +42,10 @@ def lines_of(name):
 
 
 def shown(found):
-    pairs = zip(lines_of(found.group(2) + ".in"), lines_of(found.group(2) + ".out"), strict=True)
-    return found.group(1) + "\n" + "".join("    %s\n    %s\n" % (request(asked), answer(said)) for asked, said in pairs)
+    asked, said = lines_of(found.group(2) + ".in"), lines_of(found.group(2) + ".out")
+    if len(asked) != len(said):
+        sys.exit("shown.py: examples/%s has %d lines and %d replies" % (found.group(2), len(asked), len(said)))
+    return found.group(1) + "\n" + "".join("    %s\n    %s\n" % (request(line), answer(reply)) for line, reply in zip(asked, said))
 
 
 def main():

@@ -7,7 +7,7 @@ pub use Rattle.gd_lists.specs.Entries.{is_under, is_of, with_entry, without_entr
 -- the lists by namespace and key, and those by object
 pub record KeysValue : Type 0 where
   pub by_key : List (ℕ × List (List ℕ × Places))
-  pub by_object : List (ℕ × Places)
+  pub by_object : List Places
 
 -- the list of a namespace and a key, empty where nothing was entered
 abbrev pub key_list : KeysValue → ℕ → List ℕ → Places

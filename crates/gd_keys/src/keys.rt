@@ -23,15 +23,14 @@ pub struct Keys {
 }
 
 impl Model for Keys {
-    ghost use Rattle.std.specs.Prelude.{◌≡◌};
-    ghost use Rattle.gd_lists.specs.Lists.{nothing};
+    ghost use Rattle.std.specs.Prelude.{◌≡◌, []};
     ghost use Rattle.gd_keys.specs.Keys.{KeysValue};
 
     ghost Value = { KeysValue };
 
     ghost view = { λ keys. record { by_key = keys.by_key; by_object = keys.by_object } };
 
-    ghost invariant = { λ keys. keys.empty ≡ nothing };
+    ghost invariant = { λ keys. keys.empty.ids ≡ [] };
 }
 
 impl Keys {
@@ -49,7 +48,7 @@ impl Keys {
 
     /// The list of a namespace and a key.
     pub fn by_key(&self, namespace: Id, key: &Text) -> &Postings
-        ensures { result.now ≡ key_list self.now namespace key.now }
+        ensures { result.now.ids ≡ (key_list self.now namespace key.now).ids }
     {
         match self.by_key.list(namespace, key) {
             Some(list) => list,
@@ -59,7 +58,7 @@ impl Keys {
 
     /// The list of an object.
     pub fn by_object(&self, object: Id) -> &Postings
-        ensures { result.now ≡ object_list self.now object }
+        ensures { result.now.ids ≡ (object_list self.now object).ids }
     {
         match self.by_object.list(object) {
             Some(list) => list,

@@ -10,10 +10,10 @@ use Rattle.gd_lists.specs.Lists.{id_list}
 
 -- the lists of each end
 pub record LinkageValue : Type 0 where
-  pub left : List (ℕ × Places)
-  pub right : List (ℕ × Places)
-  pub typ : List (ℕ × Places)
-  pub scope : List (ℕ × Places)
+  pub left : List Places
+  pub right : List Places
+  pub typ : List Places
+  pub scope : List Places
 
 -- the list of a node at an end, empty where nothing was entered
 abbrev pub list_of : End → ℕ → LinkageValue → Places

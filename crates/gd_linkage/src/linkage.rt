@@ -17,7 +17,7 @@ use std::alloc::Global;
 use std::marker::Model;
 
 /// The places of primitives by the nodes that they name: for each end a rising list for each node. Contracts see the
-/// lists through `list_of`. A list that was never made is as an empty one without room.
+/// lists through `list_of`. A list that was never made is as an empty one.
 #[derive(Drop)]
 pub struct Linkage {
     left: NodeLists,
@@ -28,15 +28,14 @@ pub struct Linkage {
 }
 
 impl Model for Linkage {
-    ghost use Rattle.std.specs.Prelude.{◌≡◌};
-    ghost use Rattle.gd_lists.specs.Lists.{nothing};
+    ghost use Rattle.std.specs.Prelude.{◌≡◌, []};
     ghost use Rattle.gd_linkage.specs.Linkage.{LinkageValue};
 
     ghost Value = { LinkageValue };
 
     ghost view = { λ linkage. record { left = linkage.left; right = linkage.right; typ = linkage.typ; scope = linkage.scope } };
 
-    ghost invariant = { λ linkage. linkage.empty ≡ nothing };
+    ghost invariant = { λ linkage. linkage.empty.ids ≡ [] };
 }
 
 impl Linkage {
@@ -67,7 +66,7 @@ impl Linkage {
 
     /// The places that name this node at this end, in rising order.
     pub fn list(&self, end: End, node: Id) -> &Postings
-        ensures { result.now ≡ list_of end node self.now }
+        ensures { result.now.ids ≡ (list_of end node self.now).ids }
     {
         match self.lists(end).list(node) {
             Some(list) => list,

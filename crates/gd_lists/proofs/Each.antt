@@ -42,21 +42,7 @@ same_text a b is = (bytes_eq-Decides a b).0 (sym (is_eq-slice_cmp a b) ∙ is)
 text_test : (key t : List ℕ) → is_at (slice_cmp nat_cmp key) t ≡ bytes_eq t key
 text_test key t = is_eq-slice_cmp key t ∙ nat_list_eq_equiv.symm key t
 
--- lists under identities, with their room
-pub each_node : (R : Bool → Places → Places → Type 0) → ((p : Places) → R false p p) → (old new : List (ℕ × Places)) (key : ℕ) (w : Places) → Sets nat_cmp old new key w
-    → R true (id_list old key) w → (o : ℕ) → R (key == o) (id_list old o) (id_list new o)
-each_node R same old new key w sets here o =
-    subst (λ (b : Bool). R b (id_list old o) (id_list new o)) (unsigned_tied key o)
-    (at_each nat_cmp same_id (λ (found : Option Places). unwrap_or found nothing) R same old new key w sets here o)
-
 module _ (R : Bool → List ℕ → List ℕ → Type 0) (same : (ids : List ℕ) → R false ids ids) where
-  -- lists under identities
-  pub each_id : (old new : List (ℕ × Places)) (key : ℕ) (w : Places) → Sets nat_cmp old new key w → R true (id_list old key).ids w.ids
-      → (o : ℕ) → R (key == o) (id_list old o).ids (id_list new o).ids
-  each_id old new key w sets here o =
-      subst (λ (b : Bool). R b (id_list old o).ids (id_list new o).ids) (unsigned_tied key o)
-      (at_each nat_cmp same_id (λ (found : Option Places). unwrap_or found nothing) (λ (b : Bool) (p q : Places). R b p.ids q.ids) (λ p. same p.ids) old new key w sets here o)
-
   -- lists under texts
   pub each_text : (old new : List (List ℕ × Places)) (key : List ℕ) (w : Places) → Sets (slice_cmp nat_cmp) old new key w → R true (text_list old key).ids w.ids
       → (t : List ℕ) → R (bytes_eq t key) (text_list old t).ids (text_list new t).ids

@@ -42,8 +42,3 @@ above_more (x ∷ xs) last id above less (suc i) there = above_more xs last id (
 pub above_with : (test : Bool) (ids new : List ℕ) (last id : ℕ) → new ≡ with_entry test last ids → IsAbove ids id → last < id → IsAbove new id
 above_with false ids new last id is above less = subst (λ (more : List ℕ). IsAbove more id) (sym is) above
 above_with true ids new last id is above less = subst (λ (more : List ℕ). IsAbove more id) (sym is) (above_more ids last id above less)
-
--- making room lowers no room
-pub never_less : {T E : Type 0} (r : Result T E) (old new : Places) (extra : ℕ) → OnOk r (new.spare ≡ max old.spare extra) → OnErr r (new ≡ old) → old.spare ≤ new.spare
-never_less (Ok x) old new extra ok err = omega (arith, ok)
-never_less (Err e) old new extra ok err = let same : new.spare ≡ old.spare = ap (λ (p : Places). p.spare) err in omega (arith, same)

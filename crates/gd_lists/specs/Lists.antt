@@ -1,5 +1,5 @@
 -- Lists of identities under texts, under identities, and under pairs of both.
-use Rattle.std.specs.Prelude.{ℕ, List, [], unwrap_or}
+use Rattle.std.specs.Prelude.{ℕ, List, [], unwrap_or, slice_index_or}
 use Rattle.std.specs.Ordering.{nat_cmp}
 use Rattle.std.specs.Map.{lookup}
 use Rattle.std.specs.BTreeMap.{is_at}
@@ -14,9 +14,9 @@ nothing = record { ids = []; spare = 0 }
 abbrev pub text_list : List (List ℕ × Places) → List ℕ → Places
 text_list lists text = unwrap_or (lookup (is_at (slice_cmp nat_cmp text)) lists) nothing
 
--- the list under an identity
-abbrev pub id_list : List (ℕ × Places) → ℕ → Places
-id_list lists id = unwrap_or (lookup (is_at (nat_cmp id)) lists) nothing
+-- the list of an identity, in a table by identity
+abbrev pub id_list : List Places → ℕ → Places
+id_list lists id = slice_index_or lists id nothing
 
 -- the list under an identity and a text
 abbrev pub pair_list : List (ℕ × List (List ℕ × Places)) → ℕ → List ℕ → Places

@@ -9,23 +9,35 @@ use gd_base::id::Id;
 use gd_base::memory::Memory;
 use gd_postings::postings::Postings;
 use std::alloc::Global;
-use std::collections::BTreeMap;
 use std::marker::Model;
 
-/// A list for each node. Contracts see the entries, in the order of the nodes.
+/// A list for each node up to one: a table by node, so that a look-up is one step. Contracts see the lists, in the order of
+/// the nodes.
 #[derive(Drop)]
 pub struct NodeLists {
-    lists: BTreeMap<Id, Postings>,
+    lists: Vec<Postings>,
     alloc: Global,
 }
 
 impl Model for NodeLists {
-    ghost use Rattle.std.specs.Prelude.{ℕ, List};
+    ghost use Rattle.std.specs.Prelude.{List};
     ghost use Rattle.gd_postings.specs.Postings.{Places};
 
-    ghost Value = { List (ℕ × Places) };
+    ghost Value = { List Places };
 
-    ghost view = { λ nodes. nodes.lists.entries };
+    ghost view = { λ nodes. nodes.lists.items };
+}
+
+/// Adds empty lists, until there are so many.
+fn lengthen(lists: &mut Vec<Postings>, alloc: Global, len: usize) -> Result<(), Memory>
+    ensures there { OnOk result (len ≤ length lists.new.items) }
+    ensures same { (n : ℕ) → (id_list lists.new.items n).ids ≡ (id_list lists.old.items n).ids }
+    ensures kept { (n : ℕ) → (id_list lists.old.items n).spare ≤ (id_list lists.new.items n).spare }
+{
+    for _place in lists.len()..len {
+        lists.push(Postings::new(alloc))?;
+    }
+    Ok(())
 }
 
 impl NodeLists {
@@ -34,7 +46,7 @@ impl NodeLists {
         ensures { result ≡ [] }
     {
         NodeLists {
-            lists: BTreeMap::new(alloc),
+            lists: Vec::new(alloc),
             alloc,
         }
     }
@@ -43,7 +55,7 @@ impl NodeLists {
     pub fn list(&self, node: Id) -> Option<&Postings>
         ensures { unwrap_or (option_copied result) nothing ≡ id_list self.now node }
     {
-        self.lists.get(&node)
+        self.lists.get(node.place() as usize)
     }
 
     /// Makes room for one identity more in the list of a node. It lowers the room of no list.
@@ -52,15 +64,9 @@ impl NodeLists {
         ensures same { (n : ℕ) → (id_list self.new n).ids ≡ (id_list self.old n).ids }
         ensures kept { (n : ℕ) → (id_list self.old n).spare ≤ (id_list self.new n).spare }
     {
-        match self.lists.get_mut(&node) {
-            Some(list) => list.reserve(1),
-            None => {
-                let mut list = Postings::new(self.alloc);
-                list.reserve(1)?;
-                self.lists.insert(node, list)?;
-                Ok(())
-            }
-        }
+        let place = node.place() as usize;
+        lengthen(&mut self.lists, self.alloc, place + 1)?;
+        self.lists[place].make_room()
     }
 
     /// Adds an identity at the end of the list of a node, where room was made. It takes no memory.
@@ -71,10 +77,7 @@ impl NodeLists {
         ensures ids { (n : ℕ) → (id_list self.new n).ids ≡ with_entry (node == n) id (id_list self.old n).ids }
         ensures spare { (n : ℕ) → (id_list self.new n).spare ≡ spare_less (node == n) (id_list self.old n).spare }
     {
-        match self.lists.get_mut(&node) {
-            Some(list) => list.push(id),
-            None => unreachable!(),
-        }
+        self.lists[node.place() as usize].push(id);
     }
 
     /// Takes the last identity of the list of a node away. It takes no memory.
@@ -82,12 +85,7 @@ impl NodeLists {
         requires { 0 < length (id_list self.old node).ids }
         ensures { (n : ℕ) → (id_list self.new n).ids ≡ without_entry (node == n) (id_list self.old n).ids }
     {
-        match self.lists.get_mut(&node) {
-            Some(list) => {
-                let _last = list.pop_last();
-            }
-            None => unreachable!(),
-        }
+        let _last = self.lists[node.place() as usize].pop_last();
     }
 
     /// Makes room in the list of a node, where it is there. It lowers the room of no list.

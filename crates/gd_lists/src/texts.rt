@@ -54,10 +54,10 @@ impl TextLists {
         ensures same { (t : List ℕ) → (text_list self.new t).ids ≡ (text_list self.old t).ids }
     {
         match self.lists.get_mut(text) {
-            Some(list) => list.reserve(1),
+            Some(list) => list.make_room(),
             None => {
                 let mut list = Postings::new(self.alloc);
-                list.reserve(1)?;
+                list.make_room()?;
                 self.lists.insert(text.copy()?, list)?;
                 Ok(())
             }

@@ -41,10 +41,20 @@ fn all_among(members: &[(JsonText, Json)], a: &str, b: &str, c: &str, d: &str) -
         .all(|member| is_among(member.0.as_str(), a, b, c, d))
 }
 
+/// Whether the name is one of these two.
+pub fn is_either(name: &str, a: &str, b: &str) -> bool
+    ensures { result ≡ (bytes_eq name.now a.now || bytes_eq name.now b.now) }
+{
+    name == a || name == b
+}
+
 fn is_among(name: &str, a: &str, b: &str, c: &str, d: &str) -> bool
     ensures { result ≡ (bytes_eq name.now a.now || (bytes_eq name.now b.now || (bytes_eq name.now c.now || bytes_eq name.now d.now))) }
 {
-    name == a || name == b || name == c || name == d
+    if is_either(name, a, b) {
+        return true;
+    }
+    is_either(name, c, d)
 }
 
 /// Whether there are no members but of these names.

@@ -7,6 +7,7 @@ ghost use Rattle.gd_json.specs.View.{view};
 ghost use Rattle.gd_runs.specs.Request.{session_of};
 ghost use Rattle.gd_mql.specs.Line.{line_session};
 
+use crate::object::is_either;
 use gd_json::value::{Json, JsonText};
 
 /// The number of sessions, which are counted from 0.
@@ -16,7 +17,9 @@ pub const SESSIONS: u32 = 64;
 fn all_named(members: &[(JsonText, Json)], first: &str, second: &str) -> bool
     ensures { result ≡ list_all (λ member. bytes_eq member.0 first.now || bytes_eq member.0 second.now) members.now }
 {
-    members.iter().all(|member| member.0.as_str() == first || member.0.as_str() == second)
+    members
+        .iter()
+        .all(|member| is_either(member.0.as_str(), first, second))
 }
 
 /// Whether the value is an object that has no members but of these two names.

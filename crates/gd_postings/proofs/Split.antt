@@ -4,7 +4,7 @@ use Rattle.std.specs.Prelude.{nat_lt, slice_index}
 use Rattle.std.proofs.Math.Nat.{pow-succ'}
 use Rattle.std.proofs.lemmas.Bool.{lt-ltb, le-ltb, cases_lt}
 use Rattle.std.proofs.lemmas.Grind.{common_steps}
-use Rattle.gd_postings.specs.Postings.{IsRising, IsAbove, IsSplit, ids_below, first_from, Places}
+use Rattle.gd_postings.specs.Postings.{IsRising, IsAbove, IsSplit, ids_below, first_from}
 
 pub halved : (i w v : ℕ) → i < 21 → w < 2 ^ (21 - i) → v + v ≤ w → v < 2 ^ (21 - (i + 1))
 halved i w v small under half =
@@ -112,14 +112,9 @@ rising_more ids id more rising above is = subst IsRising (sym is) pushed
     pushed : IsRising (ids ++ id ∷ [])
     pushed i j before there = ⊎_elim (λ less. within i j before less) (λ end. last i j before (omega (arith, end, there, length-append ids (id ∷ [])))) (cases_lt j (length ids))
 
--- the same of what contracts see and of what is stored
-pub above_here : (p q : Places) (id : ℕ) → p ≡ q → IsAbove q.ids id → IsAbove p.ids id
-above_here p q id same above = rw same above
-
--- and so does the bound on its length
-pub still_few : (ids more : List ℕ) (id : ℕ) → length ids ≤ id → id < 2_097_151 → more ≡ ids ++ id ∷ [] → length more ≤ 2_097_151
-still_few ids more id low small longer = let count = ap length longer ∙ length-append ids (id ∷ []) in omega (arith, low, small, count)
-
-pub is_count_here : (seen : List ℕ) (p q : Places) (end i : ℕ) → seen ≡ p.ids → p ≡ q → IsSplit seen end i i → i ≡ length (ids_below end q.ids)
-is_count_here seen p q end i stored same split =
-    is_count seen end i split ∙ ap (λ (ids : List ℕ). length (ids_below end ids)) (stored ∙ ap (λ (x : Places). x.ids) same)
+-- the bound on the length of a list stays with an identity above all of it
+pub still_few : (ids more : List ℕ) (id : ℕ) → IsRising ids → IsAbove ids id → id < 2_097_151 → more ≡ ids ++ id ∷ [] → length more ≤ 2_097_151
+still_few ids more id rising above small longer =
+    let low = few ids id rising above in
+    let count = ap length longer ∙ length-append ids (id ∷ []) in
+    omega (arith, low, small, count)

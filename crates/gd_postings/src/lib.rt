@@ -1,4 +1,6 @@
 //! Posting lists.
 #![tactic(auto)]
 
+mod ids;
+mod many;
 pub mod postings;

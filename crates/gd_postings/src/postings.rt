@@ -1,65 +1,65 @@
 //! Posting lists.
-ghost use Rattle.std.specs.Prelude.{◌≡◌, ◌+◌, ◌-◌, ◌^◌, ◌<◌, ◌≤◌, ◌↔◌, [], ◌∷◌, ◌++◌, Some, length, slice_get, min, max, OnOk, OnErr, IfSome, IfNone, IsTrue};
+ghost use Rattle.std.specs.Prelude.{◌≡◌, ◌+◌, ◌-◌, ◌^◌, ◌<◌, ◌≤◌, ◌↔◌, [], ◌∷◌, ◌++◌, Some, length, slice_get, min, OnOk, OnErr, IfSome, IfNone, IsTrue};
 ghost use Rattle.std.specs.List.{Contains};
 ghost use Rattle.gd_base.specs.Counts.{Rose};
 ghost use Rattle.gd_postings.specs.Postings.{Places, IsRising, IsAbove, ids_below, IsSplit};
 ghost use Rattle.gd_postings.specs.Postings as rising;
 
+use crate::ids::Ids;
 use gd_base::id::Id;
 use gd_base::memory::Memory;
 use gd_base::steps::Steps;
 use std::alloc::Global;
 use std::marker::Model;
+use std::mem::size_of;
 
-/// A posting list: identities, each greater than the one before, at most 2,097,151 of them. Contracts see the list,
-/// and `spare`, the number of identities that may be pushed without memory.
+/// A posting list: identities, each greater than the one before, at most 2,097,151 of them. It takes 16 bytes, and where
+/// it has more than three identities an allocation. Contracts see the list, and `spare`, the number of identities that may
+/// be pushed without memory.
 #[derive(Debug, Drop)]
 pub struct Postings {
-    ids: Vec<Id>,
-    spare: usize,
+    ids: Ids,
+    alloc: Global,
 }
 
+const _: () = prove!(size_of::<Postings>() == 16);
+
 impl Model for Postings {
-    ghost use Rattle.std.specs.Prelude.{ℕ, ◌+◌, ◌≤◌, List, length, vec_len, vec_capacity};
+    ghost use Rattle.std.specs.Prelude.{◌≤◌, length};
+    ghost use Rattle.gd_postings.specs.Ids.{ids_of, room_of};
     ghost use Rattle.gd_postings.specs.Postings.{Places, IsRising};
 
     ghost Value = { Places };
 
-    ghost view = { λ postings. record { ids = postings.ids.items; spare = postings.spare } };
+    ghost view = { λ postings. record { ids = ids_of postings.ids; spare = room_of postings.ids } };
 
-    ghost invariant = { λ postings. (vec_len postings.ids + postings.spare ≤ vec_capacity postings.ids) × (length postings.ids.items ≤ 2_097_151) × IsRising postings.ids.items };
+    ghost invariant = { λ postings. (length (ids_of postings.ids) ≤ 2_097_151) × IsRising (ids_of postings.ids) };
 }
 
 impl Postings {
-    /// No identities, and no room for any.
+    /// No identities. It takes no memory.
     pub fn new(alloc: Global) -> Postings
-        ensures ids { result.ids ≡ [] }
-        ensures spare { result.spare ≡ 0 }
+        ensures { result.ids ≡ [] }
     {
         Postings {
-            ids: Vec::new(alloc),
-            spare: 0,
+            ids: Ids::Empty,
+            alloc,
         }
     }
 
-    /// Makes room for `extra` identities more, so that `spare` is at least `extra`. It never lowers `spare`. `Memory`
-    /// leaves all as it was, and comes only where there was less room.
-    pub fn reserve(&mut self, extra: u32) -> Result<(), Memory>
+    /// Makes room for one identity more. It never lowers `spare`. `Memory` leaves all as it was, and comes only where there
+    /// was no room.
+    pub fn make_room(&mut self) -> Result<(), Memory>
         ensures ids { self.new.ids ≡ self.old.ids }
-        ensures ok { OnOk result (self.new.spare ≡ max self.old.spare extra) }
+        ensures ok { OnOk result (0 < self.new.spare) }
+        ensures kept { self.old.spare ≤ self.new.spare }
         ensures err { OnErr result (self.new ≡ self.old) }
-        ensures short { OnErr result (self.old.spare < extra) }
+        ensures short { OnErr result (self.old.spare ≡ 0) }
     {
-        let extra = extra as usize;
-        if extra <= self.spare {
-            return Ok(());
-        }
-        self.ids.reserve(extra)?;
-        self.spare = extra;
-        Ok(())
+        self.ids.make_room(self.alloc)
     }
 
-    /// Adds an identity at the end, in a reserved place. It takes no memory.
+    /// Adds an identity at the end, where there is room. It takes no memory.
     pub fn push(&mut self, id: Id)
         requires room { 0 < self.old.spare }
         requires small { id < 2_097_151 }
@@ -67,10 +67,7 @@ impl Postings {
         ensures ids { self.new.ids ≡ self.old.ids ++ id ∷ [] }
         ensures spare { self.new.spare + 1 ≡ self.old.spare }
     {
-        match self.ids.push(id) {
-            Ok(()) => self.spare -= 1,
-            Err(_) => unreachable!(),
-        }
+        self.ids.push(id);
     }
 
     /// Takes the last identity away, and gives it. Its place is reserved again. None exactly where the list is empty,
@@ -79,13 +76,16 @@ impl Postings {
         ensures some { IfSome result (λ id. (self.old.ids ≡ self.new.ids ++ id ∷ []) × (self.new.spare ≡ self.old.spare + 1)) }
         ensures none { IfNone result ((self.old.ids ≡ []) × (self.new ≡ self.old)) }
     {
-        match self.ids.pop() {
-            Some(id) => {
-                self.spare += 1;
-                Some(id)
-            }
-            None => None,
-        }
+        self.ids.pop()
+    }
+
+    /// The identities.
+    fn as_slice(&self) -> &[Id]
+        ensures ids { result.now ≡ self.now.ids }
+        ensures few { length result.now ≤ 2_097_151 }
+        ensures rising { IsRising result.now }
+    {
+        self.ids.as_slice()
     }
 
     /// How many identities there are. The list is rising, and has at most 2,097,151.
@@ -94,7 +94,7 @@ impl Postings {
         ensures few { length self.now.ids ≤ 2_097_151 }
         ensures rising { IsRising self.now.ids }
     {
-        self.ids.len() as u32
+        self.as_slice().len() as u32
     }
 
     /// The identity at place `k` of the list, counted from 0, in one step.
@@ -105,7 +105,7 @@ impl Postings {
         ensures later { steps.old ≤ steps.new }
     {
         steps.tick();
-        self.ids[k as usize]
+        self.as_slice()[k as usize]
     }
 
     /// The identities that are less than `end`, in rising order. They are found in at most 22 steps, and at least one where
@@ -117,8 +117,9 @@ impl Postings {
         ensures later { steps.old ≤ steps.new }
         ensures counted { 0 < length self.now.ids → Rose steps.old steps.new }
     {
-        let place = search(&self.ids, end, steps);
-        &self.ids[..place]
+        let ids = self.as_slice();
+        let place = search(ids, end, steps);
+        &ids[..place]
     }
 
     /// How many identities are less than `end`, in at most 22 steps, and at least one where the list is not empty.
@@ -128,7 +129,7 @@ impl Postings {
         ensures later { steps.old ≤ steps.new }
         ensures counted { 0 < length self.now.ids → Rose steps.old steps.new }
     {
-        search(&self.ids, end, steps) as u32
+        search(self.as_slice(), end, steps) as u32
     }
 
     /// The least identity that is `id` or greater, in at most 22 steps, and at least one where the list is not empty.
@@ -140,12 +141,13 @@ impl Postings {
         ensures later { steps.old ≤ steps.new }
         ensures counted { 0 < length self.now.ids → Rose steps.old steps.new }
     {
-        let place = search(&self.ids, id, steps);
-        if place == self.ids.len() {
+        let ids = self.as_slice();
+        let place = search(ids, id, steps);
+        if place == ids.len() {
             return None;
         }
         steps.tick();
-        Some(self.ids[place])
+        Some(ids[place])
     }
 
     /// Whether the identity is in the list, in at most 22 steps, and at least one where the list is not empty.
@@ -155,12 +157,13 @@ impl Postings {
         ensures later { steps.old ≤ steps.new }
         ensures counted { 0 < length self.now.ids → Rose steps.old steps.new }
     {
-        let place = search(&self.ids, id, steps);
-        if place == self.ids.len() {
+        let ids = self.as_slice();
+        let place = search(ids, id, steps);
+        if place == ids.len() {
             return false;
         }
         steps.tick();
-        self.ids[place] == id
+        ids[place] == id
     }
 }
 

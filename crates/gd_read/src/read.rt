@@ -31,7 +31,6 @@ use gd_mql::fault::Path;
 use gd_mql::request::{CursorAsk, ReadRequest};
 use gd_plan::asked::Asked;
 use gd_plan::plan::Plan;
-use gd_prim::Primitive;
 use gd_reply::lines::err_line;
 use gd_reply::refusal::Refusal;
 use gd_shape::shape::{PageBody, ShapeFault, print};
@@ -126,7 +125,6 @@ fn page_line<L>(
 fn planned_line<L>(
     alloc: Global,
     view: &View<'_>,
-    prims: &[Primitive],
     line: u64,
     with_cursor: bool,
     after: &Option<Cursor>,
@@ -134,13 +132,12 @@ fn planned_line<L>(
     steps: &mut Steps<L>,
 ) -> Result<Vec<u8>, Memory>
     requires line { line < 2 ^ 63 }
-    requires prims { prims.now ≡ prims_of view.now }
     requires planned { IsPlanned (prims_of view.now) (asked_view plan) }
     ensures { IfOk result (λ bytes. bytes.items ≡ defs.asked_line (prims_of view.now) (length view.now) line with_cursor (mark_of after.now) (asked_view plan)) }
 {
     // Below the end each primitive is of a moment of a clock.
     let _end = view.end();
-    let linked = LinkedPrims::new(alloc, prims)?;
+    let linked = LinkedPrims::new(view);
     match page_of(alloc, &linked, plan.template(), plan.asked(), after) {
         Ok(page) => page_line(
             alloc,
@@ -159,21 +156,19 @@ fn planned_line<L>(
 fn query_line<L>(
     alloc: Global,
     view: &View<'_>,
-    prims: &[Primitive],
     line: u64,
     with_cursor: bool,
     after: &Option<Cursor>,
     request: &ReadRequest,
     steps: &mut Steps<L>,
 ) -> Result<Vec<u8>, Memory>
-    requires line { line < 2 ^ 63 }
-    requires prims { prims.now ≡ prims_of view.now }
+    requires { line < 2 ^ 63 }
     ensures { IfOk result (λ bytes. bytes.items ≡ defs.reply (prims_of view.now) (length view.now) line with_cursor (mark_of after.now) (read_view request.now).query) }
 {
     // Each primitive below the end may hold its value.
     let _end = view.end();
     match compile(alloc, view, request, steps) {
-        Ok(plan) => planned_line(alloc, view, prims, line, with_cursor, after, plan, steps),
+        Ok(plan) => planned_line(alloc, view, line, with_cursor, after, plan, steps),
         Err(unknown) => unknown_line(alloc, view.dateline(), line, unknown),
     }
 }
@@ -194,17 +189,7 @@ fn line_at<L>(
     ensures { IfOk result (λ bytes. bytes.items ≡ defs.reply (prims_at store.now dateline) dateline line with_cursor (mark_of after.now) (read_view request.now).query) }
 {
     let view = store.view(dateline);
-    let prims = store.below(dateline);
-    query_line(
-        alloc,
-        &view,
-        prims,
-        line,
-        with_cursor,
-        after,
-        request,
-        steps,
-    )
+    query_line(alloc, &view, line, with_cursor, after, request, steps)
 }
 
 /// The reply line to the page behind a cursor, at its dateline.

@@ -3,3 +3,4 @@ pub mod Ready
 pub mod Kept
 pub mod Replies
 pub mod Judged
+pub mod Rounds

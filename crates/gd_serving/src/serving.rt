@@ -16,6 +16,7 @@ ghost use Rattle.gd_serving.specs.Replies.{Replies};
 ghost use Rattle.gd_serving.specs.Judged.{made_of};
 ghost use Rattle.gd_reply.specs.Replies.{reply_text, failure_line};
 
+mod round;
 mod writing;
 
 use crate::serving::writing::Pending;

@@ -3,7 +3,8 @@ use Rattle.std.proofs.Common.{◌≡◌, ℕ, zero, suc, ◌-◌, ◌<◌, ◌�
 use Rattle.std.specs.Prelude.{Option, None, Some, nat_lt, slice_get, slice_index, if◌then◌else◌}
 use Rattle.std.specs.List.{last_or}
 use Rattle.std.proofs.lemmas.Bool.{lt-ltb, le-ltb, ltb-true, ltb-false}
-use Rattle.gd_postings.specs.Postings.{IsRising, ids_below}
+use Rattle.gd_postings.specs.Postings.{IsRising, ids_below, first_from}
+use Rattle.gd_store.specs.Indexed.{below_end}
 
 rest_rising : (x : ℕ) (xs : List ℕ) → IsRising (x ∷ xs) → IsRising xs
 rest_rising x xs rising i j less there = rising (suc i) (suc j) (omega (arith, less)) (omega (arith, there))
@@ -126,3 +127,17 @@ below_both from end (x ∷ xs) = either (nat_lt x from) (nat_lt x end) refl refl
     either a false near less rest =
         ap (λ c. cond c (x ∷ ids_below (min from end) xs) (ids_below (min from end) xs)) (le-ltb x (min from end) (omega (arith, ltb-false x end less)))
         ∙ rest
+
+-- the first of them that is not less than another place is the first of all, if that is less than the end
+pub first_both : (from end : ℕ) (ids : List ℕ) → IsRising ids → first_from from (ids_below end ids) ≡ below_end end (first_from from ids)
+first_both from end [] rising = refl
+first_both from end (x ∷ xs) rising = either (nat_lt x from) (nat_lt x end) refl refl (first_both from end xs (rest_rising x xs rising))
+  where
+    either : (a b : Bool) → nat_lt x from ≡ a → nat_lt x end ≡ b → first_from from (ids_below end xs) ≡ below_end end (first_from from xs)
+        → first_from from (cond b (x ∷ ids_below end xs) (ids_below end xs)) ≡ below_end end (first_from from (x ∷ xs))
+    either true true low less rest = rw low rest
+    either true false low up rest = rw low rest
+    either false true high less rest = rw (high, less) refl
+    either false false high up rest =
+        let empty : ids_below end xs ≡ [] = none xs end (rest_above x xs end rising (ltb-false x end up)) in
+        rw (high, up, empty) refl

@@ -1,8 +1,8 @@
 //! What a posting list holds below a place.
-ghost use Rattle.std.specs.Prelude.{◌≡◌, ◌+◌, ◌≤◌, None, length, slice_get};
+ghost use Rattle.std.specs.Prelude.{◌≡◌, ◌+◌, ◌<◌, ◌≤◌, None, length, slice_get, IfSome};
 ghost use Rattle.std.specs.List.{last_or};
 ghost use Rattle.gd_base.specs.Counts.{Rose};
-ghost use Rattle.gd_postings.specs.Postings.{ids_below};
+ghost use Rattle.gd_postings.specs.Postings.{ids_below, first_from};
 
 use gd_base::id::Id;
 use gd_base::steps::Steps;
@@ -46,6 +46,23 @@ pub(crate) fn count_front<L>(list: &Postings, from: Id, end: Id, steps: &mut Ste
 {
     let nearer = Id(from.place().min(end.place()));
     count_below(list, nearer, steps)
+}
+
+/// The first of the identities that are less than `end` that is not less than `from`, if there is one.
+#[tactic(auto, using(crate::proofs::Rising::first_both))]
+pub(crate) fn first_front<L>(list: &Postings, from: Id, end: Id, steps: &mut Steps<L>) -> Option<Id>
+    ensures first { result ≡ first_from from (ids_below end list.now.ids) }
+    ensures below { IfSome result (λ id. id < end) }
+    ensures work { steps.new ≤ steps.old + 22 }
+    ensures later { steps.old ≤ steps.new }
+    ensures counted { Rose steps.old steps.new }
+{
+    if list.len() == 0 {
+        steps.tick();
+        return None;
+    }
+    let first = list.first_from(from, steps)?;
+    if first < end { Some(first) } else { None }
 }
 
 /// The last identity that is less than `end`, if there is one.

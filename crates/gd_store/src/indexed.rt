@@ -1,10 +1,10 @@
 //! A list of primitives with its indexes.
-ghost use Rattle.std.specs.Prelude.{◌≡◌, ◌+◌, ◌-◌, ◌^◌, ◌<◌, ◌≤◌, [], ◌++◌, None, Some, length, take, slice_get, min, IsTrue, IfOk, OnOk, OnErr};
+ghost use Rattle.std.specs.Prelude.{◌≡◌, ◌+◌, ◌-◌, ◌^◌, ◌<◌, ◌≤◌, [], ◌++◌, None, Some, length, take, slice_get, min, IsTrue, IfOk, OnOk, OnErr, IfSome};
 ghost use Rattle.std.specs.List.{last_or};
 ghost use Rattle.gd_base.specs.Counts.{Rose};
 ghost use Rattle.gd_prim.specs.End.{places_with};
 ghost use Rattle.gd_prim.specs.Live as graph;
-ghost use Rattle.gd_postings.specs.Postings.{ids_below};
+ghost use Rattle.gd_postings.specs.Postings.{ids_below, first_from};
 ghost use Rattle.gd_store.specs.Indexed.{may_enter};
 ghost use Rattle.gd_store.specs.Keys.{is_key_link, is_key_of};
 ghost use Rattle.gd_store.specs.Valued.{number_in, places_of_number};
@@ -206,6 +206,24 @@ impl IndexedPrims {
         self.indexes.links_before(end, node, from, Id(below), steps)
     }
 
+    /// The first of these places that is `from` or greater, if there is one.
+    pub(crate) fn first_link<L>(
+        &self,
+        end: End,
+        node: Id,
+        from: Id,
+        below: u32,
+        steps: &mut Steps<L>,
+    ) -> Option<Id>
+        ensures first { result ≡ first_from from (places_with end node (take below self.now)) }
+        ensures below { IfSome result (λ place. place < below) }
+        ensures work { steps.new ≤ steps.old + 22 }
+        ensures later { steps.old ≤ steps.new }
+        ensures counted { Rose steps.old steps.new }
+    {
+        self.indexes.first_link(end, node, from, Id(below), steps)
+    }
+
     /// The k-th place, from 0 in rising order, whose primitive has this node at the end.
     pub(crate) fn link_at<L>(&self, end: End, node: Id, k: u32, steps: &mut Steps<L>) -> Id
         requires { k < length (places_with end node self.now) }
@@ -266,6 +284,23 @@ impl IndexedPrims {
         ensures counted { Rose steps.old steps.new }
     {
         self.indexes.values_before(number, from, Id(end), steps)
+    }
+
+    /// The first of these places that is `from` or greater, if there is one.
+    pub(crate) fn first_of_value<L>(
+        &self,
+        number: u32,
+        from: Id,
+        end: u32,
+        steps: &mut Steps<L>,
+    ) -> Option<Id>
+        ensures first { result ≡ first_from from (places_of_number number (take end self.now)) }
+        ensures below { IfSome result (λ place. place < end) }
+        ensures work { steps.new ≤ steps.old + 22 }
+        ensures later { steps.old ≤ steps.new }
+        ensures counted { Rose steps.old steps.new }
+    {
+        self.indexes.first_of_value(number, from, Id(end), steps)
     }
 
     /// The k-th place, from 0 in rising order, whose primitive has the value with a number.

@@ -1,11 +1,11 @@
 //! Indexes of a list of primitives: which one succeeds which, where the key links are, which places name a node, and
 //! which have a value.
-ghost use Rattle.std.specs.Prelude.{◌≡◌, ◌+◌, ◌-◌, ◌^◌, ◌<◌, ◌≤◌, [], None, Some, length, take, slice_get, min, position, is_some, if◌then◌else◌, IsTrue, OnOk, OnErr};
+ghost use Rattle.std.specs.Prelude.{◌≡◌, ◌+◌, ◌-◌, ◌^◌, ◌<◌, ◌≤◌, [], None, Some, length, take, slice_get, min, position, is_some, if◌then◌else◌, IsTrue, OnOk, OnErr, IfSome};
 ghost use Rattle.std.specs.List.{last_or};
 ghost use Rattle.std.specs.Option.{option_copied};
 ghost use Rattle.gd_base.specs.Counts.{Rose};
 ghost use Rattle.gd_prim.specs.Live as graph;
-ghost use Rattle.gd_postings.specs.Postings.{ids_below};
+ghost use Rattle.gd_postings.specs.Postings.{ids_below, first_from};
 ghost use Rattle.gd_versions.specs.Versions.{successor_of};
 ghost use Rattle.gd_keys.specs.Keys.{key_list, object_list};
 ghost use Rattle.gd_linkage.specs.Linkage.{list_of};
@@ -14,7 +14,7 @@ ghost use Rattle.gd_base.specs.Order.{datum_eq};
 ghost use Rattle.gd_valueidx.specs.Values.{value_list, values_in, number_list};
 ghost use Rattle.gd_store.specs.Valued.{AreValues};
 
-use crate::below::{at_below, count_below, count_front, front, last_below};
+use crate::below::{at_below, count_below, count_front, first_front, front, last_below};
 use gd_base::datum::Datum;
 use gd_base::id::Id;
 use gd_base::memory::Memory;
@@ -355,6 +355,24 @@ impl Indexes {
         count_front(self.linkage.list(end, node), from, below, steps)
     }
 
+    /// The first of the places below `below` that name this node at this end that is `from` or greater, if there is one.
+    pub(crate) fn first_link<L>(
+        &self,
+        end: End,
+        node: Id,
+        from: Id,
+        below: Id,
+        steps: &mut Steps<L>,
+    ) -> Option<Id>
+        ensures first { result ≡ first_from from (ids_below below (list_of end node self.now.linkage).ids) }
+        ensures below { IfSome result (λ place. place < below) }
+        ensures work { steps.new ≤ steps.old + 22 }
+        ensures later { steps.old ≤ steps.new }
+        ensures counted { Rose steps.old steps.new }
+    {
+        first_front(self.linkage.list(end, node), from, below, steps)
+    }
+
     /// The k-th place, from 0, that names this node at this end.
     pub(crate) fn link_at<L>(&self, end: End, node: Id, k: u32, steps: &mut Steps<L>) -> Id
         requires { k < length (list_of end node self.now.linkage).ids }
@@ -411,6 +429,24 @@ impl Indexes {
         ensures counted { Rose steps.old steps.new }
     {
         count_front(self.values.list_at(number as usize), from, end, steps)
+    }
+
+    /// The first of the places below `end` that have the value with this number that is `from` or greater, if there is
+    /// one.
+    pub(crate) fn first_of_value<L>(
+        &self,
+        number: u32,
+        from: Id,
+        end: Id,
+        steps: &mut Steps<L>,
+    ) -> Option<Id>
+        ensures first { result ≡ first_from from (ids_below end (number_list number self.now.values).ids) }
+        ensures below { IfSome result (λ place. place < end) }
+        ensures work { steps.new ≤ steps.old + 22 }
+        ensures later { steps.old ≤ steps.new }
+        ensures counted { Rose steps.old steps.new }
+    {
+        first_front(self.values.list_at(number as usize), from, end, steps)
     }
 
     /// The k-th place, from 0, that has the value with a number.

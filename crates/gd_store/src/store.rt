@@ -1,5 +1,5 @@
 //! The store.
-ghost use Rattle.std.specs.Prelude.{◌≡◌, ◌^◌, ◌+◌, ◌-◌, ◌<◌, ◌≤◌, [], ◌∷◌, ◌++◌, None, Some, length, take, drop, slice_get, min, option_map, sum_by, nat_lt, if◌then◌else◌, Ok, Err, IsTrue, IfOk, IfErr, OnOk, OnErr, MatchResult};
+ghost use Rattle.std.specs.Prelude.{◌≡◌, ◌^◌, ◌+◌, ◌-◌, ◌<◌, ◌≤◌, [], ◌∷◌, ◌++◌, None, Some, length, take, drop, slice_get, min, option_map, sum_by, nat_lt, if◌then◌else◌, Ok, Err, IsTrue, IfOk, IfErr, OnOk, OnErr, MatchResult, IfSome};
 ghost use Rattle.std.specs.List.{last_or};
 ghost use Rattle.gd_base.specs.Counts.{Rose};
 ghost use Rattle.gd_prim.specs.End.{places_with};
@@ -7,7 +7,7 @@ ghost use Rattle.gd_prim.specs.History.{prims_of, prims_at, is_history, AreHeld,
 ghost use Rattle.gd_prim.specs.Live as graph;
 ghost use Rattle.gd_prim.specs.WellFormed.{bad_place};
 ghost use Rattle.gd_prim.specs.Limits.{limits, first_full, text_bytes};
-ghost use Rattle.gd_postings.specs.Postings.{ids_below};
+ghost use Rattle.gd_postings.specs.Postings.{ids_below, first_from};
 ghost use Rattle.gd_store.specs.Indexed.{may_enter};
 ghost use Rattle.gd_store.specs.Keys.{is_key_link, is_key_of};
 ghost use Rattle.gd_store.specs.Stored as stored;
@@ -412,6 +412,26 @@ impl Store {
             .links_before(end, node, from, self.end(dateline), steps)
     }
 
+    /// The first of these places that is `from` or greater, if there is one.
+    pub(crate) fn first_link<L>(
+        &self,
+        dateline: u32,
+        end: End,
+        node: Id,
+        from: Id,
+        steps: &mut Steps<L>,
+    ) -> Option<Id>
+        requires { dateline ≤ length self.now }
+        ensures first { result ≡ first_from from (places_with end node (prims_at self.now dateline)) }
+        ensures below { IfSome result (λ place. place < length (prims_at self.now dateline)) }
+        ensures work { steps.new ≤ steps.old + 22 }
+        ensures later { steps.old ≤ steps.new }
+        ensures counted { Rose steps.old steps.new }
+    {
+        self.prims
+            .first_link(end, node, from, self.end(dateline), steps)
+    }
+
     /// The k-th place below a dateline, from 0 in rising order, whose primitive has this node at the end.
     pub(crate) fn link_at<L>(
         &self,
@@ -487,6 +507,25 @@ impl Store {
     {
         self.prims
             .values_before(number, from, self.end(dateline), steps)
+    }
+
+    /// The first of these places that is `from` or greater, if there is one.
+    pub(crate) fn first_of_value<L>(
+        &self,
+        dateline: u32,
+        number: u32,
+        from: Id,
+        steps: &mut Steps<L>,
+    ) -> Option<Id>
+        requires { dateline ≤ length self.now }
+        ensures first { result ≡ first_from from (places_of_number number (prims_at self.now dateline)) }
+        ensures below { IfSome result (λ place. place < length (prims_at self.now dateline)) }
+        ensures work { steps.new ≤ steps.old + 22 }
+        ensures later { steps.old ≤ steps.new }
+        ensures counted { Rose steps.old steps.new }
+    {
+        self.prims
+            .first_of_value(number, from, self.end(dateline), steps)
     }
 
     /// The k-th place below a dateline, from 0 in rising order, whose primitive has the value with a number.

@@ -6,7 +6,7 @@ ghost use Rattle.gd_prim.specs.End.{places_with};
 ghost use Rattle.gd_prim.specs.History.{prims_of, is_history, AreHeld, AreTimed};
 ghost use Rattle.gd_prim.specs.Live as graph;
 ghost use Rattle.gd_prim.specs.WellFormed.{may_hold};
-ghost use Rattle.gd_postings.specs.Postings.{ids_below};
+ghost use Rattle.gd_postings.specs.Postings.{ids_below, first_from};
 ghost use Rattle.gd_store.specs.Keys.{is_key_link, is_key_of};
 ghost use Rattle.gd_store.specs.Valued.{number_in, places_of_number};
 
@@ -211,6 +211,19 @@ impl<'a> View<'a> {
         store.links_before(self.dateline, end, node, from, steps)
     }
 
+    /// The first place that is `from` or greater whose primitive has this node at the end, if there is one. It takes no
+    /// memory.
+    pub fn first_link<L>(&self, end: End, node: Id, from: Id, steps: &mut Steps<L>) -> Option<Id>
+        ensures first { result ≡ first_from from (places_with end node (prims_of self.now)) }
+        ensures below { IfSome result (λ place. place < length (prims_of self.now)) }
+        ensures work { steps.new ≤ steps.old + 22 }
+        ensures later { steps.old ≤ steps.new }
+        ensures counted { Rose steps.old steps.new }
+    {
+        let store = self.store;
+        store.first_link(self.dateline, end, node, from, steps)
+    }
+
     /// The number of a value that a primitive below the dateline has: values are numbered from 0 in the order in which
     /// they first come. None where no primitive has it. It takes no memory.
     pub fn number_of<L>(&self, value: &Datum, steps: &mut Steps<L>) -> Option<u32>
@@ -270,5 +283,18 @@ impl<'a> View<'a> {
     {
         let store = self.store;
         store.values_before(self.dateline, number, from, steps)
+    }
+
+    /// The first place that is `from` or greater whose primitive has the value with this number, if there is one. It takes
+    /// no memory.
+    pub fn first_of_value<L>(&self, number: u32, from: Id, steps: &mut Steps<L>) -> Option<Id>
+        ensures first { result ≡ first_from from (places_of_number number (prims_of self.now)) }
+        ensures below { IfSome result (λ place. place < length (prims_of self.now)) }
+        ensures work { steps.new ≤ steps.old + 22 }
+        ensures later { steps.old ≤ steps.new }
+        ensures counted { Rose steps.old steps.new }
+    {
+        let store = self.store;
+        store.first_of_value(self.dateline, number, from, steps)
     }
 }

@@ -8,6 +8,8 @@ mod indexes;
 #[cfg(test)]
 mod input;
 #[cfg(test)]
+mod iterators;
+#[cfg(test)]
 mod json_values;
 #[cfg(test)]
 mod outside;

@@ -1,199 +1,46 @@
 -- How what is printed for the lines of rounds becomes what is printed for an input.
-use Rattle.std.proofs.Common.{◌≡◌, ℕ, zero, suc, ◌+◌, ◌<◌, ◌≤◌, Bool, true, false, List, [], ◌∷◌, ◌++◌, length, take, drop, Option, Some, slice_get, refl, sym, subst, ap, ◌∙◌, arith, append-nil, append_assoc, zero-add, length-append, take_all, get_or, if◌then◌else◌, nat_lt, lt-ltb, filter}
+use Rattle.std.proofs.Common.{◌≡◌, ℕ, suc, ◌+◌, ◌<◌, ◌≤◌, Bool, true, false, List, [], ◌∷◌, ◌++◌, length, Option, Some, slice_get, refl, sym, subst, ap, ◌∙◌, arith, append-nil, append_assoc, zero-add, length-append, if◌then◌else◌, nat_lt, lt-ltb, filter}
 use Rattle.std.specs.Prelude.{◌==◌}
 use Rattle.std.proofs.KnownBytes.{Appends-trans, Appends-nil, Appends-kept}
 use Rattle.std.proofs.lemmas.Bool.Decides.{nat_tests}
 use Rattle.std.proofs.lemmas.List.Elements.{filter-append}
-use Rattle.std.proofs.lemmas.Option.{slice_get-get_or}
 use Rattle.std.specs.Io.KnownBytes.{Appends, Keeps}
-use Rattle.gd_base.specs.Counts.{Rose}
 use Rattle.gd_prim.specs.declared.Batch.{Batch}
-use Rattle.gd_runs.specs.Explained.{Numbered, pieces, numbered, lines_of, lines_within, max_round, memory_line, IsExplainedBy, tells_fault, fault_count}
+use Rattle.gd_runs.specs.Explained.{Numbered, pieces, numbered, lines_of, lines_within, max_round, memory_line, IsExplainedBy, fault_count}
 use Rattle.gd_runs.proofs.Rounds.{no_some}
-use Rattle.gd_input.specs.declared.line.RoundLine.{RoundLine}
 use Rattle.gd_input.specs.declared.round.Round.{Round}
-use Rattle.gd_input.specs.Line.{IsKept}
 use Rattle.gd_input.specs.Rounds.{AreKept, in_round, TakesRound}
 use Rattle.gd_served_laws.specs.Served.{Progress, IsServed, AreUpto, GoesOn}
 use Rattle.gd_served_laws.proofs.Steps.{next}
-use Rattle.gd_served_laws.proofs.Going.{goes_nowhere, goes_without_memory, goes_further, upto_more, after, memory_lines, goes_unanswered}
+use Rattle.gd_served_laws.proofs.Going.{goes_without_memory, upto_more, after}
 use Rattle.gd_top.specs.Held.{HoldsAs, RoseBy, SameStore}
 use Rattle.gd_top.specs.Serves.{printed, Accounts, Serves, ServesFront, ServesRounds, GainsFront, Answers, AnswersFront, ServedUpto}
-use Rattle.gd_top.proofs.Counted.{rose_none, rose_then, rose_once, printed-append, printed-one, fault_count-append, memory_replies, memory_printed, memory_count, memory_many, same_store, same_after, same_then}
+use Rattle.gd_serving.specs.Rounds.{Answered}
+use Rattle.gd_serving.proofs.Rounds.{rose_none, rose_then, printed-append, fault_count-append}
+use Rattle.gd_top.proofs.Counted.{same_store, same_then}
 use Rattle.gd_top.proofs.Settled.{holds_as, holds_same}
 use Rattle.gd_top.proofs.Split.{told_is}
 
--- ---- lines of a round
+-- ---- the lines of a round
 
--- one line and its text among those of a round
-pub record At (l : RoundLine) (texts : List (List ℕ)) (i : ℕ) : Type 0 where
-  pub text : List ℕ
-  pub kept : IsKept 262_144 l text
-  pub upto : take (suc i) texts ≡ take i texts ++ text ∷ []
-  pub parts : texts ≡ take i texts ++ text ∷ drop (suc i) texts
+-- what was answered is printed
+pub answers_of : (may : ℕ → Bool) (p q : Progress) (texts replies : List (List ℕ)) (old new : Option (List ℕ)) (a b : ℕ) → Answered may p q texts replies a b → Appends old new (printed replies) → Answers may p q texts old new a b
+answers_of may p q texts replies old new a b answered gained = record { replies = replies; many = answered.many; goes = answered.goes; gained = gained; rose = answered.rose }
 
-at : (ls : List RoundLine) (texts : List (List ℕ)) (i : ℕ) (l : RoundLine) → AreKept ls texts → slice_get ls i ≡ Some l → At l texts i
-at [] [] i l kept is = no_some is
-at [] (t ∷ ts) i l kept is = absurd kept
-at (k ∷ ls) [] i l kept is = absurd kept
-at (k ∷ ls) (t ∷ ts) zero l (here, later) is =
-    let same : k ≡ l = cc in
-    record { text = t; kept = subst (λ (x : RoundLine). IsKept 262_144 x t) same here; upto = refl; parts = refl }
-at (k ∷ ls) (t ∷ ts) (suc i) l (here, later) is =
-    let there = at ls ts i l later is in
-    record { text = there.text; kept = there.kept; upto = ap (λ (xs : List (List ℕ)). t ∷ xs) there.upto; parts = ap (λ (xs : List (List ℕ)). t ∷ xs) there.parts }
-
--- what holds of the text of one line holds of the texts of that line alone
-pub one_kept : (l : RoundLine) (P : List (List ℕ) → Type 0) → ((bytes : List ℕ) → IsKept 262_144 l bytes → P (bytes ∷ [])) → (texts : List (List ℕ)) → AreKept (l ∷ []) texts → P texts
-one_kept l P each [] kept = absurd kept
-one_kept l P each (t ∷ []) (here, later) = each t here
-one_kept l P each (t ∷ u ∷ us) (here, later) = absurd later
-
--- ---- the lines of a round, one after another
-
-plus_one : (i : ℕ) → i + 1 ≡ suc i
-plus_one i = omega arith
-
--- no line was answered yet
-pub no_lines : (may : ℕ → Bool) (p : Progress) (held : Option (List ℕ)) (n : ℕ) (texts : List (List ℕ)) → Answers may p p (take 0 texts) held held n n
-no_lines may p held n texts = record { replies = []; many = omega arith; goes = goes_nowhere may p; gained = Appends-nil held; rose = rose_none n n (omega arith) }
-
--- lines and then others
-then_lines : (may : ℕ → Bool) (p q r : Progress) (xs ys : List (List ℕ)) (old mid new : Option (List ℕ)) (a b c : ℕ) → Answers may p q xs old mid a b → Answers may q r ys mid new b c → Answers may p r (xs ++ ys) old new a c
-then_lines may p q r xs ys old mid new a b c first second =
-    let both = printed-append first.replies second.replies in
-    let counts : fault_count p.lines (first.replies ++ second.replies) ≡ fault_count p.lines first.replies + fault_count q.lines second.replies =
-    fault_count-append p.lines first.replies second.replies ∙ ap (λ (k : ℕ). fault_count p.lines first.replies + fault_count k second.replies) (sym first.many) in
-    record {
-      replies = first.replies ++ second.replies;
-      many = omega (arith, first.many, second.many, length-append first.replies second.replies);
-      goes = subst (λ (out : List ℕ). GoesOn may p r (xs ++ ys) out) (sym both) (goes_further may p q r xs ys (printed first.replies) (printed second.replies) first.goes second.goes);
-      gained = subst (λ (out : List ℕ). Appends old new out) (sym both) (Appends-trans old mid new (printed first.replies) (printed second.replies) first.gained second.gained);
-      rose = subst (λ (n : ℕ). RoseBy a c n) (sym counts) (rose_then a b c (fault_count p.lines first.replies) (fault_count q.lines second.replies) first.rose second.rose);
-    }
-
--- lines, and then a front of others
-then_front : (may : ℕ → Bool) (p q r : Progress) (xs ys : List (List ℕ)) (old mid new : Option (List ℕ)) (a b c : ℕ) → Answers may p q xs old mid a b → AnswersFront may q r ys mid new b c → AnswersFront may p r (xs ++ ys) old new a c
-then_front may p q r xs ys old mid new a b c first second =
-    let both : (printed first.replies ++ second.output) ++ second.rest ≡ printed (first.replies ++ second.replies) =
-    append_assoc (printed first.replies) second.output second.rest ∙ (ap (λ (out : List ℕ). printed first.replies ++ out) second.whole ∙ sym (printed-append first.replies second.replies)) in
-    let counts : fault_count p.lines (first.replies ++ second.replies) ≡ fault_count p.lines first.replies + fault_count q.lines second.replies =
-    fault_count-append p.lines first.replies second.replies ∙ ap (λ (k : ℕ). fault_count p.lines first.replies + fault_count k second.replies) (sym first.many) in
-    record {
-      output = printed first.replies ++ second.output;
-      rest = second.rest;
-      last = second.last;
-      replies = first.replies ++ second.replies;
-      whole = both;
-      many = omega (arith, first.many, second.many, length-append first.replies second.replies);
-      same = second.same;
-      goes = subst (λ (out : List ℕ). GoesOn may p second.last (xs ++ ys) out) (sym (append_assoc (printed first.replies) second.output second.rest))
-          (goes_further may p q second.last xs ys (printed first.replies) (second.output ++ second.rest) first.goes second.goes);
-      gained = Appends-trans old mid new (printed first.replies) second.output first.gained second.gained;
-      rose = subst (λ (n : ℕ). RoseBy a c n) (sym counts) (rose_then a b c (fault_count p.lines first.replies) (fault_count q.lines second.replies) first.rose second.rose);
-    }
-
--- a front of lines, and others that are not answered
-front_then : (may : ℕ → Bool) (p q : Progress) (xs ys : List (List ℕ)) (old new : Option (List ℕ)) (a b : ℕ) → AnswersFront may p q xs old new a b → AnswersFront may p q (xs ++ ys) old new a b
-front_then may p q xs ys old new a b front =
-    let last = front.last in
-    let more = memory_replies last.lines ys in
-    let out = printed front.replies in
-    let both : front.output ++ (front.rest ++ memory_lines last.lines ys) ≡ printed (front.replies ++ more) =
-    sym (append_assoc front.output front.rest (memory_lines last.lines ys)) ∙ (ap (λ (o : List ℕ). o ++ memory_lines last.lines ys) front.whole
-    ∙ (ap (λ (o : List ℕ). out ++ o) (sym (memory_printed last.lines ys)) ∙ sym (printed-append front.replies more))) in
-    let counts : fault_count p.lines (front.replies ++ more) ≡ fault_count p.lines front.replies =
-    fault_count-append p.lines front.replies more ∙ (ap (λ (k : ℕ). fault_count p.lines front.replies + fault_count k more) (sym front.many)
-    ∙ (ap (λ (n : ℕ). fault_count p.lines front.replies + n) (memory_count last.lines ys) ∙ omega arith)) in
-    record {
-      output = front.output;
-      rest = front.rest ++ memory_lines last.lines ys;
-      last = after last ys;
-      replies = front.replies ++ more;
-      whole = both;
-      many = omega (arith, front.many, memory_many last ys, length-append front.replies more);
-      same = same_then q last (after last ys) front.same (same_after last ys);
-      goes = subst (λ (o : List ℕ). GoesOn may p (after last ys) (xs ++ ys) o) (append_assoc front.output front.rest (memory_lines last.lines ys))
-          (goes_further may p last (after last ys) xs ys (front.output ++ front.rest) (memory_lines last.lines ys) front.goes (goes_unanswered may last ys));
-      gained = front.gained;
-      rose = subst (λ (n : ℕ). RoseBy a b n) (sym counts) front.rose;
-    }
-
--- one line more was answered
-pub one_more : (may now : ℕ → Bool) (p q r : Progress) (ls : List RoundLine) (texts : List (List ℕ)) (i : ℕ) (l : RoundLine) (old mid new : Option (List ℕ)) (a b c : ℕ) → AreKept ls texts → slice_get ls i ≡ Some l → now ≡ may
-    → Answers may p q (take i texts) old mid a b → ((bytes : List ℕ) → IsKept 262_144 l bytes → Answers now q r (bytes ∷ []) mid new b c) → Answers may p r (take (i + 1) texts) old new a c
-one_more may now p q r ls texts i l old mid new a b c kept is same before answers =
-    let here = at ls texts i l kept is in
-    let line = subst (λ (m : ℕ → Bool). Answers m q r (here.text ∷ []) mid new b c) same (answers here.text here.kept) in
-    subst (λ (xs : List (List ℕ)). Answers may p r xs old new a c) (sym (ap (λ (n : ℕ). take n texts) (plus_one i) ∙ here.upto))
-    (then_lines may p q r (take i texts) (here.text ∷ []) old mid new a b c before line)
-
--- a line was not answered in full, and those after it were not
-pub stopped_at : (may now : ℕ → Bool) (p q r : Progress) (ls : List RoundLine) (texts : List (List ℕ)) (i : ℕ) (l : RoundLine) (old mid new : Option (List ℕ)) (a b c : ℕ) → AreKept ls texts → slice_get ls i ≡ Some l → now ≡ may
-    → Answers may p q (take i texts) old mid a b → ((bytes : List ℕ) → IsKept 262_144 l bytes → AnswersFront now q r (bytes ∷ []) mid new b c) → AnswersFront may p r texts old new a c
-stopped_at may now p q r ls texts i l old mid new a b c kept is this before front =
-    let here = at ls texts i l kept is in
-    let line = subst (λ (m : ℕ → Bool). AnswersFront m q r (here.text ∷ []) mid new b c) this (front here.text here.kept) in
-    subst (λ (xs : List (List ℕ)). AnswersFront may p r xs old new a c) (sym here.parts)
-    (then_front may p q r (take i texts) (here.text ∷ drop (suc i) texts) old mid new a b c before (front_then may q r (here.text ∷ []) (drop (suc i) texts) mid new b c line))
-
--- all were
-same_count : (ls : List RoundLine) (texts : List (List ℕ)) → AreKept ls texts → length texts ≡ length ls
-same_count [] [] kept = refl
-same_count [] (t ∷ ts) kept = absurd kept
-same_count (l ∷ ls) [] kept = absurd kept
-same_count (l ∷ ls) (t ∷ ts) (here, later) = ap suc (same_count ls ts later)
-
-pub all_lines : (may : ℕ → Bool) (p q : Progress) (ls : List RoundLine) (texts : List (List ℕ)) (i : ℕ) (old new : Option (List ℕ)) (a b : ℕ) → AreKept ls texts → length ls ≤ i
-    → Answers may p q (take i texts) old new a b → Answers may p q texts old new a b
-all_lines may p q ls texts i old new a b kept long answers =
-    let count = same_count ls texts kept in
-    subst (λ (xs : List (List ℕ)). Answers may p q xs old new a b) (take_all i texts (omega (arith, count, long))) answers
-
--- a line that was answered and printed
-pub line_all : (may : ℕ → Bool) (p q : Progress) (bytes reply : List ℕ) (old new : Option (List ℕ)) (a b : ℕ) → GoesOn may p q (bytes ∷ []) (reply ++ 10 ∷ []) → q.lines ≡ p.lines + 1
-    → (tells_fault p.lines reply ≡ true → Rose a b) → a ≤ b → Appends old new (reply ++ 10 ∷ []) → Answers may p q (bytes ∷ []) old new a b
-line_all may p q bytes reply old new a b goes many cause later gained = record {
-  replies = reply ∷ [];
-  many = many;
-  goes = subst (λ (out : List ℕ). GoesOn may p q (bytes ∷ []) out) (sym (printed-one reply)) goes;
-  gained = subst (λ (out : List ℕ). Appends old new out) (sym (printed-one reply)) gained;
-  rose = rose_once (tells_fault p.lines reply) a b cause later;
-}
-
--- a line that was answered and not printed in full
-pub line_front : (may : ℕ → Bool) (p q : Progress) (bytes reply : List ℕ) (old new : Option (List ℕ)) (a b : ℕ) → GoesOn may p q (bytes ∷ []) (reply ++ 10 ∷ []) → q.lines ≡ p.lines + 1
-    → (tells_fault p.lines reply ≡ true → Rose a b) → a ≤ b → GainsFront old new (reply ++ 10 ∷ []) → AnswersFront may p q (bytes ∷ []) old new a b
-line_front may p q bytes reply old new a b goes many cause later front = record {
+-- and so is a front of it
+pub front_of_answered : (may : ℕ → Bool) (p q : Progress) (texts replies : List (List ℕ)) (old new : Option (List ℕ)) (a b : ℕ) → Answered may p q texts replies a b → GainsFront old new (printed replies) → AnswersFront may p q texts old new a b
+front_of_answered may p q texts replies old new a b answered front = record {
   output = front.piece;
   rest = front.rest;
   last = q;
-  replies = reply ∷ [];
-  whole = front.parts ∙ sym (printed-one reply);
-  many = many;
+  replies = replies;
+  whole = front.parts;
+  many = answered.many;
   same = same_store q;
-  goes = subst (λ (out : List ℕ). GoesOn may p q (bytes ∷ []) out) (sym front.parts) goes;
+  goes = subst (λ (out : List ℕ). GoesOn may p q texts out) (sym front.parts) answered.goes;
   gained = front.gained;
-  rose = rose_once (tells_fault p.lines reply) a b cause later;
+  rose = answered.rose;
 }
-
--- lines that were not answered at all
-none_answered : (may : ℕ → Bool) (p : Progress) (texts : List (List ℕ)) (held : Option (List ℕ)) (a b : ℕ) → a ≤ b → AnswersFront may p p texts held held a b
-none_answered may p texts held a b later = record {
-  output = [];
-  rest = memory_lines p.lines texts;
-  last = after p texts;
-  replies = memory_replies p.lines texts;
-  whole = sym (memory_printed p.lines texts);
-  many = memory_many p texts;
-  same = same_after p texts;
-  goes = goes_unanswered may p texts;
-  gained = Appends-nil held;
-  rose = subst (λ (n : ℕ). RoseBy a b n) (sym (memory_count p.lines texts)) (rose_none a b later);
-}
-
-pub not_answered : (may : ℕ → Bool) (p q : Progress) (texts : List (List ℕ)) (held : Option (List ℕ)) (a b : ℕ) → q ≡ p → a ≤ b → AnswersFront may p q texts held held a b
-not_answered may p q texts held a b same later = subst (λ (r : Progress). AnswersFront may p r texts held held a b) (sym same) (none_answered may p texts held a b later)
 
 -- what was answered in full is a front too
 pub whole_front : (may : ℕ → Bool) (p q : Progress) (texts : List (List ℕ)) (old new : Option (List ℕ)) (a b : ℕ) → Answers may p q texts old new a b → AnswersFront may p q texts old new a b
@@ -439,7 +286,3 @@ front_held may p q texts old mid new a b front kept = record {
   gained = Appends-kept old mid new front.output front.gained kept;
   rose = front.rose;
 }
-
--- the element that a loop is at
-pub item_is : (ls : List RoundLine) (i : ℕ) (l : RoundLine) → i < length ls → l ≡ get_or ls i l → slice_get ls i ≡ Some l
-item_is ls i l within is = slice_get-get_or ls i l within ∙ ap Some (sym is)

@@ -1,5 +1,5 @@
 -- What a run finds in the file of its store, and what it leaves there.
-use Rattle.std.specs.Prelude.{◌≡◌, ℕ, ◌+◌, ◌-◌, ◌^◌, ◌≤◌, min, List, [], Bool, Option, None, Some, IsSome, IsSomeAnd, option_and_then}
+use Rattle.std.specs.Prelude.{◌≡◌, ℕ, List, [], Bool, Option, None, Some, IsSome, IsSomeAnd, option_and_then}
 use Rattle.std.specs.Option.{ForSome}
 use Rattle.gd_prim.specs.declared.Batch.{Batch}
 use Rattle.gd_bytes.specs.File.{Meaning, meaning, StandsFor}
@@ -7,6 +7,7 @@ use Rattle.gd_runs.specs.Legal.{History}
 use Rattle.gd_runs.specs.Explained.{Run, Holds}
 use Rattle.gd_served_laws.specs.Served.{Progress, IsServed}
 use Rattle.gd_serving.specs.Running.{StandsForRun}
+pub use Rattle.gd_serving.specs.Rounds.{RoseBy}
 
 -- ---- one file, whose content is told or not
 
@@ -53,10 +54,6 @@ IsSoundAt content None = Unit {0}
 IsSoundAt content (Some path) = IsSomeAnd (content path) (λ file. (bs : List Batch) × StandsFor file bs)
 
 -- ---- on the way
-
--- the count of faults rose by so many, or stands at its type's end
-abbrev pub RoseBy : ℕ → ℕ → ℕ → Type 0
-RoseBy before after n = min (before + n) (2 ^ 64 - 1) ≤ after
 
 -- what stands for the progress of a run stands for this history, with or without the one write that is in doubt
 abbrev pub HoldsAs : (ℕ → Bool) → Progress → History → List Run → Type 0

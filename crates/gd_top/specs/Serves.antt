@@ -1,10 +1,11 @@
 -- What a run prints for its input.
-use Rattle.std.specs.Prelude.{◌≡◌, ℕ, ◌+◌, ◌<◌, List, [], ◌∷◌, ◌++◌, length, flat_map, Bool, Option, Some, slice_get}
+use Rattle.std.specs.Prelude.{◌≡◌, ℕ, ◌+◌, ◌<◌, List, [], ◌++◌, length, Bool, Option, Some, slice_get}
 use Rattle.std.specs.Io.KnownBytes.{Appends}
 use Rattle.gd_prim.specs.declared.Batch.{Batch}
 use Rattle.gd_runs.specs.Legal.{History}
 use Rattle.gd_runs.specs.Explained.{Numbered, Run, pieces, numbered, lines_of, lines_within, IsExplainedBy, fault_count, faults_told}
 use Rattle.gd_served_laws.specs.Served.{Progress, IsServed, GoesOn}
+pub use Rattle.gd_serving.specs.Rounds.{printed}
 use Rattle.gd_top.specs.Held.{RoseBy, SameStore}
 
 -- One legal history explains this output for these lines. It begins with a list that the run may begin with, its moments are such as the clock may give, what it leaves in the file stands for it, and the count of faults rose by the lines that tell one.
@@ -38,10 +39,6 @@ pub record ServesRounds (may : ℕ → Bool) (begins : List Batch → Type 0) (l
   pub gained : Appends old new output
 
 -- ---- on the way
-
--- replies as they are printed, each with its newline
-abbrev pub printed : List (List ℕ) → List ℕ
-printed replies = flat_map (λ reply. reply ++ 10 ∷ []) replies
 
 -- the sink gained a front of these bytes
 pub record GainsFront (old new : Option (List ℕ)) (whole : List ℕ) : Type 0 where

@@ -1,13 +1,15 @@
 //! Whole writes, and replies as they are printed.
-ghost use Rattle.std.specs.Prelude.{◌≡◌, ◌≤◌, ◌∷◌, ◌++◌, [], ℕ, take, codes, decimal, OnOk, OnErr};
+ghost use Rattle.std.specs.Prelude.{◌≡◌, ◌≤◌, ◌-◌, ◌∷◌, ◌++◌, [], ℕ, take, map, codes, decimal, OnOk, OnErr};
 ghost use Rattle.std.specs.Io.KnownBytes.{Appends};
 ghost use Rattle.gd_base.specs.Counts.{Rose};
 ghost use Rattle.gd_reply.specs.Replies.{failure_line, reply_text};
+ghost use Rattle.gd_serving.specs.Rounds.{printed, no_memory, reply_texts};
 ghost use Rattle.gd_top.specs.Serves.{GainsFront};
 
 use gd_outside::Failed;
 use gd_outside::sink::Sink;
 use gd_reply::reply::{Failure, Reply};
+use gd_serving::replies::Replies;
 use itoa::Buffer;
 
 /// Writes all bytes.
@@ -64,8 +66,8 @@ fn print_failure<K: Sink>(sink: &mut K, failure: Failure, line: u64) -> Result<(
     Ok(())
 }
 
-/// Prints a reply and its newline. `Failed`: the sink did, and a front of them is printed.
-pub fn print_reply<K: Sink>(sink: &mut K, reply: &Reply) -> Result<(), Failed>
+/// Prints a reply and its newline.
+fn print_reply<K: Sink>(sink: &mut K, reply: &Reply) -> Result<(), Failed>
     ensures all { OnOk result (Appends (K.held sink.old) (K.held sink.new) (reply_text reply.now ++ 10 ∷ [])) }
     ensures front { OnErr result (GainsFront (K.held sink.old) (K.held sink.new) (reply_text reply.now ++ 10 ∷ [])) }
     ensures failed { OnErr result (Rose (K.faults sink.old) (K.faults sink.new)) }
@@ -74,5 +76,45 @@ pub fn print_reply<K: Sink>(sink: &mut K, reply: &Reply) -> Result<(), Failed>
     match reply {
         Reply::Line(line) => print_line(sink, line),
         Reply::Failed { failure, line } => print_failure(sink, *failure, *line),
+    }
+}
+
+/// Prints replies that were made, each with its newline.
+fn print_made<K: Sink>(sink: &mut K, replies: &[Reply]) -> Result<(), Failed>
+    ensures all { OnOk result (Appends (K.held sink.old) (K.held sink.new) (printed (map reply_text replies.now))) }
+    ensures front { OnErr result (GainsFront (K.held sink.old) (K.held sink.new) (printed (map reply_text replies.now))) }
+    ensures failed { OnErr result (Rose (K.faults sink.old) (K.faults sink.new)) }
+    ensures later { K.faults sink.old ≤ K.faults sink.new }
+{
+    for reply in replies {
+        print_reply(sink, reply)?;
+    }
+    Ok(())
+}
+
+/// Prints to each line from `first` up to `end` the reply that says that there was no memory, with its newline.
+fn print_no_memory<K: Sink>(sink: &mut K, first: u64, end: u64) -> Result<(), Failed>
+    ensures all { OnOk result (Appends (K.held sink.old) (K.held sink.new) (printed (no_memory first (end - first)))) }
+    ensures front { OnErr result (GainsFront (K.held sink.old) (K.held sink.new) (printed (no_memory first (end - first)))) }
+    ensures failed { OnErr result (Rose (K.faults sink.old) (K.faults sink.new)) }
+    ensures later { K.faults sink.old ≤ K.faults sink.new }
+{
+    for line in first..end {
+        print_failure(sink, Failure::NoMemory, line)?;
+    }
+    Ok(())
+}
+
+/// Prints the replies to the lines of a round, each with its newline. `Failed`: the sink did, and a front of them is
+/// printed.
+pub fn print_replies<K: Sink>(sink: &mut K, replies: &Replies) -> Result<(), Failed>
+    ensures all { OnOk result (Appends (K.held sink.old) (K.held sink.new) (printed (reply_texts replies.now))) }
+    ensures front { OnErr result (GainsFront (K.held sink.old) (K.held sink.new) (printed (reply_texts replies.now))) }
+    ensures failed { OnErr result (Rose (K.faults sink.old) (K.faults sink.new)) }
+    ensures later { K.faults sink.old ≤ K.faults sink.new }
+{
+    match replies {
+        Replies::Made(replies) => print_made(sink, replies.as_slice()),
+        Replies::NoMemory { first, end } => print_no_memory(sink, *first, *end),
     }
 }

@@ -1,5 +1,5 @@
-//! Rounds: their lines are read, answered and printed.
-ghost use Rattle.std.specs.Prelude.{◌≡◌, ◌≤◌, ◌<◌, ◌+◌, ◌^◌, ◌∷◌, [], ℕ, List, Bool, length, Err, IfSome, OnOk, OnErr};
+//! Rounds: they are read, answered and printed.
+ghost use Rattle.std.specs.Prelude.{◌≡◌, ◌≤◌, ◌<◌, ◌+◌, ◌^◌, ℕ, List, Bool, length, Err, IfSome, OnOk, OnErr};
 ghost use Rattle.std.specs.List.{All};
 ghost use Rattle.std.specs.Io.KnownBytes.{IsAtEnd};
 ghost use Rattle.gd_base.specs.Counts.{Rose};
@@ -10,7 +10,7 @@ ghost use Rattle.gd_top.specs.Held.{HoldsAs, IsAtStart, RoseBy};
 ghost use Rattle.gd_top.specs.Lines.{AnswersLines};
 ghost use Rattle.gd_top.specs.Serves.{Serves, ServesFront, ServesRounds};
 
-use crate::printing::print_reply;
+use crate::printing::print_replies;
 use crate::stop::Stop;
 use gd_disk::disk::Disk;
 use gd_input::line::RoundLine;
@@ -22,45 +22,8 @@ use gd_outside::source::Source;
 use gd_serving::serving::Serving;
 use std::alloc::Global;
 
-/// Answers the next line and prints what it comes to. `Failed`: a front of that is printed.
-fn answer_line<D: Disk, K: Sink, C: Clock>(
-    alloc: Global,
-    serving: &mut Serving<D>,
-    clock: &mut C,
-    line: &RoundLine,
-    sink: &mut K,
-) -> Result<(), Failed>
-    requires lines { serving.old.progress.lines < 2 ^ 63 }
-    requires short { IsShort line.now }
-    ensures { AnswersLines D.content D.images D.faults (line.now ∷ []) serving.old serving.new (C.may clock.old) (C.may clock.new)
-        (K.held sink.old) (K.held sink.new) (K.faults sink.old) (K.faults sink.new) result }
-{
-    let reply = serving.answer(alloc, clock, line);
-    print_reply(sink, &reply)?;
-    Ok(())
-}
-
-/// Answers the lines of a round, one after another, and prints what each comes to. `Failed`: a front of that is
-/// printed.
-fn answer_lines<D: Disk, K: Sink, C: Clock>(
-    alloc: Global,
-    serving: &mut Serving<D>,
-    clock: &mut C,
-    lines: &[RoundLine],
-    sink: &mut K,
-) -> Result<(), Failed>
-    requires lines { serving.old.progress.lines + length lines.now < 2 ^ 63 }
-    requires short { All IsShort lines.now }
-    ensures { AnswersLines D.content D.images D.faults lines.now serving.old serving.new (C.may clock.old) (C.may clock.new)
-        (K.held sink.old) (K.held sink.new) (K.faults sink.old) (K.faults sink.new) result }
-{
-    for line in lines {
-        answer_line(alloc, serving, clock, line, sink)?;
-    }
-    Ok(())
-}
-
-/// Answers the lines of a round, prints what they come to and sends it on, also where a line was not answered in full.
+/// Answers the lines of a round, prints what they come to and sends it on, also where it was not printed in full.
+/// `Failed`: a front of it is printed.
 fn answer_round<D: Disk, K: Sink, C: Clock>(
     alloc: Global,
     serving: &mut Serving<D>,
@@ -73,9 +36,10 @@ fn answer_round<D: Disk, K: Sink, C: Clock>(
     ensures { AnswersLines D.content D.images D.faults lines.now serving.old serving.new (C.may clock.old) (C.may clock.new)
         (K.held sink.old) (K.held sink.new) (K.faults sink.old) (K.faults sink.new) result }
 {
-    let answered = answer_lines(alloc, serving, clock, lines, sink);
+    let replies = serving.answer_round(alloc, clock, lines);
+    let printed = print_replies(sink, &replies);
     let sent = sink.flush();
-    answered?;
+    printed?;
     sent?;
     Ok(())
 }

@@ -25,16 +25,15 @@ pub struct Values {
 }
 
 impl Model for Values {
-    ghost use Rattle.std.specs.Prelude.{◌≡◌, List};
+    ghost use Rattle.std.specs.Prelude.{◌≡◌, List, []};
     ghost use Rattle.gd_base.specs.declared.datum.Datum.{Datum};
     ghost use Rattle.gd_postings.specs.Postings.{Places};
-    ghost use Rattle.gd_lists.specs.Lists.{nothing};
 
     ghost Value = { List (Datum × Places) };
 
     ghost view = { λ values. values.lists.entries };
 
-    ghost invariant = { λ values. values.empty ≡ nothing };
+    ghost invariant = { λ values. values.empty.ids ≡ [] };
 }
 
 impl Values {
@@ -51,7 +50,7 @@ impl Values {
 
     /// The list of a value.
     pub fn list(&self, value: &Datum) -> &Postings
-        ensures { result.now ≡ value_list value.now self.now }
+        ensures { result.now.ids ≡ (value_list value.now self.now).ids }
     {
         match self.lists.get(value) {
             Some(list) => list,
@@ -78,7 +77,7 @@ impl Values {
 
     /// The list of the value with a number, which is empty where the number was not given.
     pub fn list_at(&self, number: usize) -> &Postings
-        ensures { result.now ≡ number_list number self.now }
+        ensures { result.now.ids ≡ (number_list number self.now).ids }
     {
         match self.lists.get_index(number) {
             Some((_, list)) => list,
@@ -98,13 +97,13 @@ impl Values {
     {
         match self.lists.get_mut(value) {
             Some(list) => {
-                list.reserve(1)?;
+                list.make_room()?;
                 list.push(id);
                 Ok(())
             }
             None => {
                 let mut list = Postings::new(self.alloc);
-                list.reserve(1)?;
+                list.make_room()?;
                 list.push(id);
                 let value = value.copy()?;
                 self.lists.insert(value, list)?;

@@ -11,20 +11,20 @@ use Rattle.gd_lists.proofs.texts.TextLists.reserve.Goals as goal
 
 pub returns-in-Some-clause-same : goal.returns-in-Some-clause-same
 returns-in-Some-clause-same c =
-    let w = c.reserve.new.self in
+    let w = c.make_room.new.self in
     let held : c.in-Some.list.now ≡ text_list c.self.inside.lists.entries c.args.text.now = ap (λ o. unwrap_or o nothing) c.in-Some.ensures.value in
     let written = (c.get_mut.follows.holds w).3 (subst IsSome c.in-Some.ensures.value (search rules)) in
     subst (λ (es : List (List ℕ × Places)). (t : List ℕ) → (text_list (c.get_mut.follows.lender w).entries t).ids ≡ (text_list es t).ids) c.self.view_is
     (each_text (λ test old new. new ≡ old) (λ _. refl) c.self.inside.lists.entries _ c.args.text.now w written.0
-    (subst (λ (p : Places). w.ids ≡ p.ids) held c.reserve.ensures.ids))
+    (subst (λ (p : Places). w.ids ≡ p.ids) held c.make_room.ensures.ids))
 
 pub returns-in_ok-insert-in-None-clause-same : goal.returns-in_ok-insert-in-None-clause-same
 returns-in_ok-insert-in-None-clause-same c =
-    let w = c.reserve-in-None.new.self in
+    let w = c.make_room-in-None.new.self in
     let held : nothing ≡ text_list c.self.inside.lists.entries c.args.text.now = ap (λ o. unwrap_or o nothing) c.in-None.ensures.value in
     let written : Sets (slice_cmp nat_cmp) c.self.inside.lists.entries c.insert.new.self.entries c.args.text.now w =
     subst (λ (m : BTreeMap (List ℕ) Places). Sets (slice_cmp nat_cmp) m.entries c.insert.new.self.entries c.args.text.now w) c.get_mut.follows.holds-at-none
     (subst (λ (k : List ℕ). Sets (slice_cmp nat_cmp) c.get_mut.follows.lender-at-none.entries c.insert.new.self.entries k w) c.in_ok-copy-in-None.ensures c.in_ok-insert-in-None.ensures.updates.0) in
     subst (λ (es : List (List ℕ × Places)). (t : List ℕ) → (text_list c.insert.new.self.entries t).ids ≡ (text_list es t).ids) c.self.view_is
     (each_text (λ test old new. new ≡ old) (λ _. refl) c.self.inside.lists.entries _ c.args.text.now w written
-    (subst (λ (p : Places). w.ids ≡ p.ids) held (c.reserve-in-None.ensures.ids ∙ c.new-list.ensures.ids)))
+    (subst (λ (p : Places). w.ids ≡ p.ids) held (c.make_room-in-None.ensures.ids ∙ c.new-list.ensures)))

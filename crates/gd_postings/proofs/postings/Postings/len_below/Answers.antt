@@ -1,7 +1,9 @@
-use Rattle.gd_postings.proofs.Split.{is_count_here}
+use Rattle.std.proofs.Common.{ℕ, List, length, ap, ◌∙◌}
+use Rattle.gd_postings.specs.Postings.{ids_below}
+use Rattle.gd_postings.proofs.Split.{is_count}
 use Rattle.gd_postings.proofs.postings.Postings.len_below.Goals as goal
 
 pub returns-clause-len : goal.returns-clause-len
 returns-clause-len g c =
-    is_count_here c.deref.result.now (record { ids = c.self.inside.ids.items; spare = c.self.inside.spare }) c.args.self.now c.args.end c.search.result
-    c.deref.ensures.value c.self.view_is c.search.ensures.split
+    is_count c.as_slice.result.now c.args.end c.search.result c.search.ensures.split
+    ∙ ap (λ (ids : List ℕ). length (ids_below c.args.end ids)) c.as_slice.ensures.ids

@@ -13,31 +13,31 @@ use Rattle.gd_valueidx.specs.Values.{value_list, with_value}
 use Rattle.gd_valueidx.proofs.Each.{Sets, each_value, as_sets, found_list, old_value, new_value, always}
 use Rattle.gd_valueidx.proofs.values.Values.add.Goals as goal
 
-pub returns-in_err-reserve-in-Some-clause-err_lists : goal.returns-in_err-reserve-in-Some-clause-err_lists
-returns-in_err-reserve-in-Some-clause-err_lists c =
-    let w = c.reserve.new.self in
+pub returns-in_err-make_room-in-Some-clause-err_lists : goal.returns-in_err-make_room-in-Some-clause-err_lists
+returns-in_err-make_room-in-Some-clause-err_lists c =
+    let w = c.make_room.new.self in
     let found : c.in-Some.list.now ≡ value_list c.args.value.now c.self.inside.lists.entries = found_list c.self.inside.lists.entries c.args.value.now (Some c.in-Some.list.now) c.in-Some.ensures.value in
     let sets = as_sets c.self.inside.lists.entries (c.get_mut.follows.lender w).entries c.args.value.now (Some w) ((c.get_mut.follows.holds w).3 (subst IsSome c.in-Some.ensures.value (search rules))).0 in
     always c.from_residual.result _
     (subst (λ (es : List (Datum × Places)). (v : Datum) → (value_list v (c.get_mut.follows.lender w).entries).ids ≡ (value_list v es).ids) c.self.view_is
-    (each_value (λ b p q. q.ids ≡ p.ids) (λ _. refl) c.self.inside.lists.entries _ c.args.value.now (Some w) sets (c.reserve.ensures.ids ∙ ap (λ (p : Places). p.ids) found)))
+    (each_value (λ b p q. q.ids ≡ p.ids) (λ _. refl) c.self.inside.lists.entries _ c.args.value.now (Some w) sets (c.make_room.ensures.ids ∙ ap (λ (p : Places). p.ids) found)))
 
 pub push-requires-clause-above : goal.push-requires-clause-above
 push-requires-clause-above c =
     let found : c.in-Some.list.now ≡ value_list c.args.value.now c.self.inside.lists.entries = found_list c.self.inside.lists.entries c.args.value.now (Some c.in-Some.list.now) c.in-Some.ensures.value in
-    subst (λ (ids : List ℕ). IsAbove ids c.args.id) (ap (λ es. (value_list c.args.value.now es).ids) (sym c.self.view_is) ∙ ap (λ (p : Places). p.ids) (sym found) ∙ sym c.reserve.ensures.ids) c.requires.above
+    subst (λ (ids : List ℕ). IsAbove ids c.args.id) (ap (λ es. (value_list c.args.value.now es).ids) (sym c.self.view_is) ∙ ap (λ (p : Places). p.ids) (sym found) ∙ sym c.make_room.ensures.ids) c.requires.above
 
-pub returns-in_ok-reserve-in-Some-clause-lists : goal.returns-in_ok-reserve-in-Some-clause-lists
-returns-in_ok-reserve-in-Some-clause-lists c =
+pub returns-in_ok-make_room-in-Some-clause-lists : goal.returns-in_ok-make_room-in-Some-clause-lists
+returns-in_ok-make_room-in-Some-clause-lists c =
     let w = c.push.new.self in
     let found : c.in-Some.list.now ≡ value_list c.args.value.now c.self.inside.lists.entries = found_list c.self.inside.lists.entries c.args.value.now (Some c.in-Some.list.now) c.in-Some.ensures.value in
     let sets = as_sets c.self.inside.lists.entries (c.get_mut.follows.lender w).entries c.args.value.now (Some w) ((c.get_mut.follows.holds w).3 (subst IsSome c.in-Some.ensures.value (search rules))).0 in
     subst (λ (es : List (Datum × Places)). (v : Datum) → (value_list v (c.get_mut.follows.lender w).entries).ids ≡ with_entry (datum_eq c.args.value.now v) c.args.id (value_list v es).ids) c.self.view_is
     (each_value (λ b p q. q.ids ≡ with_entry b c.args.id p.ids) (λ _. refl) c.self.inside.lists.entries _ c.args.value.now (Some w) sets
-    (c.push.ensures.ids ∙ ap (λ ids. ids ++ c.args.id ∷ []) (c.reserve.ensures.ids ∙ ap (λ (p : Places). p.ids) found)))
+    (c.push.ensures.ids ∙ ap (λ ids. ids ++ c.args.id ∷ []) (c.make_room.ensures.ids ∙ ap (λ (p : Places). p.ids) found)))
 
-pub returns-in_ok-reserve-in-Some-clause-values : goal.returns-in_ok-reserve-in-Some-clause-values
-returns-in_ok-reserve-in-Some-clause-values c =
+pub returns-in_ok-make_room-in-Some-clause-values : goal.returns-in_ok-make_room-in-Some-clause-values
+returns-in_ok-make_room-in-Some-clause-values c =
     let w = c.push.new.self in
     old_value c.self.inside.lists.entries (c.get_mut.follows.lender w).entries c.args.value.now c.in-Some.list.now c.in-Some.ensures.value (c.get_mut.follows.holds w).1
     ∙ ap (λ es. with_value c.args.value.now (keys_of es)) c.self.view_is
@@ -53,7 +53,7 @@ returns-in_ok-insert-in-None-clause-lists c =
     subst (λ (es : List (Datum × Places)). (v : Datum) → (value_list v new).ids ≡ with_entry (datum_eq c.args.value.now v) c.args.id (value_list v es).ids) c.self.view_is
     (each_value (λ b p q. q.ids ≡ with_entry b c.args.id p.ids) (λ _. refl) c.self.inside.lists.entries new c.args.value.now (Some w)
     (as_sets c.self.inside.lists.entries new c.args.value.now (Some w) written)
-    (c.push-in-None.ensures.ids ∙ ap (λ ids. ids ++ c.args.id ∷ []) (c.reserve-in-None.ensures.ids ∙ c.new-list.ensures.ids ∙ ap (λ (p : Places). p.ids) found)))
+    (c.push-in-None.ensures.ids ∙ ap (λ ids. ids ++ c.args.id ∷ []) (c.make_room-in-None.ensures.ids ∙ c.new-list.ensures ∙ ap (λ (p : Places). p.ids) found)))
 
 pub returns-in_ok-insert-in-None-clause-values : goal.returns-in_ok-insert-in-None-clause-values
 returns-in_ok-insert-in-None-clause-values c =

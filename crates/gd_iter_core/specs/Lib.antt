@@ -1,0 +1,4 @@
+pub mod Owed
+pub mod Rising
+pub mod Sieved
+pub mod Positions

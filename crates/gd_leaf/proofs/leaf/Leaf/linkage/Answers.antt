@@ -1,0 +1,9 @@
+use Rattle.std.proofs.Common.{arith}
+use Rattle.gd_iter_core.specs.Rising.{from_all}
+use Rattle.gd_leaf.specs.declared.kind.Kind.TheVariants as kind
+use Rattle.gd_leaf.specs.Leaf.{leaf_set}
+use Rattle.gd_leaf.specs.Rising.{leaf_rises}
+use Rattle.gd_leaf.proofs.leaf.Leaf.linkage.Goals as goal
+
+pub returns-clause-owed : goal.returns-clause-owed
+returns-clause-owed c = λ batches. from_all 0 0 (leaf_set (kind.Linkage c.args.end c.args.node) batches) (omega arith) (leaf_rises (kind.Linkage c.args.end c.args.node) batches)

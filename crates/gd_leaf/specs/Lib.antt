@@ -1,0 +1,4 @@
+pub mod Leaf
+pub mod Places
+pub mod Rising
+pub mod Sorted

@@ -1,0 +1,4 @@
+pub mod Members
+pub mod Steps
+pub mod Unions
+pub mod Differences

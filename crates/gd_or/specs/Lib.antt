@@ -1,0 +1,3 @@
+pub mod Or
+pub mod Union
+pub mod Without

@@ -1,0 +1,20 @@
+use Rattle.std.proofs.Common.{◌≡◌, ◌≤◌, ◌+◌, List, ℕ, take, map, length, vec_len, vec_capacity}
+use Rattle.gd_input.specs.Rounds.{AreKept}
+use Rattle.gd_reply.specs.Replies.{reply_text}
+use Rattle.gd_served_laws.specs.Served.{Grows}
+use Rattle.gd_serving.specs.Running.{IsBacked}
+use Rattle.gd_serving.specs.Rounds.{Answered}
+use Rattle.gd_serving.proofs.serving.Serving.answer_lines.Given as goal
+
+abbrev pub invariant-loop-line : goal.invariant-loop-line
+invariant-loop-line g l = record {
+  answered : (texts : List (List ℕ)) → AreKept l.lines texts → Answered (g.C.Clock.may l.fn.clock) l.fn.self.progress l.self.progress (take l.line-index texts) (map reply_text l.replies.items)
+      (g.D.Disk.faults l.fn.self.log.disk) (g.D.Disk.faults l.self.log.disk);
+  next : l.self.progress.lines ≡ l.fn.self.progress.lines + l.line-index;
+  grows : Grows l.fn.self.progress.batches l.self.progress.batches;
+  backed : IsBacked g.D.Disk.content g.D.Disk.images l.fn.self → IsBacked g.D.Disk.content g.D.Disk.images l.self;
+  clock : g.C.Clock.may l.clock ≡ g.C.Clock.may l.fn.clock;
+  later : g.D.Disk.faults l.fn.self.log.disk ≤ g.D.Disk.faults l.self.log.disk;
+  count : vec_len l.replies ≡ l.line-index;
+  room : length l.lines ≤ vec_capacity l.replies;
+}

@@ -1,0 +1,10 @@
+use Rattle.std.proofs.Common.{◌∙◌, ap}
+use Rattle.gd_postings.specs.Postings.{first_from}
+use Rattle.gd_store.specs.Valued.{places_of_number}
+use Rattle.gd_store.proofs.Stored.{front_at}
+use Rattle.gd_store.proofs.store.Store.first_of_value.Goals as goal
+
+pub returns-clause-first : goal.returns-clause-first
+returns-clause-first g c =
+    c.first_of_value.ensures.first ∙ ap (λ prims. first_from c.args.from (places_of_number c.args.number prims))
+    (front_at c.self.inside.prims c.self.inside.requests.items c.self.inside.text c.args.self.now c.end.result c.args.dateline c.self.invariant c.self.view_is c.end.ensures)
