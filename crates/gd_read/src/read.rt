@@ -189,15 +189,7 @@ fn line_at<L>(
     ensures { IfOk result (λ bytes. bytes.items ≡ defs.reply (prims_at store.now dateline) dateline line with_cursor (mark_of after.now) (read_view request.now).query) }
 {
     let view = store.view(dateline);
-    query_line(
-        alloc,
-        &view,
-        line,
-        with_cursor,
-        after,
-        request,
-        steps,
-    )
+    query_line(alloc, &view, line, with_cursor, after, request, steps)
 }
 
 /// The reply line to the page behind a cursor, at its dateline.

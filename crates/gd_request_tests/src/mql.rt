@@ -56,6 +56,7 @@ fn prints_a_fault(rt: HostRuntime) {
         code: Code::Envelope,
         path: Path::root(rt.alloc()),
     };
-    let wanted = "the query is refused at Path { names: [] }: the envelope of the request is not one";
+    let wanted =
+        "the query is refused at Path { names: [] }: the envelope of the request is not one";
     assert!(rt; prints(rt.alloc(), &fault, wanted));
 }
