@@ -49,7 +49,7 @@ fn distinct(alloc: Global, places: &[u32]) -> Result<Postings, Memory>
         if *place >= PLACES {
             continue;
         }
-        list.reserve(1)?;
+        list.make_room()?;
         list.push(Id(*place));
         next = *place + 1;
     }

@@ -1,5 +1,6 @@
 pub mod Passing
 pub mod Frames
+pub mod Under
 pub mod Scans
 pub mod First
 pub mod Kept

@@ -2,7 +2,17 @@
 //! nothing: whoever calls it may use the law, and code above cites its statement from `specs/Laws.antt`.
 #![tactic(auto)]
 
-ghost use Rattle.gd_match_laws.specs.Laws.{BuildingRefuses, CountsPrint, HeavyStays, ReadingsPrint, RunsEnd, RunsGive, RunsKeep, ScansRefuse, ScansStay, WalksTell};
+ghost use Rattle.gd_match_laws.specs.Laws.{BuildingRefuses, CountsPrint, CurrentMoves, HeavyStays, LastMoves, ReadingsPrint, RunsEnd, RunsGive, RunsKeep, ScansRefuse, ScansStay, WalksTell};
+
+/// A move of the last of frames is one of all of them.
+pub fn last_moves()
+    ensures { LastMoves }
+{}
+
+/// A move within the current clause of a frame is one of the frame.
+pub fn current_moves()
+    ensures { CurrentMoves }
+{}
 
 /// A run of moves leaves what a scan owes, with the candidates that it gives before it.
 pub fn runs_keep()

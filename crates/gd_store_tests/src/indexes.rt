@@ -22,7 +22,7 @@ fn entered(alloc: Global, key: &Text) -> u32 {
 #[test]
 fn postings_reserved(rt: HostRuntime) {
     let mut postings = Postings::new(rt.alloc());
-    let well = postings.reserve(2).is_ok();
+    let well = postings.make_room().is_ok();
     assert!(rt; well);
 }
 

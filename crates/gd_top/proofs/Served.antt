@@ -10,12 +10,11 @@ use Rattle.gd_runs.specs.Explained.{Numbered, pieces, numbered, lines_of, lines_
 use Rattle.gd_runs.proofs.Rounds.{no_some}
 use Rattle.gd_input.specs.declared.round.Round.{Round}
 use Rattle.gd_input.specs.Rounds.{AreKept, in_round, TakesRound}
-use Rattle.gd_served_laws.specs.Served.{Progress, IsServed, AreUpto, GoesOn}
+use Rattle.gd_served_laws.specs.Served.{Progress, IsServed, AreUpto}
 use Rattle.gd_served_laws.proofs.Steps.{next}
 use Rattle.gd_served_laws.proofs.Going.{goes_without_memory, upto_more, after}
 use Rattle.gd_top.specs.Held.{HoldsAs, RoseBy, SameStore}
-use Rattle.gd_top.specs.Serves.{printed, Accounts, Serves, ServesFront, ServesRounds, GainsFront, Answers, AnswersFront, ServedUpto}
-use Rattle.gd_serving.specs.Rounds.{Answered}
+use Rattle.gd_top.specs.Serves.{printed, Accounts, Serves, ServesFront, ServesRounds, Answers, AnswersFront, ServedUpto}
 use Rattle.gd_serving.proofs.Rounds.{rose_none, rose_then, printed-append, fault_count-append}
 use Rattle.gd_top.proofs.Counted.{same_store, same_then}
 use Rattle.gd_top.proofs.Settled.{holds_as, holds_same}
@@ -23,41 +22,13 @@ use Rattle.gd_top.proofs.Split.{told_is}
 
 -- ---- the lines of a round
 
--- what was answered is printed
-pub answers_of : (may : ℕ → Bool) (p q : Progress) (texts replies : List (List ℕ)) (old new : Option (List ℕ)) (a b : ℕ) → Answered may p q texts replies a b → Appends old new (printed replies) → Answers may p q texts old new a b
-answers_of may p q texts replies old new a b answered gained = record { replies = replies; many = answered.many; goes = answered.goes; gained = gained; rose = answered.rose }
-
--- and so is a front of it
-pub front_of_answered : (may : ℕ → Bool) (p q : Progress) (texts replies : List (List ℕ)) (old new : Option (List ℕ)) (a b : ℕ) → Answered may p q texts replies a b → GainsFront old new (printed replies) → AnswersFront may p q texts old new a b
-front_of_answered may p q texts replies old new a b answered front = record {
-  output = front.piece;
-  rest = front.rest;
-  last = q;
-  replies = replies;
-  whole = front.parts;
-  many = answered.many;
-  same = same_store q;
-  goes = subst (λ (out : List ℕ). GoesOn may p q texts out) (sym front.parts) answered.goes;
-  gained = front.gained;
-  rose = answered.rose;
-}
-
--- what was answered in full is a front too
+-- what was printed in full is a front too
 pub whole_front : (may : ℕ → Bool) (p q : Progress) (texts : List (List ℕ)) (old new : Option (List ℕ)) (a b : ℕ) → Answers may p q texts old new a b → AnswersFront may p q texts old new a b
-whole_front may p q texts old new a b answers =
-    let all = append-nil (printed answers.replies) in
-    record {
-      output = printed answers.replies;
-      rest = [];
-      last = q;
-      replies = answers.replies;
-      whole = all;
-      many = answers.many;
-      same = same_store q;
-      goes = subst (λ (out : List ℕ). GoesOn may p q texts out) (sym all) answers.goes;
-      gained = answers.gained;
-      rose = answers.rose;
-    }
+whole_front may p q texts old new a b answers = record {
+  replies = answers.replies;
+  answered = answers.answered;
+  front = record { piece = printed answers.replies; rest = []; parts = append-nil (printed answers.replies); gained = answers.gained };
+}
 
 -- ---- whole rounds
 
@@ -97,10 +68,10 @@ served_more loaded may old mid new a b c p q input left after taken upto takes a
       lines = upto.lines ∙ (ap (λ (ls : List Numbered). upto.given ++ ls) (takes.rounds upto.round) ∙ sym (append_assoc upto.given (in_round upto.round takes.lines) (numbered (upto.round + 1) 0 (pieces [] after))));
       earlier = earlier_more upto.given upto.round takes.lines upto.earlier;
       served = subst (λ (out : List ℕ). IsServed loaded may (upto.given ++ in_round upto.round takes.lines) out q) (sym both)
-          (here.goes loaded upto.given (printed upto.replies) upto.round upto.served (upto_of upto.given upto.round upto.earlier));
-      many = omega (arith, upto.many, here.many, length-append upto.replies here.replies);
+          (here.answered.goes loaded upto.given (printed upto.replies) upto.round upto.served (upto_of upto.given upto.round upto.earlier));
+      many = omega (arith, upto.many, here.answered.many, length-append upto.replies here.replies);
       gained = subst (λ (out : List ℕ). Appends old new out) (sym both) (Appends-trans old mid new (printed upto.replies) (printed here.replies) upto.gained here.gained);
-      rose = subst (λ (n : ℕ). RoseBy a c n) (sym counts) (rose_then a b c (fault_count 0 upto.replies) (fault_count p.lines here.replies) upto.rose here.rose);
+      rose = subst (λ (n : ℕ). RoseBy a c n) (sym counts) (rose_then a b c (fault_count 0 upto.replies) (fault_count p.lines here.replies) upto.rose here.answered.rose);
     }
 
 -- an output that a run is served with is accounted for
@@ -251,38 +222,30 @@ front_in_round loaded may old mid new a b c p q input left after taken upto take
     let here = fronts takes.lines takes.kept in
     let upto_here = upto_of upto.given upto.round upto.earlier in
     let first = printed upto.replies in
-    let whole : (first ++ here.output) ++ here.rest ≡ printed (upto.replies ++ here.replies) =
-    append_assoc first here.output here.rest ∙ (ap (λ (o : List ℕ). first ++ o) here.whole ∙ sym (printed-append upto.replies here.replies)) in
+    let parts : (first ++ here.front.piece) ++ here.front.rest ≡ first ++ printed here.replies =
+    append_assoc first here.front.piece here.front.rest ∙ ap (λ (o : List ℕ). first ++ o) here.front.parts in
+    let whole : (first ++ here.front.piece) ++ here.front.rest ≡ printed (upto.replies ++ here.replies) = parts ∙ sym (printed-append upto.replies here.replies) in
     let counts : fault_count 0 (upto.replies ++ here.replies) ≡ fault_count 0 upto.replies + fault_count p.lines here.replies =
     fault_count-append 0 upto.replies here.replies ∙ ap (λ (k : ℕ). fault_count 0 upto.replies + fault_count k here.replies) (zero-add (length upto.replies) ∙ sym upto.many) in
-    front_at loaded may old new a c input after (upto.given ++ in_round upto.round takes.lines) (upto.round + 1) (first ++ here.output) here.rest (upto.replies ++ here.replies) q here.last
+    front_at loaded may old new a c input after (upto.given ++ in_round upto.round takes.lines) (upto.round + 1) (first ++ here.front.piece) here.front.rest (upto.replies ++ here.replies) q q
     (upto.lines ∙ (ap (λ (ls : List Numbered). upto.given ++ ls) (takes.rounds upto.round) ∙ sym (append_assoc upto.given (in_round upto.round takes.lines) (numbered (upto.round + 1) 0 (pieces [] after)))))
     (later_upto (upto.given ++ in_round upto.round takes.lines) upto.round (upto.round + 1) (omega arith) (upto_more upto.given upto.round takes.lines upto_here))
-    (subst (λ (out : List ℕ). IsServed loaded may (upto.given ++ in_round upto.round takes.lines) out here.last) (sym (append_assoc first here.output here.rest)) (here.goes loaded upto.given first upto.round upto.served upto_here))
-    here.same whole (omega (arith, upto.many, here.many, length-append upto.replies here.replies))
-    (subst (λ (n : ℕ). RoseBy a c n) (sym counts) (rose_then a b c (fault_count 0 upto.replies) (fault_count p.lines here.replies) upto.rose here.rose))
-    (Appends-trans old mid new first here.output upto.gained here.gained)
+    (subst (λ (out : List ℕ). IsServed loaded may (upto.given ++ in_round upto.round takes.lines) out q) (sym parts) (here.answered.goes loaded upto.given first upto.round upto.served upto_here))
+    (same_store q) whole (omega (arith, upto.many, here.answered.many, length-append upto.replies here.replies))
+    (subst (λ (n : ℕ). RoseBy a c n) (sym counts) (rose_then a b c (fault_count 0 upto.replies) (fault_count p.lines here.replies) upto.rose here.answered.rose))
+    (Appends-trans old mid new first here.front.piece upto.gained here.front.gained)
 
--- what was answered stays after a flush
+-- what was printed stays after a flush
 pub held_on : (may : ℕ → Bool) (p q : Progress) (texts : List (List ℕ)) (old mid new : Option (List ℕ)) (a b : ℕ) → Answers may p q texts old mid a b → Keeps mid new → Answers may p q texts old new a b
 held_on may p q texts old mid new a b answers kept = record {
   replies = answers.replies;
-  many = answers.many;
-  goes = answers.goes;
+  answered = answers.answered;
   gained = Appends-kept old mid new (printed answers.replies) answers.gained kept;
-  rose = answers.rose;
 }
 
 pub front_held : (may : ℕ → Bool) (p q : Progress) (texts : List (List ℕ)) (old mid new : Option (List ℕ)) (a b : ℕ) → AnswersFront may p q texts old mid a b → Keeps mid new → AnswersFront may p q texts old new a b
 front_held may p q texts old mid new a b front kept = record {
-  output = front.output;
-  rest = front.rest;
-  last = front.last;
   replies = front.replies;
-  whole = front.whole;
-  many = front.many;
-  same = front.same;
-  goes = front.goes;
-  gained = Appends-kept old mid new front.output front.gained kept;
-  rose = front.rose;
+  answered = front.answered;
+  front = record { piece = front.front.piece; rest = front.front.rest; parts = front.front.parts; gained = Appends-kept old mid new front.front.piece front.front.gained kept };
 }

@@ -1,12 +1,13 @@
 -- What a run prints for its input.
-use Rattle.std.specs.Prelude.{◌≡◌, ℕ, ◌+◌, ◌<◌, List, [], ◌++◌, length, Bool, Option, Some, slice_get}
+use Rattle.std.specs.Prelude.{◌≡◌, ℕ, ◌<◌, List, [], ◌++◌, length, Bool, Option, Some, slice_get}
 use Rattle.std.specs.Io.KnownBytes.{Appends}
 use Rattle.gd_prim.specs.declared.Batch.{Batch}
 use Rattle.gd_runs.specs.Legal.{History}
 use Rattle.gd_runs.specs.Explained.{Numbered, Run, pieces, numbered, lines_of, lines_within, IsExplainedBy, fault_count, faults_told}
-use Rattle.gd_served_laws.specs.Served.{Progress, IsServed, GoesOn}
+use Rattle.gd_served_laws.specs.Served.{Progress, IsServed}
 pub use Rattle.gd_serving.specs.Rounds.{printed}
-use Rattle.gd_top.specs.Held.{RoseBy, SameStore}
+use Rattle.gd_serving.specs.Rounds.{Answered}
+use Rattle.gd_top.specs.Held.{RoseBy}
 
 -- One legal history explains this output for these lines. It begins with a list that the run may begin with, its moments are such as the clock may give, what it leaves in the file stands for it, and the count of faults rose by the lines that tell one.
 pub record Accounts (may : ℕ → Bool) (begins : List Batch → Type 0) (leaves : History → List Run → Type 0) (rises : ℕ → Type 0) (given : List Numbered) (output : List ℕ) : Type 0 where
@@ -47,26 +48,17 @@ pub record GainsFront (old new : Option (List ℕ)) (whole : List ℕ) : Type 0 
   pub parts : piece ++ rest ≡ whole
   pub gained : Appends old new piece
 
--- The run went on with these lines of a round, the sink gained what was printed for them, and the faults that it tells were counted.
+-- The run went on with these lines of a round, and the sink gained what is printed for them.
 pub record Answers (may : ℕ → Bool) (p q : Progress) (texts : List (List ℕ)) (old new : Option (List ℕ)) (before after : ℕ) : Type 0 where
   pub replies : List (List ℕ)
-  pub many : q.lines ≡ p.lines + length replies
-  pub goes : GoesOn may p q texts (printed replies)
+  pub answered : Answered may p q texts replies before after
   pub gained : Appends old new (printed replies)
-  pub rose : RoseBy before after (fault_count p.lines replies)
 
--- The run came to the second progress, and could go on from there with the other lines of a round and the same store; the sink gained a front of what is printed for all of them then.
+-- The run went on with these lines of a round, and the sink gained a front of what is printed for them.
 pub record AnswersFront (may : ℕ → Bool) (p q : Progress) (texts : List (List ℕ)) (old new : Option (List ℕ)) (before after : ℕ) : Type 0 where
-  pub output : List ℕ
-  pub rest : List ℕ
-  pub last : Progress
   pub replies : List (List ℕ)
-  pub whole : output ++ rest ≡ printed replies
-  pub many : last.lines ≡ p.lines + length replies
-  pub same : SameStore q last
-  pub goes : GoesOn may p last texts (output ++ rest)
-  pub gained : Appends old new output
-  pub rose : RoseBy before after (fault_count p.lines replies)
+  pub answered : Answered may p q texts replies before after
+  pub front : GainsFront old new (printed replies)
 
 -- Before what is left of the input stand whole rounds: the run was served with their lines, the sink gained what was printed for them, and the faults that it tells were counted.
 pub record ServedUpto (loaded : List Batch) (may : ℕ → Bool) (old new : Option (List ℕ)) (before after : ℕ) (p : Progress) (input left : List ℕ) : Type 0 where

@@ -2,7 +2,7 @@ use Rattle.std.proofs.Common.{rules, arith}
 use Rattle.std.proofs.lemmas.Grind.{common_steps}
 use Rattle.gd_serving.specs.Rounds.{reply_texts}
 use Rattle.gd_top.proofs.Printed.{at_err}
-use Rattle.gd_top.proofs.Served.{answers_of, front_of_answered, whole_front, held_on, front_held}
+use Rattle.gd_top.proofs.Served.{whole_front, held_on, front_held}
 use Rattle.gd_top.proofs.rounds.answer_round.Goals as goal
 
 pub returns-in_err-printed : goal.returns-in_err-printed
@@ -18,7 +18,7 @@ returns-in_err-printed g c =
     record {
       all = first_of (search rules, grind (arith, common_steps));
       front = λ texts kept. at_err c.from_residual.result (front_held may p q texts old mid new before after
-          (front_of_answered may p q texts (reply_texts c.answer_round-replies.result) old mid before after (c.answer_round-replies.ensures.answered texts kept) c.in_err-printed.ensures.front) c.flush-sent.ensures.bytes);
+          (record { replies = reply_texts c.answer_round-replies.result; answered = c.answer_round-replies.ensures.answered texts kept; front = c.in_err-printed.ensures.front }) c.flush-sent.ensures.bytes);
       next = first_of (search rules, grind (arith, common_steps));
       grows = c.answer_round-replies.ensures.grows;
       backed = c.answer_round-replies.ensures.backed;
@@ -41,7 +41,7 @@ returns-in_err-sent g c =
     record {
       all = first_of (search rules, grind (arith, common_steps));
       front = λ texts kept. at_err c.from_residual-in_err-sent.result (whole_front may p q texts old new before after (held_on may p q texts old mid new before after
-          (answers_of may p q texts (reply_texts c.answer_round-replies.result) old mid before after (c.answer_round-replies.ensures.answered texts kept) c.in_ok-printed.ensures.all) c.flush-sent.ensures.bytes));
+          (record { replies = reply_texts c.answer_round-replies.result; answered = c.answer_round-replies.ensures.answered texts kept; gained = c.in_ok-printed.ensures.all }) c.flush-sent.ensures.bytes));
       next = first_of (search rules, grind (arith, common_steps));
       grows = c.answer_round-replies.ensures.grows;
       backed = c.answer_round-replies.ensures.backed;
@@ -63,7 +63,7 @@ returns g c =
     let after = g.D.Disk.faults c.answer_round-replies.new.self.log.disk in
     record {
       all = λ texts kept. held_on may p q texts old mid new before after
-          (answers_of may p q texts (reply_texts c.answer_round-replies.result) old mid before after (c.answer_round-replies.ensures.answered texts kept) c.in_ok-printed.ensures.all) c.flush-sent.ensures.bytes;
+          (record { replies = reply_texts c.answer_round-replies.result; answered = c.answer_round-replies.ensures.answered texts kept; gained = c.in_ok-printed.ensures.all }) c.flush-sent.ensures.bytes;
       front = first_of (search rules, grind (arith, common_steps));
       next = c.answer_round-replies.ensures.next;
       grows = c.answer_round-replies.ensures.grows;
