@@ -5,7 +5,6 @@ use Rattle.gd_grammar.specs.Chain.{◌>>=◌, map_err}
 use Rattle.gd_prim.specs.declared.Primitive.{Primitive}
 use Rattle.gd_prim.specs.Live.{objects, successor}
 use Rattle.gd_tree.specs.Json as tree
-use Rattle.gd_defs.specs.Ids.{id_text, guid}
 use Rattle.gd_defs.specs.Asked.{Unknown}
 use Rattle.gd_defs.specs.Property.{Property, answers}
 use Rattle.gd_defs.specs.Query.{bad_connect, bad_previous}
@@ -13,8 +12,8 @@ use Rattle.gd_defs.specs.Change as change
 use Rattle.gd_defs.specs.Change.{CreateWord, unless_exists, unconditional, ConnectWord, insert, delete, update}
 use Rattle.gd_defs.specs.Write.{carried_root, root_subject}
 use Rattle.gd_defs.specs.Write.Parts.{Target, to_object, to_value, to_key, has_fact, is_target, equal_links, Item, as_spelled, its_id, its_guid, fact, connect, nested, several, ManyItems, no_more, and_then, Members, no_members, member, created}
-use Rattle.gd_defs.specs.Write.Links.{ChangeFault, unknown, not_unique, key_taken, stale_version, full, Stamp, Done, deletion, new_link, other_holder, unless_taken, refused, inserted, deleted, updated, is_link_of, updated_from, connected}
-use Rattle.gd_defs.specs.Write.Carried.{answered, has_own, Made, Subject, subject_of, created_text, fact_made, carried, carried_item, carried_items}
+use Rattle.gd_defs.specs.Write.Links.{ChangeFault, unknown, not_unique, stale_version, full, Stamp, Done, deletion, new_link, other_holder, unless_taken, refused, inserted, deleted, updated, is_link_of, updated_from, connected}
+use Rattle.gd_defs.specs.Write.Carried.{answered, has_own, Subject, subject_of, created_text, fact_made, carried, carried_item, carried_items}
 
 -- the refusal tells of no limit
 abbrev pub IsLimitless : ChangeFault → Type 0

@@ -1,7 +1,5 @@
-use Rattle.std.proofs.Common.{ap, sym, subst, List, Result}
-use Rattle.gd_prim.specs.declared.Batch.{Batch}
+use Rattle.std.proofs.Common.{subst, List}
 use Rattle.gd_prim.specs.declared.Primitive.{Primitive}
-use Rattle.gd_prim.specs.History.{prims_of}
 use Rattle.gd_mql.specs.Requests.{write_view}
 use Rattle.gd_carry.specs.Exec.{written}
 use Rattle.gd_change.specs.Fault.{GivesChange}
