@@ -44,7 +44,7 @@ CRATES = [
     ("gd_prim", "Primitives: the built-in ones, which of them are live, and which batches may follow.",
      ["Builtin", "Live", "Keys", "End", "History", "Limits", "WellFormed"], False),
     ("gd_linkage", "The places of primitives by the nodes that they name.", ["Linkage"], False),
-    ("gd_valueidx", "Values by number, and the places of each.", ["Values"], False),
+    ("gd_valueidx", "Values by number, the places of each, and the values between two.", ["Values", "Ranked"], False),
     ("gd_store", "What views say of values.", ["Valued"], False),
     ("gd_defs", "The meaning of queries and writes over a list of primitives.",
      ["History", "Ids", "Moment", "Pattern", "Data", "Property",

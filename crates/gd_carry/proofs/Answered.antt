@@ -1,8 +1,8 @@
 -- The members of a connect form, with the answer in place of the word.
-use Rattle.std.proofs.Common.{◌≡◌, ◌<◌, ◌≤◌, ◌+◌, ℕ, List, [], ◌∷◌, ◌++◌, Bool, true, false, refl, sym, ap, ◌∙◌, map, drop, length, get_or, codes, bytes_eq}
+use Rattle.std.proofs.Common.{◌≡◌, ◌<◌, ◌≤◌, ◌+◌, ℕ, List, [], ◌∷◌, ◌++◌, Bool, true, false, sym, ap, ◌∙◌, map, drop, length, get_or, codes, bytes_eq}
 use Rattle.std.specs.Prelude.{if◌then◌else◌}
 use Rattle.gd_tree.specs.Json as tree
-use Rattle.gd_json.specs.View.{view, members_of, members_view, member_view}
+use Rattle.gd_json.specs.View.{view, members_view, member_view}
 use Rattle.gd_json.specs.declared.value.Json.{Json}
 use Rattle.gd_defs.specs.Write.Carried.{answered}
 use Rattle.gd_carry.specs.Printed.{pairs_before}

@@ -1,11 +1,10 @@
 -- Members and items that are printed.
-use Rattle.std.proofs.Common.{◌≡◌, ℕ, List, [], ◌∷◌, ◌++◌, Bool, true, false, refl, sym, ap, ◌∙◌, map, codes, length, zero, suc, ◌≤◌, arith}
-use Rattle.std.specs.Prelude.{take, if◌then◌else◌, bytes_eq}
+use Rattle.std.proofs.Common.{◌≡◌, ℕ, List, [], ◌∷◌, ◌++◌, refl, ap, ◌∙◌, map, length, zero, suc, ◌≤◌, arith}
+use Rattle.std.specs.Prelude.{take}
 use Rattle.gd_prim.specs.declared.Primitive.{Primitive}
 use Rattle.gd_tree.specs.Json as tree
 use Rattle.gd_json.specs.View.{view, items_of, members_of, members_view, member_view}
 use Rattle.gd_json.specs.declared.value.Json.{Json}
-use Rattle.gd_defs.specs.Write.Carried.{answered}
 use Rattle.gd_carry.specs.Printed.{Field, printed_view, pair_view, pairs_before, fields_view, many_view}
 use Rattle.gd_carry.specs.declared.print.Printed.{Printed}
 

@@ -2,6 +2,7 @@ pub mod Answered
 pub mod Depths
 pub mod Facts
 pub mod Fields
+pub mod Leading
 pub mod Nested
 pub mod Nesting
 pub mod Owners

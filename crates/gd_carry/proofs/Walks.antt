@@ -1,5 +1,5 @@
 -- Members and items that are carried out, one after another.
-use Rattle.std.proofs.Common.{◌≡◌, ℕ, List, [], ◌∷◌, ◌++◌, Result, Ok, Err, refl, sym, ap, ◌∙◌, map, drop, length, get_or, ◌<◌, ◌≤◌, ◌+◌, zero, suc, add-one, drop-cons, arith}
+use Rattle.std.proofs.Common.{◌≡◌, ℕ, List, [], ◌∷◌, ◌++◌, Result, Ok, Err, refl, sym, ap, ◌∙◌, drop, length, get_or, ◌<◌, ◌≤◌, ◌+◌, zero, suc, add-one, drop-cons, arith}
 use Rattle.gd_grammar.specs.Chain.{◌>>=◌}
 use Rattle.gd_prim.specs.declared.Primitive.{Primitive}
 use Rattle.gd_tree.specs.Json as tree

@@ -2,3 +2,4 @@ pub mod Printed
 pub mod Outcome
 pub mod Exec
 pub mod Depth
+pub mod Lead

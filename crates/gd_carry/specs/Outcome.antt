@@ -1,5 +1,5 @@
 -- What carrying out a part of a write comes to.
-use Rattle.std.specs.Prelude.{◌≡◌, ◌≢◌, ℕ, List, [], ◌∷◌, Bool, true, ◌&&◌, Option, Some, None, Result, Ok, Err, MatchResult}
+use Rattle.std.specs.Prelude.{◌≡◌, ◌≢◌, ℕ, List, [], ◌∷◌, Bool, true, ◌&&◌, Result, Ok, Err, MatchResult}
 use Rattle.gd_grammar.specs.Chain.{◌>>=◌}
 use Rattle.gd_prim.specs.declared.Batch.{Batch}
 use Rattle.gd_prim.specs.declared.Primitive.{Primitive}
@@ -8,16 +8,13 @@ use Rattle.gd_tree.specs.Json as tree
 use Rattle.gd_json.specs.View.{view as json_view, members_view as json_members}
 use Rattle.gd_json.specs.declared.value.Json.{Json}
 use Rattle.gd_defs.specs.Asked as asked
-use Rattle.gd_defs.specs.Change.{Root, to_create, existing_object}
 use Rattle.gd_defs.specs.Write as write
 use Rattle.gd_defs.specs.Write.Parts as parts
 use Rattle.gd_defs.specs.Write.Carried as defined
 use Rattle.gd_defs.specs.Write.Links as links
-use Rattle.gd_growing.specs.declared.fault.LinkFault.{LinkFault}
-use Rattle.gd_growing.specs.declared.fault.LinkFault.TheVariants as link
 use Rattle.gd_compile.specs.declared.fault.Unknown.{Unknown}
 use Rattle.gd_compile.specs.declared.fault.Unknown.TheVariants as unknown
-use Rattle.gd_compile.specs.Fault.{code_view, unknown_of}
+use Rattle.gd_compile.specs.Fault.{code_view}
 use Rattle.gd_growing.specs.declared.links.Answer.{Answer}
 use Rattle.gd_growing.specs.Seen.{target_view, answer_word}
 use Rattle.gd_mql.specs.Changes.{connect_view as word_view}
@@ -30,8 +27,8 @@ use Rattle.gd_carry.specs.Printed.{Field, printed_view, before, many_before}
 use Rattle.gd_carry.specs.declared.fault.ChangeFault.{ChangeFault}
 use Rattle.gd_carry.specs.declared.fault.ChangeFault.TheVariants as fault
 use Rattle.gd_carry.specs.declared.print.Printed.{Printed}
-use Rattle.gd_carry.specs.declared.subject.Owner.{Owner}
-use Rattle.gd_carry.specs.declared.subject.Owner.TheVariants as owner
+use Rattle.gd_carry.specs.declared.owner.Owner.{Owner}
+use Rattle.gd_carry.specs.declared.owner.Owner.TheVariants as owner
 use Rattle.gd_carry.specs.declared.subject.Subject.{Subject}
 
 -- the refusal that this is; want of memory is none, and what it is here tells nothing
@@ -104,12 +101,6 @@ abbrev pub owner_of : List ℕ → Owner
 owner_of [] = owner.Nobody
 owner_of (o ∷ []) = owner.One o
 owner_of _ = owner.Several
-
--- the objects that were found, as far as it matters
-abbrev pub owners : Owner → List ℕ
-owners owner.Nobody = []
-owners (owner.One o) = o ∷ []
-owners owner.Several = 0 ∷ 0 ∷ []
 
 -- The call gives the object of a clause, with this list afterwards; or the refusal, in whose place want of memory may come.
 abbrev pub GivesSubject : Result defined.Subject write.ChangeFault → List Primitive → Result Subject ChangeFault → Type 0

@@ -5,5 +5,7 @@ mod carry;
 pub mod exec;
 pub mod fault;
 mod fill;
+mod lead;
+mod owner;
 mod print;
 mod subject;

@@ -32,13 +32,13 @@ const NAME: Id = Id(13);
 /// The type of texts, which names are.
 const TEXT: Id = Id(7);
 
-/// What a member asks of a property where nothing else is said: its answers as they stand, up to 100.
-fn bare_asking(alloc: Global, property: &Property, style: Style) -> Asking
-    ensures { asking_view result ≡ forms.bare_asking property.now (style_view style) }
+/// What a member asks of a property where nothing else is said but a test: its answers as they stand, up to 100.
+fn asking_with(alloc: Global, property: &Property, style: Style, test: Test) -> Asking
+    ensures { asking_view result ≡ record (forms.bare_asking property.now (style_view style)) { test = test_view test } }
 {
     Asking {
         property: *property,
-        test: Test::Anything,
+        test,
         mode: Mode::Optional,
         given: false,
         counted: true,
@@ -48,6 +48,13 @@ fn bare_asking(alloc: Global, property: &Property, style: Style) -> Asking
         sort: Vec::new(alloc),
         limit: USUAL_LIMIT,
     }
+}
+
+/// What a member asks of a property where nothing else is said.
+fn bare_asking(alloc: Global, property: &Property, style: Style) -> Asking
+    ensures { asking_view result ≡ forms.bare_asking property.now (style_view style) }
+{
+    asking_with(alloc, property, style, Test::Anything)
 }
 
 /// The property `name`.
@@ -67,10 +74,9 @@ fn name_asking(alloc: Global, mode: Mode, given: bool, test: Test) -> Asking
     ensures { asking_view result ≡ record (forms.bare_asking forms.name_property defs.as_value) { test = test_view test; mode = mode_of mode; given = given } }
 {
     Asking {
-        test,
         mode,
         given,
-        ..bare_asking(alloc, &name_property(), Style::Value)
+        ..asking_with(alloc, &name_property(), Style::Value, test)
     }
 }
 
@@ -78,11 +84,18 @@ fn name_asking(alloc: Global, mode: Mode, given: bool, test: Test) -> Asking
 fn asks(alloc: Global, name: &str, asking: Asking, clause: Vec<Member>) -> Result<Member, Memory>
     ensures { IfOk result (λ member. put member ≡ defs.asks name.now (asking_view asking) (members_view clause.items)) }
 {
-    Ok(Member::Asks {
-        name: JsonText::from_str(alloc, name)?,
-        asking,
-        clause,
-    })
+    match JsonText::from_str(alloc, name) {
+        Ok(name) => Ok(Member::Asks {
+            name,
+            asking,
+            clause,
+        }),
+        Err(refused) => {
+            drop(asking);
+            drop(clause);
+            Err(refused)
+        }
+    }
 }
 
 /// The members of the clause of one member.
@@ -167,10 +180,9 @@ fn tested_asking(
     ensures { asking_view result ≡ record (forms.bare_asking property.now (style_view style)) { test = test_view test; mode = required; given = literal } }
 {
     Asking {
-        test,
         mode: Mode::Required,
         given: literal,
-        ..bare_asking(alloc, property, style)
+        ..asking_with(alloc, property, style, test)
     }
 }
 
@@ -199,20 +211,40 @@ pub(crate) fn operand_form(
 ) -> Result<Member, Memory>
     ensures { IfOk result (λ member. put member ≡ forms.operand_form name.now property.now (expects_view expects) literal (json_of json.now) (test_view test)) }
 {
-    let style = Style::Operand(json.copy()?);
-    match expects {
-        Expects::PlainObject => {
-            let clause = name_test(alloc, Mode::Required, literal, test)?;
-            asks(
-                alloc,
-                name,
-                named_asking(alloc, property, style, literal),
-                clause,
-            )
+    match json.copy() {
+        Ok(json) => operand_asks(alloc, name, property, expects, literal, json, test),
+        Err(refused) => {
+            drop(test);
+            Err(refused)
         }
-        _ => {
-            let asking = tested_asking(alloc, property, style, literal, test);
-            asks(alloc, name, asking, Vec::new(alloc))
+    }
+}
+
+/// The same with an operand of its own.
+fn operand_asks(
+    alloc: Global,
+    name: &str,
+    property: &Property,
+    expects: Expects,
+    literal: bool,
+    operand: Json,
+    test: Test,
+) -> Result<Member, Memory>
+    ensures { IfOk result (λ member. put member ≡ forms.operand_form name.now property.now (expects_view expects) literal (json_of operand) (test_view test)) }
+{
+    let style = Style::Operand(operand);
+    if !matches!(expects, Expects::PlainObject) {
+        let asking = tested_asking(alloc, property, style, literal, test);
+        return asks(alloc, name, asking, Vec::new(alloc));
+    }
+    match name_test(alloc, Mode::Required, literal, test) {
+        Ok(clause) => {
+            let asking = named_asking(alloc, property, style, literal);
+            asks(alloc, name, asking, clause)
+        }
+        Err(refused) => {
+            drop(style);
+            Err(refused)
         }
     }
 }

@@ -41,6 +41,15 @@ fn plain_own(alloc: Global, name: &Name<'_>, own: Own) -> Result<Member, Memory>
     })
 }
 
+/// The text of a name, and a copy of an operand.
+fn texts_of(alloc: Global, name: &str, json: &Json) -> Result<(JsonText, Json), Memory>
+    ensures name { IfOk result (λ texts. texts.0 ≡ name.now) }
+    ensures operand { IfOk result (λ texts. json_of texts.1 ≡ json_of json.now) }
+{
+    let operand = json.copy()?;
+    Ok((JsonText::from_str(alloc, name)?, operand))
+}
+
 /// The computed member that a literal or an operand asks, with its test. The operand is copied.
 fn tested_own(
     alloc: Global,
@@ -51,12 +60,18 @@ fn tested_own(
 ) -> Result<Member, Memory>
     ensures { IfOk result (λ member. put member ≡ defs.own name.now.spelled.now (own_view own) (test_view test) (Some (json_of json.now))) }
 {
-    Ok(Member::Own {
-        name: JsonText::from_str(alloc, name.spelled)?,
-        own,
-        test,
-        operand: Some(json.copy()?),
-    })
+    match texts_of(alloc, name.spelled, json) {
+        Ok((name, operand)) => Ok(Member::Own {
+            name,
+            own,
+            test,
+            operand: Some(operand),
+        }),
+        Err(refused) => {
+            drop(test);
+            Err(refused)
+        }
+    }
 }
 
 /// What a computed member asks, by its form: null, or a literal or an operand with the test that its word makes of it. `path`

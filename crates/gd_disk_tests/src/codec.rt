@@ -1,47 +1,26 @@
 //! Groups of batches as bytes.
-use gd_base::memory::Memory;
-use gd_codec::{CodecFault, decode_group, encode_group};
-use std::alloc::{AllocError, Global};
+use gd_codec::decode_group;
+use std::alloc::Global;
 
-/// An object named Ann, as the first request of a store writes it.
-pub(crate) const ANN: [u8; 29] = [
-    0, 1, 0, 0, 0, 0, 0, 0, 0, 0, 0, 2, 0x40, 0, 0x45, 0, 0, 0, 0x46, 0, 0, 0, 0x0d, 1, 0, 3, 0x41,
+/// The first write of a store, of an object with a name, whose first byte begins no UTF-8.
+const BAD: [u8; 29] = [
+    0, 1, 0, 0, 0, 0, 0, 0, 0, 0, 0, 2, 0x40, 0, 0x45, 0, 0, 0, 0x46, 0, 0, 0, 0x0d, 1, 0, 3, 0xff,
     0x6e, 0x6e,
 ];
 
-/// Reads the group and writes it.
-fn again(alloc: Global) -> Result<Vec<u8>, CodecFault> {
-    let group = decode_group(alloc, &ANN)?;
-    match encode_group(alloc, group.batches()) {
-        Ok(bytes) => Ok(bytes),
-        Err(Memory) => Err(CodecFault::Memory),
+/// Why the bytes are refused, as a text.
+fn refusal(alloc: Global) -> Option<String> {
+    match decode_group(alloc, &BAD) {
+        Ok(_) => None,
+        Err(fault) => format!(in alloc; "{fault}").ok(),
     }
-}
-
-/// Whether it has the same bytes again.
-fn is_same(alloc: Global) -> bool {
-    match again(alloc) {
-        Ok(bytes) => bytes.as_slice() == ANN.as_slice(),
-        Err(_) => false,
-    }
-}
-
-#[test]
-fn a_group_is_read_and_written(rt: HostRuntime) {
-    assert!(rt; is_same(rt.alloc()));
-}
-
-/// A refusal as a text.
-fn printed(alloc: Global) -> Result<String, AllocError> {
-    let bad = CodecFault::BadBytes { offset: 7 };
-    format!(in alloc; "{bad}")
 }
 
 /// Whether it says where the bytes are none.
 fn says_where(alloc: Global) -> bool {
-    match printed(alloc) {
-        Ok(text) => text.as_str() == "the bytes are no group of batches at byte 7",
-        Err(_) => false,
+    match refusal(alloc) {
+        Some(text) => text.as_str() == "the bytes are no group of batches at byte 26",
+        None => false,
     }
 }
 

@@ -8,39 +8,23 @@ use gd_journal::opening::open_journal;
 use gd_journal::payloads::{Payload, Payloads};
 use std::alloc::Global;
 
-/// A store of the payload `ab`.
-const ONE: &[u8] = b"GRAPHD1\n\x01\0\0\0\x02ab\0";
-
-/// The same store with the payload `c`.
+/// A store of the payloads `ab` and `c`.
 const TWO: &[u8] = b"GRAPHD1\n\x01\0\0\0\x02ab\x01\0\0\0\x01c\0";
 
-/// Opens a file in memory, of whose calls some fail.
-fn opened(alloc: Global, file: &[u8], failing: &[u64]) -> Result<Journal<MemoryDisk>, JournalFault>
+/// Opens a file in memory.
+fn opened(alloc: Global, file: &[u8]) -> Result<Journal<MemoryDisk>, JournalFault>
     ensures no_doubt { IfOk result (λ journal. journal.doubt ≡ None) }
 {
-    let disk = MemoryDisk::new(alloc, file, failing)?;
+    let disk = MemoryDisk::new(alloc, file, &[])?;
     match open_journal(alloc, disk) {
         Ok(journal) => Ok(journal),
         Err((fault, _)) => Err(fault),
     }
 }
 
-/// Whether a file that a stop left is opened, and cut behind its last gate.
-fn is_cut(alloc: Global) -> bool {
-    match opened(alloc, b"GRAPHD1\n\x01\0\0\0\x02ab\0\0\0\0\x01", &[]) {
-        Ok(journal) => journal.into_disk().bytes() == ONE,
-        Err(_) => false,
-    }
-}
-
-#[test]
-fn opening_cuts(rt: HostRuntime) {
-    assert!(rt; is_cut(rt.alloc()));
-}
-
 /// Reads a file of two payloads.
 fn payloads(alloc: Global) -> Result<Payloads, JournalFault> {
-    let mut journal = opened(alloc, TWO, &[])?;
+    let mut journal = opened(alloc, TWO)?;
     journal.read_all(alloc)
 }
 

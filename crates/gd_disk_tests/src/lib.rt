@@ -1,4 +1,4 @@
-//! Tests of the disk's crates: calls with ample memory, and real files.
+//! Tests of the disk's crates: real files, and what no case reaches.
 #![tactic(auto)]
 
 #[cfg(test)]
@@ -7,7 +7,3 @@ mod codec;
 mod file;
 #[cfg(test)]
 mod journal;
-#[cfg(test)]
-mod log;
-#[cfg(test)]
-mod memory;

@@ -63,7 +63,7 @@ answers_live prims p o = by p.reversed
     by true = refl
     by false = refl
 
-range_split : (k a b : ℕ) → range_with_len k (a + b) ≡ range_with_len k a ++ range_with_len (k + a) b
+pub range_split : (k a b : ℕ) → range_with_len k (a + b) ≡ range_with_len k a ++ range_with_len (k + a) b
 range_split k zero b =
     let none : 0 + b ≡ b = omega arith in
     let same : k ≡ k + 0 = omega arith in
@@ -72,6 +72,10 @@ range_split k (suc a) b =
     let more : suc a + b ≡ suc (a + b) = omega arith in
     ap (range_with_len k) more
     ∙ ap (λ xs. k ∷ xs) (range_split (k + 1) a b ∙ ap (λ n. range_with_len (k + 1) a ++ range_with_len n b) (let same : k + 1 + a ≡ k + suc a = omega arith in same))
+
+-- the answers, as a filter of all places
+pub answers_all : (prims : List Primitive) (p : Property) (o : ℕ) → answers prims p o ≡ filter (is_answer_at prims p o) (range_with_len 0 (length prims))
+answers_all prims p o = answers_live prims p o ∙ live_where-places (is_answer prims p o) prims
 
 -- a place below the end of a front that has the object at the end by which the property is asked
 abbrev stands_by : List Primitive → Property → ℕ → ℕ → Bool

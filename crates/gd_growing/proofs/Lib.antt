@@ -1,5 +1,6 @@
 pub mod Answering
 pub mod Behind
+pub mod Held
 pub mod Naming
 pub mod Targets
 pub mod Updating

@@ -63,7 +63,7 @@ gives_no_text prims p k t holds = ap (λ d. datum_eq d (datum.Text t)) (gives_ob
 -- ---- facts
 
 -- a fact holds where some answer leads to the target
-some_holds : (prims : List Primitive) (p : Property) (o : ℕ) (t : Target) → list_any (is_target prims p t) (answers prims p o) ≡ has_fact prims p o t
+pub some_holds : (prims : List Primitive) (p : Property) (o : ℕ) (t : Target) → list_any (is_target prims p t) (answers prims p o) ≡ has_fact prims p o t
 some_holds prims p o t = list_any-filter (is_target prims p t) (answers prims p o)
 
 -- below a front, or behind it

@@ -1,4 +1,5 @@
 pub mod State
 pub mod Scan
+pub mod Facts
 pub mod Seen
 pub mod Carried

@@ -1,10 +1,14 @@
 -- What is looked for over a list of primitives.
-use Rattle.std.specs.Prelude.{ℕ, List, [], ◌∷◌, Bool, ◌&&◌, Option, Some, None, is_some, option_map, find, if◌then◌else◌}
+use Rattle.std.specs.Prelude.{ℕ, List, [], ◌∷◌, Bool, ◌&&◌, Option, Some, None, is_some, option_map, option_and_then, find, if◌then◌else◌}
 use Rattle.std.specs.List.{enumerate_from}
+use Rattle.gd_base.specs.declared.datum.Datum.{Datum}
+use Rattle.gd_base.specs.declared.datum.Datum.TheVariants as datum
 use Rattle.gd_prim.specs.declared.Primitive.{Primitive}
+use Rattle.gd_prim.specs.declared.End.{End}
+use Rattle.gd_prim.specs.declared.End.TheVariants.{Left, Right}
 use Rattle.gd_prim.specs.Live.{refers, is_live, passes_at, end_at}
 use Rattle.gd_defs.specs.Property.{Property, expects_of, holds_expected, leads_to_object, near_of}
-use Rattle.gd_defs.specs.Write.Parts.{Target, is_target}
+use Rattle.gd_defs.specs.Write.Parts.{Target, to_object, to_value, to_key, is_target}
 
 -- the first place whose primitive passes the test, where the list begins at this place
 abbrev pub first_place : (Primitive → Bool) → ℕ → List Primitive → Option ℕ
@@ -23,6 +27,20 @@ is_answer_at prims p o k = passes_at (is_answer prims p o) prims k && is_live pr
 abbrev pub is_wanted_at : List Primitive → Property → ℕ → Option Target → ℕ → Bool
 is_wanted_at prims p o None = is_answer_at prims p o
 is_wanted_at prims p o (Some t) = λ k. is_target prims p t k && is_answer_at prims p o k
+
+-- the object of which the link at a place states the fact, if it is an answer there that leads to the target
+abbrev pub holder_at : List Primitive → Property → Target → ℕ → Option ℕ
+holder_at prims p t k = option_and_then (λ o. if is_wanted_at prims p o (Some t) k then Some o else None) (end_at (near_of p) prims k)
+
+-- the end of a link at which the answer stands, where that is an object
+abbrev pub far_side : Property → End
+far_side p = if p.reversed then Left else Right
+
+-- the value by which a link leads to the target, where the answers are values or keys
+abbrev pub datum_of : Target → Datum
+datum_of (to_object o) = datum.Object o
+datum_of (to_value d) = d
+datum_of (to_key namespace key) = datum.Text key
 
 -- a live key link with a namespace stands at the place
 abbrev pub names : List Primitive → ℕ → Bool

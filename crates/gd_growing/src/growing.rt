@@ -84,7 +84,7 @@ impl<'a> Growing<'a> {
     }
 
     /// The place of the first primitive that is made: that behind those below the dateline.
-    pub(crate) fn first_made(&self) -> u32
+    pub fn first_made(&self) -> u32
         ensures first { result ≡ length (prims_of self.now.batches) }
         ensures room { result + length self.now.made ≤ 4_294_967_295 }
     {

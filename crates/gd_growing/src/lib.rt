@@ -4,6 +4,7 @@
 pub mod answers;
 pub mod fault;
 pub mod growing;
+pub mod holders;
 pub mod keys;
 pub mod links;
 mod made;

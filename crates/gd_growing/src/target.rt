@@ -37,7 +37,7 @@ pub enum Target {
 }
 
 /// Whether the answers of a property in its direction are values or keys.
-fn gives_values(property: &Property) -> bool
+pub(crate) fn gives_values(property: &Property) -> bool
     ensures { result ≡ defined.holds_values (plan.answers_of property.now) }
 {
     holds_values(answers_of(property))

@@ -16,8 +16,8 @@ use gd_base::id::Id;
 use gd_base::memory::Memory;
 use gd_base::steps::Steps;
 use gd_base::text::Text;
+use gd_fault::guid::guid;
 use gd_json::value::JsonText;
-use gd_reply::guid::guid;
 use std::alloc::Global;
 
 /// The root namespace.

@@ -33,7 +33,10 @@ fn load<D: Disk>(alloc: Global, opening: &mut Opening<D>) -> Result<Store, Journ
     let mut store = Store::new(alloc)?;
     match replay(alloc, opening, &mut store) {
         Ok(()) => Ok(store),
-        Err(fault) => Err(fault),
+        Err(fault) => {
+            drop(store);
+            Err(fault)
+        }
     }
 }
 
@@ -61,8 +64,13 @@ fn complete<D: Disk>(
         (λ opened. D.faults opening.disk ≤ D.faults opened.0.disk) (λ refused. D.faults opening.disk ≤ D.faults refused.1) }
     ensures cause { IfErr result (λ refused. HasReason (D.faults opening.disk) (D.faults refused.1) refused.0) }
 {
-    let journal = opening.finish()?;
-    Ok((Log::of(journal), store))
+    match opening.finish() {
+        Ok(journal) => Ok((Log::of(journal), store)),
+        Err(refused) => {
+            drop(store);
+            Err(refused)
+        }
+    }
 }
 
 /// Opens a file that a stop may have left, and makes the store that stands for its batches. The whole file is read, once,

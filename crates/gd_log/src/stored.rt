@@ -90,7 +90,9 @@ impl<D: Disk> StoredLog<D> {
     pub fn into_disk(self) -> D
         ensures { result ≡ self.log.disk }
     {
-        self.log.into_disk()
+        let StoredLog { log, store } = self;
+        drop(store);
+        log.into_disk()
     }
 
     /// Adds a group of 1 to 256 batches, each of which may follow those of the store and those before it, to the store

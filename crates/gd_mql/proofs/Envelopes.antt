@@ -3,7 +3,7 @@ use Rattle.std.proofs.Common.{◌≡◌, ◌≤◌, ℕ, ◌+◌, List, [], ◌�
 use Rattle.std.specs.Prelude.{if◌then◌else◌, option_map, is_some, unwrap_or, ◌&&◌, bytes_eq, max}
 use Rattle.std.specs.Result.{result_err}
 use Rattle.gd_grammar.specs.Chain.{◌>>=◌, map_err}
-use Rattle.gd_grammar.proofs.Steps.{some_same}
+use Rattle.gd_grammar.proofs.Steps.{some_same, ok_same}
 use Rattle.gd_tree.specs.Json.{Json, null, boolean, number, text, list, object, Items, no_items, item, Members, no_members, member}
 use Rattle.gd_tree.specs.Look.{get, only, members_in, member_of, text_of}
 use Rattle.gd_tree.specs.Bounds.{json_depth, members_depth}
@@ -11,14 +11,14 @@ use Rattle.gd_defs.specs.Ids.{is_id}
 use Rattle.gd_defs.specs.Query.{Fault, Query, query_of, envelope, root_fault}
 use Rattle.gd_defs.specs.Change.{Change, change_of}
 use Rattle.gd_defs.specs.Write.{WriteRequest}
-use Rattle.gd_runs.specs.Request.{CursorAsk, no_cursor, cursor_ask, asks_page, has_pages, read_of, scope_ask, write_of, ReadRequest, read, write, bad_form}
-use Rattle.gd_runs.specs.Input.{no_line, as_line}
+use Rattle.gd_runs.specs.Request.{CursorAsk, no_cursor, cursor_ask, asks_page, has_pages, read_of, scope_ask, write_of, ReadRequest, Line, read, write, bad_form}
+use Rattle.gd_runs.specs.Input.{InputFault, no_line, as_line}
 use Rattle.gd_form_laws.specs.Faults.{query_fault}
 use Rattle.gd_form_laws.specs.WriteFaults.{change_fault}
 use Rattle.gd_form_laws.specs.Spelled.{spelled_query}
 use Rattle.gd_form_laws.proofs.Clauses.{query-given}
 use Rattle.gd_form_laws.specs.SpelledChange.{change_or, spelled_change}
-use Rattle.gd_mql.specs.Envelopes.{read_fault, write_fault, envelope_fault, paged_fault, written_fault, read_line_of, write_line_of}
+use Rattle.gd_mql.specs.Envelopes.{read_fault, write_fault, envelope_fault, paged_fault, written_fault, read_request_of, write_request_of, read_line_of, write_line_of}
 
 -- ---- names of members
 
@@ -273,29 +273,53 @@ member_depth k (object ms) x there = let h : json_depth x ≤ members_depth ms =
 
 -- ---- lines
 
--- the line of a fault of form
-pub read_refused : (sid : ℕ) (j : Json) (f : Fault) → read_fault j ≡ Some f → read_line_of sid j ≡ Err (no_line (bad_form f))
+-- the request of a fault of form
+pub read_refused : (j : Json) (f : Fault) → read_fault j ≡ Some f → read_request_of j ≡ Err (no_line (bad_form f))
 unfolding read_fault
-read_refused sid j f is = by (read_of j) is
+read_refused j f is = by (read_of j) is
   where
-    by : (r : Result ReadRequest Fault) → result_err r ≡ Some f → as_line (map_err bad_form r >>= λ r. Ok (read sid r)) ≡ Err (no_line (bad_form f))
+    by : (r : Result ReadRequest Fault) → result_err r ≡ Some f → map_err no_line (map_err bad_form r) ≡ Err (no_line (bad_form f))
     by (Ok r) is = cc
     by (Err e) is = ap (λ e. Err (no_line (bad_form e))) (some_same e f is)
 
-pub write_refused : (sid : ℕ) (j : Json) (f : Fault) → write_fault j ≡ Some f → write_line_of sid j ≡ Err (no_line (bad_form f))
+pub write_refused : (j : Json) (f : Fault) → write_fault j ≡ Some f → write_request_of j ≡ Err (no_line (bad_form f))
 unfolding write_fault
-write_refused sid j f is = by (write_of j) is
+write_refused j f is = by (write_of j) is
   where
-    by : (r : Result WriteRequest Fault) → result_err r ≡ Some f → as_line (map_err bad_form r >>= λ w. Ok (write sid w)) ≡ Err (no_line (bad_form f))
+    by : (r : Result WriteRequest Fault) → result_err r ≡ Some f → map_err no_line (map_err bad_form r) ≡ Err (no_line (bad_form f))
     by (Ok r) is = cc
     by (Err e) is = ap (λ e. Err (no_line (bad_form e))) (some_same e f is)
 
--- the line of a request
-pub read_given_line : (sid : ℕ) (j : Json) (r : ReadRequest) → read_of j ≡ Ok r → read_line_of sid j ≡ Ok (read sid r)
-read_given_line sid j r is = rw is refl
+-- a request without one
+pub read_told : (j : Json) (r : ReadRequest) → read_of j ≡ Ok r → read_request_of j ≡ Ok r
+read_told j r is = rw is refl
 
-pub write_given_line : (sid : ℕ) (j : Json) (w : WriteRequest) → write_of j ≡ Ok w → write_line_of sid j ≡ Ok (write sid w)
-write_given_line sid j w is = rw is refl
+pub write_told : (j : Json) (w : WriteRequest) → write_of j ≡ Ok w → write_request_of j ≡ Ok w
+write_told j w is = rw is refl
+
+err_same : {A E : Type 0} (x y : E) → ◌≡◌ {A = Result A E} (Err x) (Err y) → x ≡ y
+err_same x y is = cc
+
+-- the line of a request, which is faulty or is not
+line_failed : {A : Type 0} (r : Result A Fault) (make : A → Line) (f : InputFault) → map_err no_line (map_err bad_form r) ≡ Err f → as_line (map_err bad_form r >>= λ x. Ok (make x)) ≡ Err f
+line_failed (Ok x) make f is = cc
+line_failed (Err e) make f is = ap Err (err_same _ _ is)
+
+line_made : {A : Type 0} (r : Result A Fault) (make : A → Line) (x : A) → map_err no_line (map_err bad_form r) ≡ Ok x → as_line (map_err bad_form r >>= λ x. Ok (make x)) ≡ Ok (make x)
+line_made (Ok y) make x is = ap (λ y. Ok (make y)) (ok_same y x is)
+line_made (Err e) make x is = cc
+
+pub read_line_failed : (sid : ℕ) (j : Json) (f : InputFault) → read_request_of j ≡ Err f → read_line_of sid j ≡ Err f
+read_line_failed sid j f is = line_failed (read_of j) (read sid) f is
+
+pub write_line_failed : (sid : ℕ) (j : Json) (f : InputFault) → write_request_of j ≡ Err f → write_line_of sid j ≡ Err f
+write_line_failed sid j f is = line_failed (write_of j) (write sid) f is
+
+pub read_line_made : (sid : ℕ) (j : Json) (r : ReadRequest) → read_request_of j ≡ Ok r → read_line_of sid j ≡ Ok (read sid r)
+read_line_made sid j r is = line_made (read_of j) (read sid) r is
+
+pub write_line_made : (sid : ℕ) (j : Json) (w : WriteRequest) → write_request_of j ≡ Ok w → write_line_of sid j ≡ Ok (write sid w)
+write_line_made sid j w is = line_made (write_of j) (write sid) w is
 
 -- the scope of a write that has one
 scope_of_test : (b : Bool) (t : List ℕ) → is_some {T = Option (List ℕ)} (if b then Some (Some t) else None) ≡ true → (if b then Some (Some t) else None) ≡ Some (Some t)

@@ -1,8 +1,6 @@
 pub mod Members
 pub mod Sessions
 pub mod Bytes
-pub mod Keys
-pub mod Guids
 pub mod Spelling
 pub mod Literals
 pub mod Walked

@@ -4,9 +4,9 @@ use Rattle.gd_json.specs.View.{view}
 use Rattle.gd_defs.specs.Query.{Fault}
 use Rattle.gd_defs.specs.Change as change
 use Rattle.gd_defs.specs.Change.{write_name}
-use Rattle.gd_mql.specs.Fault.{code_view}
+use Rattle.gd_fault.specs.Fault.{code_view}
 use Rattle.gd_mql.specs.Names.{name_view}
-use Rattle.gd_mql.specs.declared.fault.Code.{Code}
+use Rattle.gd_fault.specs.declared.fault.Code.{Code}
 use Rattle.gd_mql.specs.declared.name.Name.{Name}
 use Rattle.gd_mql.specs.declared.write_parts.ConnectWord.{ConnectWord}
 use Rattle.gd_mql.specs.declared.write_parts.ConnectWord.TheVariants as word

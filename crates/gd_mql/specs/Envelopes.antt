@@ -6,8 +6,9 @@ use Rattle.gd_tree.specs.Json.{Json, object}
 use Rattle.gd_defs.specs.Query.{Fault, envelope}
 use Rattle.gd_form_laws.specs.Faults.{query_fault}
 use Rattle.gd_form_laws.specs.WriteFaults.{change_fault}
-use Rattle.gd_runs.specs.Request.{Line, read, write, bad_form, read_of, write_of, has_pages}
-use Rattle.gd_runs.specs.Input.{InputFault, as_line}
+use Rattle.gd_defs.specs.Write.{WriteRequest}
+use Rattle.gd_runs.specs.Request.{Line, ReadRequest, read, write, bad_form, read_of, write_of, has_pages}
+use Rattle.gd_runs.specs.Input.{InputFault, no_line, as_line}
 
 -- the first fault of a read
 unfoldable pub read_fault : Json → Option Fault
@@ -30,6 +31,14 @@ paged_fault (Some asks) q = if asks && not (has_pages q) then envelope_fault els
 abbrev pub written_fault : Json → Option Fault
 written_fault (object ms) = change_fault (object ms)
 written_fault _ = envelope_fault
+
+-- the read that an envelope spells, or the fault of the line that it stands in
+abbrev pub read_request_of : Json → Result ReadRequest InputFault
+read_request_of j = map_err no_line (map_err bad_form (read_of j))
+
+-- the write that an envelope spells, or the fault of the line that it stands in
+abbrev pub write_request_of : Json → Result WriteRequest InputFault
+write_request_of j = map_err no_line (map_err bad_form (write_of j))
 
 -- the line of a session with the read that an envelope spells
 abbrev pub read_line_of : ℕ → Json → Result Line InputFault

@@ -1,10 +1,10 @@
 -- Faults of form, with the names that lead to them.
 use Rattle.std.specs.Prelude.{◌≡◌, ℕ, List, Option, Some, None, Result, MatchResult, reverse}
 use Rattle.gd_defs.specs.Query.{Fault}
-use Rattle.gd_mql.specs.Fault.{code_view}
-use Rattle.gd_mql.specs.declared.fault.Code.{Code}
-use Rattle.gd_mql.specs.declared.fault.LineFault.{LineFault}
-use Rattle.gd_mql.specs.declared.fault.LineFault.TheVariants as line
+use Rattle.gd_fault.specs.Fault.{code_view}
+use Rattle.gd_fault.specs.declared.fault.Code.{Code}
+use Rattle.gd_fault.specs.declared.fault.LineFault.{LineFault}
+use Rattle.gd_fault.specs.declared.fault.LineFault.TheVariants as line
 use Rattle.gd_mql.specs.declared.form_fault.FormFault.{FormFault}
 use Rattle.gd_mql.specs.declared.form_fault.FormFault.TheVariants.{Bad, Memory}
 

@@ -1,4 +1,3 @@
-pub mod Fault
 pub mod Line
 pub mod Names
 pub mod FormFault

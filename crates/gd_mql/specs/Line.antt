@@ -7,9 +7,9 @@ use Rattle.gd_runs.specs.Request as request
 use Rattle.gd_runs.specs.Request.{session_of}
 use Rattle.gd_runs.specs.Input as input
 use Rattle.gd_runs.specs.Input.{InputFault}
-use Rattle.gd_mql.specs.declared.fault.LineFault.{LineFault}
-use Rattle.gd_mql.specs.declared.fault.LineFault.TheVariants as fault
-pub use Rattle.gd_mql.specs.Fault.{code_view}
+use Rattle.gd_fault.specs.declared.fault.LineFault.{LineFault}
+use Rattle.gd_fault.specs.declared.fault.LineFault.TheVariants as fault
+pub use Rattle.gd_fault.specs.Fault.{code_view}
 
 -- the fault that this is; want of memory stands beside those of JSON
 abbrev pub fault_view : LineFault → InputFault

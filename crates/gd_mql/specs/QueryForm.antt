@@ -4,9 +4,9 @@ use Rattle.gd_tree.specs.Json.{Json}
 use Rattle.gd_tree.specs.Look.{is_null}
 use Rattle.gd_defs.specs.Query as query
 use Rattle.gd_defs.specs.Query.{Fault, member_name, has_operator, is_computed, is_link, is_other_list}
-use Rattle.gd_mql.specs.Fault.{code_view}
+use Rattle.gd_fault.specs.Fault.{code_view}
 use Rattle.gd_mql.specs.Names.{name_view}
-use Rattle.gd_mql.specs.declared.fault.Code.{Code}
+use Rattle.gd_fault.specs.declared.fault.Code.{Code}
 use Rattle.gd_mql.specs.declared.name.Name.{Name}
 
 -- the call gives the name of a member that is no directive, or the code of the fault at that member

@@ -9,8 +9,8 @@ use Rattle.gd_form_laws.specs.Spelled.{spelled_query}
 use Rattle.gd_mql.specs.Clauses.{clause_view}
 use Rattle.gd_mql.specs.Line.{fault_view}
 use Rattle.gd_form_laws.specs.SpelledChange.{spelled_change}
-use Rattle.gd_mql.specs.declared.fault.LineFault.{LineFault}
-use Rattle.gd_mql.specs.declared.fault.LineFault.TheVariants as fault
+use Rattle.gd_fault.specs.declared.fault.LineFault.{LineFault}
+use Rattle.gd_fault.specs.declared.fault.LineFault.TheVariants as fault
 use Rattle.gd_mql.specs.declared.request.CursorAsk.{CursorAsk}
 use Rattle.gd_mql.specs.declared.request.CursorAsk.TheVariants as cursor
 use Rattle.gd_mql.specs.declared.request.ReadRequest.{ReadRequest}
@@ -45,3 +45,7 @@ line_view (Write sid w) = request.write sid (write_view w)
 -- the call gives the line or the fault that is expected, or else memory was wanting
 abbrev pub GivesLine : Result request.Line InputFault → Result Line LineFault → Type 0
 GivesLine expected result = MatchResult result (λ l. expected ≡ Ok (line_view l)) (λ f. f ≢ fault.Memory → expected ≡ Err (fault_view f))
+
+-- the call gives what is expected, seen through `view`, or the fault that is expected, or else memory was wanting
+abbrev pub GivesAsked : {A B : Type 0} → (A → B) → Result B InputFault → Result A LineFault → Type 0
+GivesAsked view expected result = MatchResult result (λ a. expected ≡ Ok (view a)) (λ f. f ≢ fault.Memory → expected ≡ Err (fault_view f))

@@ -9,13 +9,12 @@ ghost use Rattle.gd_defs.specs.Change as defined;
 ghost use Rattle.gd_json.specs.View.{view, items_view, members_view};
 ghost use Rattle.gd_form_laws.specs.Faults.{below as seen_below};
 ghost use Rattle.gd_form_laws.specs.WriteFaults as faults;
-ghost use Rattle.gd_mql.specs.Fault.{code_view};
+ghost use Rattle.gd_fault.specs.Fault.{code_view};
 ghost use Rattle.gd_mql.specs.FormFault.{Checks};
 ghost use Rattle.gd_mql.specs.Names.{name_view};
 ghost use Rattle.gd_mql.specs.Changes.{setting_view, WriteNameGives};
 
 use crate::directive::is_directive;
-use crate::fault::Code;
 use crate::form_fault::{FormFault, below, fault_at, root_fault};
 use crate::name::Name;
 use crate::object::{member, text_of};
@@ -25,6 +24,7 @@ use crate::write_parts::{
     CreateWord, Setting, connect_word, create_word, first_part_code, is_connect_form, is_fact_form,
     setting_of, target_of,
 };
+use gd_fault::fault::Code;
 use gd_json::value::{Json, JsonText};
 use std::alloc::Global;
 

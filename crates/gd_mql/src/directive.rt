@@ -9,8 +9,8 @@ ghost use Rattle.gd_defs.specs.Query.Directive as defined;
 ghost use Rattle.gd_json.specs.View.{view, items_view};
 ghost use Rattle.gd_mql.specs.Directives.{mode_view, sort_word_view, directive_fits as fits};
 
-use crate::ids::{is_key, is_key_path};
 use crate::operand::counts_to;
+use gd_fault::ids::{is_key, is_key_path};
 use gd_json::value::Json;
 
 /// The greatest limit.

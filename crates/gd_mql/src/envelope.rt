@@ -7,11 +7,11 @@ ghost use Rattle.gd_mql.specs.FormFault.{Checks};
 ghost use Rattle.gd_mql.specs.Envelopes.{read_fault, write_fault, paged_fault, written_fault};
 
 use crate::change_form::check_change;
-use crate::fault::Code;
 use crate::form_fault::{FormFault, root_fault};
 use crate::object::{has, member, only_of};
 use crate::operand::is_id_text;
 use crate::query_form::{check_query, is_object};
+use gd_fault::fault::Code;
 use gd_json::value::{Json, JsonText};
 use std::alloc::Global;
 

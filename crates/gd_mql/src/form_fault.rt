@@ -1,12 +1,12 @@
 //! Why a value has not the form of a query or of a write.
 ghost use Rattle.std.specs.Prelude.{◌≡◌, ◌∷◌, ◌++◌, [], Some, Option, option_map, IfOk, OnOk};
 ghost use Rattle.gd_defs.specs.Query.{Fault};
-ghost use Rattle.gd_mql.specs.Fault.{code_view};
+ghost use Rattle.gd_fault.specs.Fault.{code_view};
 ghost use Rattle.gd_form_laws.specs.Faults.{below as seen_below};
 ghost use Rattle.gd_mql.specs.FormFault.{Refuses};
 
-use crate::fault::{Code, LineFault, Path};
 use gd_base::memory::Memory;
+use gd_fault::fault::{Code, LineFault, Path};
 use gd_json::value::JsonText;
 use std::alloc::Global;
 

@@ -6,14 +6,14 @@ mod change_form;
 pub mod clause;
 pub mod directive;
 mod envelope;
-pub mod fault;
 mod form_fault;
-pub mod ids;
 pub mod line;
 pub mod name;
-mod object;
+pub mod object;
 mod operand;
 pub mod query_form;
 pub mod request;
-mod session;
+pub mod session;
 pub mod write_parts;
+
+pub use gd_fault::{fault, ids};

@@ -1,47 +1,26 @@
 //! From the bytes of a line to the request that they spell.
 ghost use Rattle.std.specs.Prelude.{◌≡◌, ◌≢◌, ◌≤◌, true, length, None, Some, Err, Ok, IfOk, is_some, option_map, unwrap_or};
 ghost use Rattle.gd_tree.specs.Bounds.{json_depth};
-ghost use Rattle.gd_tree.specs.Look.{get, member_of};
 ghost use Rattle.gd_runs.specs.Request.{cursor_ask, no_cursor, scope_ask, read_of, write_of};
 ghost use Rattle.gd_runs.specs.Request.{line_of};
 ghost use Rattle.gd_runs.specs.Input.{line_from, as_line};
 ghost use Rattle.gd_json.specs.View.{view, members_view};
-ghost use Rattle.gd_mql.specs.Envelopes.{read_fault, write_fault, read_line_of, write_line_of};
+ghost use Rattle.gd_mql.specs.Envelopes.{read_fault, write_fault, read_request_of, write_request_of, read_line_of, write_line_of};
 ghost use Rattle.gd_mql.specs.Line.{line_session};
-ghost use Rattle.gd_mql.specs.Requests.{cursor_view, read_view, write_view, GivesLine};
+ghost use Rattle.gd_mql.specs.Requests.{cursor_view, read_view, write_view, GivesAsked, GivesLine};
 
 use crate::envelope::{check_read, check_write};
-use crate::fault::LineFault;
+use crate::object::take;
 use crate::request::{CursorAsk, Line, ReadRequest, WriteRequest};
 use crate::session::session;
 use gd_base::memory::Memory;
+use gd_fault::fault::LineFault;
 use gd_json::from::{JsonFault, json_from};
 use gd_json::value::{Json, JsonText};
 use std::alloc::Global;
 
 /// The greatest number of bytes of a line.
 pub const LINE_LIMIT: usize = 262_144;
-
-/// The value of the member of this name, taken out of its object.
-fn take(value: Json, name: &str) -> Option<Json>
-    ensures { option_map (λ part. view part) result ≡ member_of name.now (view value) }
-{
-    match value {
-        Json::Object(members) => take_member(members, name),
-        _ => None,
-    }
-}
-
-fn take_member(members: Vec<(JsonText, Json)>, name: &str) -> Option<Json>
-    ensures { option_map (λ part. view part) result ≡ get name.now (members_view members.items) }
-{
-    for (key, value) in members {
-        if name == key.as_str() {
-            return Some(value);
-        }
-    }
-    None
-}
 
 /// The page that the member `cursor` of an envelope asks for.
 fn own_cursor(value: Option<&Json>) -> Result<CursorAsk, Memory>
@@ -97,13 +76,34 @@ fn own_write(envelope: Json) -> Result<WriteRequest, Memory>
     }
 }
 
+/// The read that an envelope spells: an object of `query` and, where a page with a cursor is asked for, of `cursor`.
+/// `BadQuery`: it has not this form, or its query has a fault of form; the first fault in the order of the walk is told.
+/// `Memory`: an allocation was refused.
+pub fn read_request(alloc: Global, envelope: Json) -> Result<ReadRequest, LineFault>
+    requires { json_depth (view envelope) ≤ 15 }
+    ensures { GivesAsked read_view (read_request_of (view envelope)) result }
+{
+    check_read(alloc, &envelope)?;
+    Ok(own_read(envelope)?)
+}
+
+/// The write that an envelope spells: an object of `query` and, where all that is made has a scope, of `scope`, the text
+/// of an id. `BadQuery`: it has not this form, or its query has a fault of form; the first fault in the order of the walk
+/// is told. `Memory`: an allocation was refused.
+pub fn write_request(alloc: Global, envelope: Json) -> Result<WriteRequest, LineFault>
+    requires { json_depth (view envelope) ≤ 15 }
+    ensures { GivesAsked write_view (write_request_of (view envelope)) result }
+{
+    check_write(alloc, &envelope)?;
+    Ok(own_write(envelope)?)
+}
+
 /// The read of a session, or its first fault of form.
 fn read_from(alloc: Global, sid: u32, envelope: Json) -> Result<Line, LineFault>
     requires { json_depth (view envelope) ≤ 15 }
     ensures { GivesLine (read_line_of sid (view envelope)) result }
 {
-    check_read(alloc, &envelope)?;
-    let request = own_read(envelope)?;
+    let request = read_request(alloc, envelope)?;
     Ok(Line::Read { sid, request })
 }
 
@@ -112,8 +112,7 @@ fn write_from(alloc: Global, sid: u32, envelope: Json) -> Result<Line, LineFault
     requires { json_depth (view envelope) ≤ 15 }
     ensures { GivesLine (write_line_of sid (view envelope)) result }
 {
-    check_write(alloc, &envelope)?;
-    let request = own_write(envelope)?;
+    let request = write_request(alloc, envelope)?;
     Ok(Line::Write { sid, request })
 }
 

@@ -6,7 +6,7 @@ ghost use Rattle.gd_defs.specs.Ids.{is_key_byte};
 ghost use Rattle.gd_defs.specs.Query.Names as defined;
 ghost use Rattle.gd_mql.specs.Names.{operator_view, name_view};
 
-use crate::ids::{is_key, is_key_path, may_be_in_key};
+use gd_fault::ids::{is_key, is_key_path, may_be_in_key};
 
 /// The operator at the end of a name: none, `|=`, `!=`, `<`, `<=`, `>`, `>=` or `~=`.
 #[derive(Clone, Copy)]

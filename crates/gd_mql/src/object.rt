@@ -1,7 +1,7 @@
 //! Looking into the members of an object.
 ghost use Rattle.std.specs.Prelude.{◌≡◌, ◌||◌, ◌∷◌, [], is_some, option_map, bytes_eq};
 ghost use Rattle.std.specs.List.{list_all};
-ghost use Rattle.gd_tree.specs.Look.{get, only};
+ghost use Rattle.gd_tree.specs.Look.{get, only, member_of};
 ghost use Rattle.gd_defs.specs.Change.{text_member, made_of};
 ghost use Rattle.gd_json.specs.View.{view, members_view};
 
@@ -96,4 +96,25 @@ pub fn is_made_of_three_or(
     ensures { result ≡ made_of (a.now ∷ b.now ∷ c.now ∷ []) (more.now ∷ []) (members_view members.now) }
 {
     has(members, a) && has(members, b) && has(members, c) && only_of(members, a, b, c, more)
+}
+
+/// The value of the member of this name, taken out of its object.
+pub fn take(value: Json, name: &str) -> Option<Json>
+    ensures { option_map (λ part. view part) result ≡ member_of name.now (view value) }
+{
+    match value {
+        Json::Object(members) => take_member(members, name),
+        _ => None,
+    }
+}
+
+fn take_member(members: Vec<(JsonText, Json)>, name: &str) -> Option<Json>
+    ensures { option_map (λ part. view part) result ≡ get name.now (members_view members.items) }
+{
+    for (key, value) in members {
+        if name == key.as_str() {
+            return Some(value);
+        }
+    }
+    None
 }

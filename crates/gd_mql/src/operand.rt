@@ -8,10 +8,10 @@ ghost use Rattle.gd_defs.specs.Query.Operands as defined;
 ghost use Rattle.gd_json.specs.View.{view, items_view};
 ghost use Rattle.gd_mql.specs.Names.{operator_view, name_view};
 
-use crate::ids::is_id;
 use crate::name::{Name, Operator};
 use gd_datum::moment::moment_from;
 use gd_datum::pattern::is_pattern;
+use gd_fault::ids::is_id;
 use gd_json::value::Json;
 
 /// The greatest number of operands of `|=`.

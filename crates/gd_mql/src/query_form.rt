@@ -11,10 +11,10 @@ ghost use Rattle.gd_mql.specs.Names.{name_view};
 ghost use Rattle.gd_mql.specs.QueryForm.{NameGives, takes_operand};
 
 use crate::directive::{directive_fits, is_directive};
-use crate::fault::Code;
 use crate::form_fault::{FormFault, below, fault_at, root_fault};
 use crate::name::{Name, Operator, name_from};
 use crate::operand::{is_computed, is_left_out, is_link, operand_fits};
+use gd_fault::fault::Code;
 use gd_json::value::{Json, JsonText};
 use std::alloc::Global;
 

@@ -1,5 +1,5 @@
 //! Requests that were read from a line.
-ghost use Rattle.std.specs.Prelude.{◌≡◌, ◌≤◌, ◌+◌, true, None, is_none};
+ghost use Rattle.std.specs.Prelude.{◌≡◌, ◌≤◌, ◌+◌, true, None, is_none, option_map, IfOk};
 ghost use Rattle.gd_tree.specs.Bounds.{json_depth};
 ghost use Rattle.gd_tree.specs.Json.{list, item, no_items};
 ghost use Rattle.gd_json.specs.View.{view, items_view, members_view};
@@ -8,6 +8,7 @@ ghost use Rattle.gd_form_laws.specs.WriteFaults.{change_fault};
 
 use crate::change::Change;
 use crate::clause::Clause;
+use gd_base::memory::Memory;
 use gd_json::value::{Json, JsonText};
 
 /// Which page a read asks for: the first without a cursor, the first with one, or the page after the text of a cursor.
@@ -115,6 +116,16 @@ impl<'a> Query<'a> {
     }
 }
 
+/// The same scope again.
+fn copy_scope(scope: &Option<JsonText>) -> Result<Option<JsonText>, Memory>
+    ensures { IfOk result (λ copied. copied ≡ option_map (λ text. text) scope.now) }
+{
+    match scope {
+        Some(text) => Ok(Some(text.copy()?)),
+        None => Ok(None),
+    }
+}
+
 impl WriteRequest {
     ghost use Rattle.gd_form_laws.specs.SpelledChange.{spelled_change, entries_depth};
     ghost use Rattle.gd_mql.specs.Requests.{write_view};
@@ -127,6 +138,17 @@ impl WriteRequest {
         ensures { write_view result ≡ record { scope = scope; change = spelled_change (view query) } }
     {
         WriteRequest { scope, query }
+    }
+
+    /// The same write again.
+    pub fn copy(&self) -> Result<WriteRequest, Memory>
+        ensures { IfOk result (λ request. write_view request ≡ write_view self.now) }
+    {
+        let scope = copy_scope(&self.scope)?;
+        Ok(WriteRequest {
+            scope,
+            query: self.query.copy()?,
+        })
     }
 
     /// The change. At most 14 forms `{..}` and lists lie one within another in it, the clause itself among them.

@@ -33,7 +33,7 @@ fn has_only(value: &Json, first: &str, second: &str) -> bool
 }
 
 /// The number of a session, from 0 to 63.
-fn session_number(value: &Json) -> Option<u32>
+pub fn session_number(value: &Json) -> Option<u32>
     ensures { result ≡ session_of (Some (view value.now)) }
 {
     let number = u32::try_from(value.as_int()?).ok()?;

@@ -8,17 +8,17 @@ ghost use Rattle.gd_defs.specs.Query.Names.{name_of, is_computed as names_comput
 ghost use Rattle.gd_defs.specs.Change as defined;
 ghost use Rattle.gd_defs.specs.Query.Operands.{all_items, is_literal as spells_literal};
 ghost use Rattle.gd_json.specs.View.{view, items_view, members_view};
-ghost use Rattle.gd_mql.specs.Fault.{code_view};
+ghost use Rattle.gd_fault.specs.Fault.{code_view};
 ghost use Rattle.gd_mql.specs.Changes.{connect_view, create_view, target_view, setting_view, fault_of};
 
 use crate::directive::is_directive;
-use crate::fault::Code;
-use crate::ids::guid_place;
 use crate::name::name_from;
 use crate::object::{
     has, is_made_of_one, is_made_of_three_or, is_made_of_two, is_made_of_two_or, member, text_of,
 };
 use crate::operand::{is_computed, is_id_text, is_literal};
+use gd_fault::fault::Code;
+use gd_fault::ids::guid_place;
 use gd_json::value::{Json, JsonText};
 
 /// What a connect form does.

@@ -6,7 +6,7 @@ use gd_template::template::Mode;
 
 /// What a computed member tells: of its object the id, the guid or the timestamp; of the link that led there the guid, the
 /// value or the namespace.
-#[derive(Clone, Copy, Debug, PartialEq, Eq)]
+#[derive(Clone, Copy, PartialEq, Eq)]
 pub enum Own {
     Id,
     Guid,
@@ -32,7 +32,7 @@ pub enum SortKey {
 }
 
 /// How an answer prints.
-#[derive(Debug, Drop)]
+#[derive(Drop)]
 pub enum Style {
     /// As the operand that it met.
     Operand(Json),

@@ -10,7 +10,7 @@ use gd_datum::value::Kind;
 const BUILTIN_END: u32 = 70;
 
 /// What the answers of a property are.
-#[derive(Clone, Copy, Debug, PartialEq, Eq)]
+#[derive(Clone, Copy, PartialEq, Eq)]
 pub enum Expects {
     /// Values of a kind.
     Value(Kind),

@@ -18,7 +18,7 @@ use gd_template::constraint::Constraint;
 use std::alloc::Global;
 
 /// Of what the computed members of a clause are asked.
-#[derive(Clone, Copy, Debug, PartialEq, Eq)]
+#[derive(Clone, Copy, PartialEq, Eq)]
 pub(crate) enum Subject {
     /// Of the clause's object.
     Object,

@@ -1,15 +1,15 @@
 -- Pages that are given one after another follow one another, and are all rows at the end.
-use Rattle.std.proofs.Common.{◌≡◌, ℕ, ◌≤◌, Bool, true, false, List, [], ◌∷◌, ◌++◌, length, Option, None, Some, Result, Ok, refl, sym, ap, subst, ◌∙◌}
+use Rattle.std.proofs.Common.{◌≡◌, ℕ, ◌≤◌, true, false, List, [], ◌∷◌, ◌++◌, length, Option, None, Some, refl, sym, ap, subst, ◌∙◌}
 use Rattle.std.specs.Prelude.{is_none}
 use Rattle.gd_prim.specs.declared.Batch.{Batch}
 use Rattle.gd_tree.specs.Json.{Json, boolean, list}
-use Rattle.gd_defs.specs.Query.{Query, Fault, query_of}
+use Rattle.gd_defs.specs.Query.{Query, Fault}
 use Rattle.gd_runs.specs.Request.{CursorAsk, no_cursor, first_page, page_after, cursor_ask, reply_of}
 use Rattle.gd_form_laws.specs.Faults.{query_fault}
 use Rattle.gd_form_laws.specs.Spelled.{spelled_query}
 use Rattle.gd_form_laws.proofs.Clauses.{query-given}
 use Rattle.gd_paging_laws.specs.Told.{Tells}
-use Rattle.gd_paging_laws.specs.Paged.{Page, IsLineOf, IsPageOf, Follow, OfOneStore, AreWithin, AreWhole}
+use Rattle.gd_paging_laws.specs.Paged.{Page, IsPageOf, Follow, OfOneStore, AreWithin, AreWhole}
 use Rattle.gd_paging_laws.proofs.Going.{page_told, follow_on, whole_at}
 use Rattle.gd_read.specs.Pages.{ask_json, IsGiven}
 

@@ -5,7 +5,7 @@ use Rattle.gd_grammar.specs.Mark.{Mark}
 use Rattle.gd_tree.specs.Json as tree
 use Rattle.gd_json.specs.View.{view as json_view}
 use Rattle.gd_json.specs.declared.value.Json.{Json}
-use Rattle.gd_mql.specs.declared.fault.Path.{Path}
+use Rattle.gd_fault.specs.declared.fault.Path.{Path}
 use Rattle.gd_defs.specs.Lines.{err_line, refused_at, too_wide, Refusal}
 use Rattle.gd_defs.specs.Asked.{Asked}
 use Rattle.gd_defs.specs.Rows as defs

@@ -1,4 +1,5 @@
 pub mod Body
+pub mod Candidates
 pub mod KeysAt
 pub mod Pages
 pub mod Planned

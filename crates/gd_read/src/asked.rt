@@ -112,8 +112,8 @@ fn places_of(keys: &[Key]) -> Places
     places
 }
 
-/// The text of a cursor that marks a row.
-fn row_text(alloc: Global, dateline: u32, row: &Row) -> Result<Json, Memory>
+/// The text of a cursor that marks a row. `Memory`: an allocation was refused.
+pub fn row_text(alloc: Global, dateline: u32, row: &Row) -> Result<Json, Memory>
     ensures { IfOk result (λ json. json_view json ≡ tree.text (cursor_text dateline (reply.row_mark (defined row.now)))) }
 {
     let places = places_of(row.keys.as_slice());

@@ -3,6 +3,7 @@
 
 mod answers;
 pub mod asked;
+pub mod candidates;
 mod cursor;
 pub mod fault;
 pub mod keys;

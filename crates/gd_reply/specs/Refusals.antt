@@ -6,7 +6,7 @@ use Rattle.gd_defs.specs.Write.{key_taken, stale_version, full}
 use Rattle.gd_defs.specs.Reply.{bad_query_refusal}
 use Rattle.gd_runs.specs.Request.{change_refusal}
 use Rattle.gd_runs.specs.Input.{json_refusal}
-use Rattle.gd_mql.specs.Line.{code_view}
+use Rattle.gd_fault.specs.Fault.{code_view}
 use Rattle.gd_reply.specs.declared.refusal.Refusal.{Refusal}
 use Rattle.gd_reply.specs.declared.refusal.Refusal.TheVariants as refusal
 

@@ -6,17 +6,17 @@ ghost use Rattle.gd_defs.specs.Ids.{guid as guid_of};
 ghost use Rattle.gd_defs.specs.Lines.{object_of, count_json, texts};
 ghost use Rattle.gd_defs.specs.Reply.{code_text};
 ghost use Rattle.gd_runs.specs.Request.{what_text};
-ghost use Rattle.gd_mql.specs.Line.{code_view};
+ghost use Rattle.gd_fault.specs.Fault.{code_view};
 ghost use Rattle.gd_reply.specs.Refusals.{refusal_of, CountsFit};
 
-use crate::guid::guid;
 use crate::members::{Members, list, object, push_count, push_member, push_text};
 use gd_base::id::Id;
 use gd_base::memory::Memory;
 use gd_base::text::Text;
+use gd_fault::fault::{Code, Path};
+use gd_fault::guid::guid;
 use gd_json::from::JsonFault;
 use gd_json::value::{Json, JsonText};
-use gd_mql::fault::{Code, Path};
 use gd_prim::What;
 use std::alloc::Global;
 

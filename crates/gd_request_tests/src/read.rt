@@ -1,9 +1,8 @@
-//! The reply to a read and the pages of a query, with ample memory.
+//! The pages of a query, one after another, with ample memory.
 use gd_base::steps::Steps;
 use gd_mql::line::{LINE_LIMIT, line_from};
 use gd_mql::request::{Line, ReadRequest};
 use gd_read::pages::Pages;
-use gd_read::read::reply;
 use gd_store::store::Store;
 use std::alloc::Global;
 
@@ -18,35 +17,6 @@ fn read_of(alloc: Global, text: &str) -> Option<ReadRequest> {
     }
 }
 
-/// The reply to a read in line 7, over the built-in list.
-fn answer(alloc: Global, request: &ReadRequest) -> Option<Vec<u8>> {
-    let store = Store::new(alloc).ok()?;
-    let mut steps: Steps<()> = Steps::new();
-    reply(alloc, &store, 7, request, &mut steps).ok()
-}
-
-/// Whether this is the reply.
-fn replies(alloc: Global, text: &str, wanted: &[u8]) -> bool {
-    let Some(request) = read_of(alloc, text) else {
-        return false;
-    };
-    match answer(alloc, &request) {
-        Some(line) => line.as_slice() == wanted,
-        None => false,
-    }
-}
-
-#[test]
-fn replies_to_a_read(rt: HostRuntime) {
-    assert!(rt;
-        replies(
-            rt.alloc(),
-            "{\"sid\":0,\"read\":{\"cursor\":true,\"query\":[{\"id\":null,\"type\":\"/type/namespace\",\"sort\":\"-guid\",\"limit\":1}]}}",
-            b"{\"code\":\"/api/status/ok\",\"cursor\":\"c1:0:2:2\",\"dateline\":0,\"line\":7,\"result\":[{\"id\":\"/lang\",\"type\":\"/type/namespace\"}]}"
-        )
-    );
-}
-
 /// How many pages are given until there is none, if they are fewer than nine.
 fn given(alloc: Global, store: &Store, pages: &mut Pages) -> Option<u32> {
     let mut steps: Steps<()> = Steps::new();
@@ -58,11 +28,18 @@ fn given(alloc: Global, store: &Store, pages: &mut Pages) -> Option<u32> {
     None
 }
 
+/// The same, over the built-in list.
+fn given_fresh(alloc: Global, pages: &mut Pages) -> Option<u32> {
+    match Store::new(alloc) {
+        Ok(store) => given(alloc, &store, pages),
+        Err(_) => None,
+    }
+}
+
 /// How many pages a query has, over the built-in list.
 fn page_count(alloc: Global, text: &str) -> Option<u32> {
     let request = read_of(alloc, text)?;
-    let store = Store::new(alloc).ok()?;
-    given(alloc, &store, &mut Pages::new(request))
+    given_fresh(alloc, &mut Pages::new(request))
 }
 
 #[test]

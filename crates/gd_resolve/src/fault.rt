@@ -2,8 +2,8 @@
 ghost use Rattle.std.specs.Prelude.{◌≡◌};
 
 use gd_base::memory::Memory;
+use gd_fault::fault::Path;
 use gd_json::value::JsonText;
-use gd_mql::fault::Path;
 use thiserror::Error;
 
 /// Why an id or a word stands for nothing.

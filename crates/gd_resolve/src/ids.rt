@@ -16,8 +16,8 @@ use gd_base::id::Id;
 use gd_base::memory::Memory;
 use gd_base::steps::Steps;
 use gd_base::text::Text;
+use gd_fault::ids::{guid_place, id_keys};
 use gd_json::value::JsonText;
-use gd_mql::ids::{guid_place, id_keys};
 use gd_store::view::View;
 use std::alloc::Global;
 

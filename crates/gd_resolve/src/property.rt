@@ -34,7 +34,7 @@ const UNIQUE: Id = Id(17);
 const MASTER_PROPERTY: Id = Id(18);
 
 /// What a property asks for. Contracts see it as the definitions' property.
-#[derive(Clone, Copy, Debug, PartialEq, Eq)]
+#[derive(Clone, Copy, PartialEq, Eq)]
 pub struct Property {
     /// The typ of the links that answer it.
     pub stored: Id,

@@ -12,8 +12,8 @@ use gd_base::id::Id;
 use gd_base::memory::Memory;
 use gd_base::steps::Steps;
 use gd_base::text::Text;
+use gd_fault::guid::guid;
 use gd_json::value::JsonText;
-use gd_reply::guid::guid;
 use gd_store::view::View;
 use std::alloc::Global;
 

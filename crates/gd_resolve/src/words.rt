@@ -17,8 +17,8 @@ use gd_base::id::Id;
 use gd_base::memory::Memory;
 use gd_base::steps::Steps;
 use gd_base::text::{TEXT_LIMIT, Text};
+use gd_fault::fault::Path;
 use gd_json::value::JsonText;
-use gd_mql::fault::Path;
 use gd_prim::Primitive;
 use gd_prim::live::refers;
 use gd_store::view::View;
@@ -34,14 +34,14 @@ const TYPE: Id = Id(14);
 const KEY: Id = Id(15);
 
 /// A word of a query, and whether `!` stands before it.
-#[derive(Debug, PartialEq, Eq, Drop)]
+#[derive(PartialEq, Eq, Drop)]
 pub struct Word {
     pub text: JsonText,
     pub reversed: bool,
 }
 
 /// A property that a word names: the object that states it, and what is asked for.
-#[derive(Clone, Copy, Debug, PartialEq, Eq)]
+#[derive(Clone, Copy, PartialEq, Eq)]
 pub struct Named {
     pub object: Id,
     pub property: Property,

@@ -20,7 +20,7 @@ abbrev pub run_of : Numbered → Outcome → List ℕ → Run
 run_of l o reply = record { line = l; outcome = o; reply = reply }
 
 -- the whole history is the history up to its size
-upto_all : (h : History) → upto (size h) h ≡ h
+pub upto_all : (h : History) → upto (size h) h ≡ h
 upto_all h = ap (λ (es : List Entry). record { loaded = h.loaded; entries = es }) (take_all (length h.loaded) (size h) h.entries refl)
   where
     take_all : (place n : ℕ) (es : List Entry) → place + length es ≡ n → take_below place n es ≡ es

@@ -69,7 +69,7 @@ get_cases (a ∷ xs) ys (suc k) x e = ⊎_elim (λ h. inl h) (λ (j, is, h). inr
 -- ---- entries of a history that has gained some
 
 -- entry e stands in the list of entries, behind the loaded batches
-slot : (bs : List Batch) (es : List Entry) (e : ℕ) (x : Entry) → option_flatten (slice_get (map (λ b. None) bs ++ map (λ y. Some y) es) e) ≡ Some x → (i : ℕ) × (e ≡ length bs + i) × (slice_get es i ≡ Some x)
+pub slot : (bs : List Batch) (es : List Entry) (e : ℕ) (x : Entry) → option_flatten (slice_get (map (λ b. None) bs ++ map (λ y. Some y) es) e) ≡ Some x → (i : ℕ) × (e ≡ length bs + i) × (slice_get es i ≡ Some x)
 slot [] [] e x is = no_some is
 slot [] (y ∷ es) zero x is = (0, refl, is)
 slot [] (y ∷ es) (suc e) x is = let (i, at, there) = slot [] es e x is in (suc i, omega (arith, at), there)
@@ -81,7 +81,7 @@ slot_here [] i x is = no_some is
 slot_here (y ∷ es) zero x is = is
 slot_here (y ∷ es) (suc i) x is = slot_here es i x is
 
-slot_back : (bs : List Batch) (es : List Entry) (i : ℕ) (x : Entry) → slice_get es i ≡ Some x → option_flatten (slice_get (map (λ b. None) bs ++ map (λ y. Some y) es) (length bs + i)) ≡ Some x
+pub slot_back : (bs : List Batch) (es : List Entry) (i : ℕ) (x : Entry) → slice_get es i ≡ Some x → option_flatten (slice_get (map (λ b. None) bs ++ map (λ y. Some y) es) (length bs + i)) ≡ Some x
 slot_back [] es i x is = let at : i ≡ 0 + i = omega arith in subst (λ (n : ℕ). option_flatten (slice_get (map (λ y. Some y) es) n) ≡ Some x) at (slot_here es i x is)
 slot_back (b ∷ bs) es i x is = let at : suc (length bs + i) ≡ suc (length bs) + i = omega arith in subst (λ (n : ℕ). option_flatten (slice_get (map (λ b. None) (b ∷ bs) ++ map (λ y. Some y) es) n) ≡ Some x) at (slot_back bs es i x is)
 
@@ -109,7 +109,7 @@ entry_cases h new e x is =
 
 -- ---- what was said of the shorter history holds of the longer one
 
-batches_more : (h : History) (new : List Entry) → batches (with_entries h new) ≡ batches h ++ map (λ e. e.batch) new
+pub batches_more : (h : History) (new : List Entry) → batches (with_entries h new) ≡ batches h ++ map (λ e. e.batch) new
 batches_more h new = ap (λ (l : List Batch). h.loaded ++ l) (map-append (λ e. e.batch) h.entries new) ∙ sym (append_assoc h.loaded (map (λ e. e.batch) h.entries) (map (λ e. e.batch) new))
 
 pub length_batches : (h : History) → length (batches h) ≡ size h
@@ -136,7 +136,7 @@ page_kept bs cs m k q (Ok c) h = by (nat_lt m c.dateline) refl
         ∙ ap (λ (prims : List Primitive). reply prims c.dateline k true (Some c.after) q) (prims_kept bs cs c.dateline within)
         ∙ sym (ap (λ (b : Bool). if b then ahead else at bs) f)
 
-reply_kept_at : (bs cs : List Batch) (m k : ℕ) (a : CursorAsk) (q : Query) → m ≤ length bs → reply_of (bs ++ cs) m k (record { cursor = a; query = q }) ≡ reply_of bs m k (record { cursor = a; query = q })
+pub reply_kept_at : (bs cs : List Batch) (m k : ℕ) (a : CursorAsk) (q : Query) → m ≤ length bs → reply_of (bs ++ cs) m k (record { cursor = a; query = q }) ≡ reply_of bs m k (record { cursor = a; query = q })
 reply_kept_at bs cs m k no_cursor q h = ap (λ (prims : List Primitive). reply prims m k false None q) (prims_kept bs cs m h)
 reply_kept_at bs cs m k first_page q h = ap (λ (prims : List Primitive). reply prims m k true None q) (prims_kept bs cs m h)
 reply_kept_at bs cs m k (page_after t) q h = page_kept bs cs m k q (cursor_of t) h
@@ -250,12 +250,12 @@ cursor_within m (Ok c) = by (nat_le c.dateline m) refl
     by true t = let is : cursor_dateline m (Ok c) ≡ c.dateline = ap (λ (b : Bool). if b then c.dateline else m) t in let within = leb-true c.dateline m t in omega (arith, is, within)
     by false f = let is : cursor_dateline m (Ok c) ≡ m = ap (λ (b : Bool). if b then c.dateline else m) f in omega (arith, is)
 
-ask_within : (m : ℕ) (a : CursorAsk) → ask_dateline m a ≤ m
+pub ask_within : (m : ℕ) (a : CursorAsk) → ask_dateline m a ≤ m
 ask_within m no_cursor = omega arith
 ask_within m first_page = omega arith
 ask_within m (page_after t) = cursor_within m (cursor_of t)
 
-line_within : (m : ℕ) (l : Result Line InputFault) → line_dateline m l ≤ m
+pub line_within : (m : ℕ) (l : Result Line InputFault) → line_dateline m l ≤ m
 line_within m (Ok (read s r)) = ask_within m r.cursor
 line_within m (Ok (write s w)) = omega arith
 line_within m (Err f) = omega arith
@@ -293,7 +293,7 @@ number_cases h new k in_doubt n (x, (there, line)) = ⊎_elim (λ old. inl (x, (
 number_cases h new k not_tried n e = inl e
 number_cases h new k (answered m) n e = inl e
 
-entries_after : (g : History) (es fs : List Entry) → AreEntriesAfter g es → AreEntriesAfter (with_entries g es) fs → AreEntriesAfter g (es ++ fs)
+pub entries_after : (g : History) (es fs : List Entry) → AreEntriesAfter g es → AreEntriesAfter (with_entries g es) fs → AreEntriesAfter g (es ++ fs)
 entries_after g [] fs a b = subst (λ (l : List Entry). AreEntriesAfter (record { loaded = g.loaded; entries = l }) fs) (append-nil g.entries) b
 entries_after g (e ∷ es) fs (first, rest) b =
     (first, entries_after (with_entry g e) es fs rest (subst (λ (l : List Entry). AreEntriesAfter (record { loaded = g.loaded; entries = l }) fs) (sym (append_assoc g.entries (e ∷ []) es)) b))

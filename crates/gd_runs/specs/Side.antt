@@ -7,6 +7,7 @@ use Rattle.gd_defs.specs.Write.{WriteRequest, ChangeFault}
 use Rattle.gd_bytes.specs.File.{MayStandFor}
 use Rattle.gd_runs.specs.Legal.{Entry, History, batches, size, with_entry, with_entries, upto, exec_line, IsLegal}
 use Rattle.gd_runs.specs.Explained.{IsOfLine, MayBe, entry_at}
+use Rattle.gd_runs.specs.Core.{State, Settles, Writable, after_entry}
 
 -- what is kept of a write line: the number of its entry and its result, of an entry that is not shown yet, why it was refused over so many batches, over how many it is in doubt, that it was not tried, or that no memory was found
 pub data Kept : Type 0 where
@@ -63,16 +64,47 @@ abbrev pub MayFollow : (ℕ → Bool) → History → Option Entry → Type 0
 MayFollow may h None = Unit {0}
 MayFollow may h (Some e) = IsLegal (with_entry h e) × MayBe may e.moment
 
--- What stands behind the lock of writes: the working list, the published list, the images of the disk, the outcomes.
-pub record Keeps (may : ℕ → Bool) (h : History) (doubt : Option Entry) (working published : List Batch) (images : List ℕ → Type 0) (outcomes : List Told) : Type 0 where
+-- What the side keeps of its history and of what is kept of lines: the history is legal, a group in doubt may be its next entry, its moments are those of the clock, and what is kept agrees with it, in the order of the writes and with no number above its size.
+pub record KeepsHistory (may : ℕ → Bool) (h : History) (doubt : Option Entry) (outcomes : List Told) : Type 0 where
   pub legal : IsLegal h
   pub next : MayFollow may h doubt
-  pub works : working ≡ batches h
-  pub shows : published ≡ take (length published) working
-  pub holds : (file : List ℕ) → images file → MayStandFor (batches h) (doubt_groups doubt) file
   pub moments : (e : ℕ) (entry : Entry) → entry_at h e ≡ Some entry → MayBe may entry.moment
   pub agree : (i : ℕ) (t : Told) → slice_get outcomes i ≡ Some t → Agrees h doubt t.line t.kept
   pub order : AreInOrder outcomes
+  pub within : (i n : ℕ) (t : Told) → slice_get outcomes i ≡ Some t → number_of t.kept ≡ Some n → n ≤ size h
+
+-- What stands behind the lock of writes: the working list, the published list with its number, the images of the disk, the outcomes.
+pub record Keeps (may : ℕ → Bool) (h : History) (shown : ℕ) (doubt : Option Entry) (working published : List Batch) (images : List ℕ → Type 0) (outcomes : List Told) : Type 0 where
+  pub history : KeepsHistory may h doubt outcomes
+  pub works : working ≡ batches h
+  pub shows : published ≡ take shown working
+  pub count : length published ≡ shown
+  pub holds : (file : List ℕ) → images file → MayStandFor (batches h) (doubt_groups doubt) file
+
+-- ---- a write
+
+-- a line with what is kept of it
+abbrev pub told_of : ℕ → Kept → Told
+told_of k kept = record { line = k; kept = kept }
+
+-- nothing is kept of line k
+abbrev pub IsLeft : List Told → ℕ → Type 0
+IsLeft outcomes k = (i : ℕ) (t : Told) → slice_get outcomes i ≡ Some t → t.line ≡ k → ⊥
+
+-- no entry and no group in doubt is of line k
+pub record IsFresh (h : History) (doubt : Option Entry) (k : ℕ) : Type 0 where
+  pub entries : (e : ℕ) (x : Entry) → entry_at h e ≡ Some x → x.line ≡ k → ⊥
+  pub doubted : (x : Entry) → doubt ≡ Some x → x.line ≡ k → ⊥
+
+-- a write of line k, of so many bytes, keeps this and makes a state: as a step of the core, without a session
+pub data WriteKeeps (may : ℕ → Bool) (s : State) (k bytes : ℕ) (w : WriteRequest) : Kept → State → Type 0 where
+  stores : (t : State) (e : Entry) → Writable may s k bytes w t e → WriteKeeps may s k bytes w (kept_stored (size t.history) e.result) (record (after_entry t e) { shown = size t.history + 1 })
+  stores_late : (t : State) (e : Entry) → Writable may s k bytes w t e → WriteKeeps may s k bytes w (kept_late (size t.history)) (after_entry t e)
+  refuses : (t : State) (moment : ℕ) (f : ChangeFault) → Settles s t → exec_line t.history w moment bytes ≡ Err f → WriteKeeps may s k bytes w (kept_refused f (size t.history)) t
+  doubts : (t : State) (e : Entry) → Writable may s k bytes w t e → WriteKeeps may s k bytes w (kept_doubt (size t.history)) (record t { doubt = Some e })
+  leaves_doubt : (e : Entry) → s.doubt ≡ Some e → WriteKeeps may s k bytes w kept_unsettled s
+  lacks_memory : WriteKeeps may s k bytes w kept_memory s
+  lacks_memory_settled : (t : State) → Settles s t → WriteKeeps may s k bytes w kept_memory t
 
 -- ---- in a round
 

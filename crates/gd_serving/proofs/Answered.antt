@@ -1,8 +1,8 @@
 -- What a line comes to, by what its bytes spell.
 use Rattle.std.proofs.Common.{◌≡◌, ◌≢◌, ◌<◌, ℕ, List, length, Bool, true, false, if◌then◌else◌, Result, Ok, Err, IsErr, IfOk, Vec, Global, refl, ap, sym, subst, ◌∙◌}
 use Rattle.gd_mql.specs.declared.request.Line.{Line}
-use Rattle.gd_mql.specs.declared.fault.LineFault.{LineFault}
-use Rattle.gd_mql.specs.declared.fault.LineFault.TheVariants as fault
+use Rattle.gd_fault.specs.declared.fault.LineFault.{LineFault}
+use Rattle.gd_fault.specs.declared.fault.LineFault.TheVariants as fault
 use Rattle.gd_mql.specs.Line.{fault_view}
 use Rattle.gd_mql.specs.Requests.{GivesLine}
 use Rattle.gd_runs.specs.Request as request

@@ -14,7 +14,8 @@ use Rattle.gd_reply.specs.Replies.{reply_text}
 use Rattle.gd_served_laws.specs.Served.{Progress, GoesOn}
 use Rattle.gd_served_laws.proofs.Steps.{next}
 use Rattle.gd_served_laws.proofs.Going.{goes_nowhere, goes_further, after, memory_lines, goes_unanswered}
-use Rattle.gd_serving.specs.Rounds.{printed, no_memory, RoseBy, Answered}
+use Rattle.gd_serving.specs.Running.{StandsForRun}
+use Rattle.gd_serving.specs.Rounds.{printed, no_memory, RoseBy, Answered, StandsWithin}
 
 -- ---- counts that rise
 
@@ -95,7 +96,7 @@ one_line may p q bytes reply a b goes many cause later = record {
   rose = rose_once (tells_fault p.lines reply) a b cause later;
 }
 
-texts_more : (all before : List Reply) (reply : Reply) → all ≡ before ++ reply ∷ [] → map reply_text before ++ reply_text reply ∷ [] ≡ map reply_text all
+pub texts_more : (all before : List Reply) (reply : Reply) → all ≡ before ++ reply ∷ [] → map reply_text before ++ reply_text reply ∷ [] ≡ map reply_text all
 texts_more all before reply is = sym (ap (map reply_text) is ∙ map-append reply_text before (reply ∷ []))
 
 -- one line more was answered
@@ -109,6 +110,44 @@ one_more may now p q r ls texts i l before all reply a b c kept is same answered
     subst (λ (xs : List (List ℕ)). Answered may p r xs (map reply_text all) a c) (sym (ap (λ (n : ℕ). take n texts) (plus_one i) ∙ here.upto))
     (subst (λ (rs : List (List ℕ)). Answered may p r (take i texts ++ here.text ∷ []) rs a c) (texts_more all before reply more)
     (then_lines may p q r (take i texts) (here.text ∷ []) (map reply_text before) (reply_text reply ∷ []) a b c answered line))
+
+-- ---- what a stop leaves within a round
+
+-- what stands for the run as far as it has come
+pub within_now : (may : ℕ → Bool) (ls : List RoundLine) (p q : Progress) (i : ℕ) (replies : List (List ℕ)) (a b : ℕ) (file : List ℕ) → length replies ≡ i
+    → ((texts : List (List ℕ)) → AreKept ls texts → Answered may p q (take i texts) replies a b) → StandsForRun q file → StandsWithin may ls p replies file
+within_now may ls p q i replies a b file count answered stands = record {
+  count = i;
+  told = omega (arith, count);
+  reached = q;
+  goes = λ texts kept. subst (λ (rs : List (List ℕ)). GoesOn may p q (take i texts) (printed rs)) (sym (take_all i replies (omega (arith, count)))) (answered texts kept).goes;
+  stands = stands;
+}
+
+front_stays : (n : ℕ) (xs ys : List (List ℕ)) → n ≤ length xs → take n (xs ++ ys) ≡ take n xs
+front_stays zero xs ys within = refl
+front_stays (suc n) [] ys within = absurd (omega (arith, within))
+front_stays (suc n) (x ∷ xs) ys within = ap (λ (zs : List (List ℕ)). x ∷ zs) (front_stays n xs ys (omega (arith, within)))
+
+-- more replies come behind those
+pub within_more : (may : ℕ → Bool) (ls : List RoundLine) (p : Progress) (before more all : List (List ℕ)) (file : List ℕ) → before ++ more ≡ all → StandsWithin may ls p before file → StandsWithin may ls p all file
+within_more may ls p before more all file is within = subst (λ (rs : List (List ℕ)). StandsWithin may ls p rs file) is (record {
+  count = within.count;
+  told = omega (arith, within.told, length-append before more);
+  reached = within.reached;
+  goes = λ texts kept. subst (λ (rs : List (List ℕ)). GoesOn may p within.reached (take within.count texts) (printed rs)) (sym (front_stays within.count before more within.told)) (within.goes texts kept);
+  stands = within.stands;
+})
+
+-- before the first line, whatever replies come
+pub within_none : (may : ℕ → Bool) (ls : List RoundLine) (p : Progress) (replies : List (List ℕ)) (file : List ℕ) → StandsForRun p file → StandsWithin may ls p replies file
+within_none may ls p replies file stands = record {
+  count = 0;
+  told = omega arith;
+  reached = p;
+  goes = λ texts kept. goes_nowhere may p;
+  stands = stands;
+}
 
 same_count : (ls : List RoundLine) (texts : List (List ℕ)) → AreKept ls texts → length texts ≡ length ls
 same_count [] [] kept = refl

@@ -14,11 +14,11 @@ ghost use Rattle.gd_plan.specs.Seen.{own_view};
 use crate::sight::{Lack, Sight};
 use gd_base::datum::{Datum, Precision};
 use gd_base::id::Id;
+use gd_fault::guid::guid;
 use gd_json::value::Json;
 use gd_plan::asked::Own;
 use gd_plan::constraint::answers_of;
 use gd_plan::expects::holds_values;
-use gd_reply::guid::guid;
 use gd_resolve::property::Property;
 use std::alloc::Global;
 

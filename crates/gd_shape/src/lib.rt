@@ -5,6 +5,7 @@ mod answer;
 mod cut;
 mod datum;
 mod gather;
+pub mod keys;
 pub mod known;
 pub mod length;
 pub mod line;

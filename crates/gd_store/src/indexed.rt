@@ -7,7 +7,7 @@ ghost use Rattle.gd_prim.specs.Live as graph;
 ghost use Rattle.gd_postings.specs.Postings.{ids_below, first_from};
 ghost use Rattle.gd_store.specs.Indexed.{may_enter};
 ghost use Rattle.gd_store.specs.Keys.{is_key_link, is_key_of};
-ghost use Rattle.gd_store.specs.Valued.{number_in, places_of_number};
+ghost use Rattle.gd_store.specs.Valued.{AreValues, number_in, places_of_number};
 
 use crate::indexes::Indexes;
 use gd_base::datum::Datum;
@@ -17,6 +17,7 @@ use gd_base::steps::Steps;
 use gd_base::text::Text;
 use gd_prim::well_formed::Prior;
 use gd_prim::{End, Primitive, Prims};
+use gd_valueidx::values::Values;
 use std::alloc::Global;
 use std::marker::Model;
 
@@ -232,6 +233,13 @@ impl IndexedPrims {
         ensures later { steps.old ≤ steps.new }
     {
         self.indexes.link_at(end, node, k, steps)
+    }
+
+    /// The values of the primitives by number, and the places of each.
+    pub(crate) fn values(&self) -> &Values
+        ensures { AreValues result.now self.now }
+    {
+        self.indexes.values()
     }
 
     /// The number of a value among those of the primitives below `end`, if it is one.

@@ -226,6 +226,13 @@ impl Indexes {
         }
     }
 
+    /// The values by number.
+    pub(crate) fn values(&self) -> &Values
+        ensures { result.now ≡ self.now.values }
+    {
+        &self.values
+    }
+
     /// Enters the primitive at a place behind all those before it, or for want of memory leaves the indexes those of
     /// the ones before it.
     fn enter(&mut self, prims: &[Primitive], place: usize) -> Result<(), Memory>

@@ -11,7 +11,7 @@ ghost use Rattle.gd_postings.specs.Postings.{ids_below, first_from};
 ghost use Rattle.gd_store.specs.Indexed.{may_enter};
 ghost use Rattle.gd_store.specs.Keys.{is_key_link, is_key_of};
 ghost use Rattle.gd_store.specs.Stored as stored;
-ghost use Rattle.gd_store.specs.Valued.{number_in, places_of_number};
+ghost use Rattle.gd_store.specs.Valued.{AreValues, number_in, places_of_number};
 
 use crate::indexed::IndexedPrims;
 use crate::view::View;
@@ -24,6 +24,7 @@ use gd_prim::builtin::builtin;
 use gd_prim::limits::{MAX_BATCH, MAX_PRIMS, MAX_REQUESTS, MAX_TEXT, batch_text_bytes};
 use gd_prim::well_formed::{BadBatch, is_well_formed_behind};
 use gd_prim::{Batch, End, Primitive, Prims, What};
+use gd_valueidx::values::Values;
 use std::alloc::Global;
 use std::marker::Model;
 use thiserror::Error;
@@ -180,6 +181,14 @@ impl Store {
         ensures timed { AreTimed (prims_of self.now) }
     {
         self.prims.as_slice()
+    }
+
+    /// The values of all primitives by number, and the places of each.
+    #[tactic(auto, using(crate::proofs::Stored::all_of_batches))]
+    pub fn values(&self) -> &Values
+        ensures { AreValues result.now (prims_of self.now) }
+    {
+        self.prims.values()
     }
 
     /// How many bytes all values and names have that are texts.

@@ -1,41 +1,6 @@
-//! Texts and data.
-use gd_base::datum::Datum;
-use gd_base::memory::Memory;
-use gd_base::text::{Text, TextFault};
+//! Faults of texts, as they are printed.
+use gd_base::text::TextFault;
 use std::alloc::Global;
-
-/// Whether these bytes become a text, which is they.
-fn is_made(alloc: Global, bytes: &[u8]) -> bool {
-    match Text::new(alloc, bytes) {
-        Ok(text) => text.as_bytes() == bytes,
-        Err(_) => false,
-    }
-}
-
-#[test]
-fn makes_a_text(rt: HostRuntime) {
-    assert!(rt; is_made(rt.alloc(), "Zürich \u{10348}".as_bytes()));
-}
-
-/// A copy of a datum that is a text.
-fn copied(alloc: Global) -> Result<Datum, Memory> {
-    let text = Text::of(alloc, "é")?;
-    let again = text.copy()?;
-    Datum::Text(again).copy()
-}
-
-/// Whether the copy is that text.
-fn is_copied(alloc: Global) -> bool {
-    match copied(alloc) {
-        Ok(Datum::Text(text)) => text.as_str() == "é",
-        _ => false,
-    }
-}
-
-#[test]
-fn copies(rt: HostRuntime) {
-    assert!(rt; is_copied(rt.alloc()));
-}
 
 /// Each fault of a text, and how it is printed.
 static FAULTS: [(TextFault, &str); 3] = [

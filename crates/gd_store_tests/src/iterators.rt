@@ -48,15 +48,24 @@ fn links_of_two(alloc: Global) -> Result<Or<Leaf>, Memory> {
 }
 
 /// What both give, added.
-fn both_sums(alloc: Global) -> u64 {
-    let Ok(store) = Store::new(alloc) else {
-        return 0;
-    };
+fn sums_over(alloc: Global, store: &Store) -> u64 {
     let (Ok(mut keys), Ok(mut links)) = (keys_of_the_root(alloc), links_of_two(alloc)) else {
         return 0;
     };
     let view = store.view(0);
     sum_of(&mut keys, &view, 30).saturating_add(sum_of(&mut links, &view, 30))
+}
+
+/// The same, over the built-in list.
+fn both_sums(alloc: Global) -> u64 {
+    match Store::new(alloc) {
+        Ok(store) => {
+            let sum = sums_over(alloc, &store);
+            drop(store);
+            sum
+        }
+        Err(_) => 0,
+    }
 }
 
 #[test]

@@ -1,8 +1,6 @@
 //! JSON values.
-use gd_base::memory::Memory;
 use gd_json::from::json_from;
 use gd_json::text::json_text;
-use gd_json::value::{Json, JsonText};
 use std::alloc::Global;
 
 /// Texts of JSON, and the compact texts of their values.
@@ -49,50 +47,4 @@ fn prints_what_it_reads(rt: HostRuntime) {
     for (text, printed) in &TEXTS {
         assert!(rt; is_reprinted(rt.alloc(), text, printed));
     }
-}
-
-/// `{"name":"t"}`.
-fn object(alloc: Global) -> Result<Json, Memory> {
-    let text = Json::text(alloc, "t")?;
-    let member = Json::named(alloc, "name", text)?;
-    Ok(Json::Object(vec![in alloc; member]?))
-}
-
-/// The compact text of a copy of the object.
-fn copied(alloc: Global) -> Result<Vec<u8>, Memory> {
-    let value = object(alloc)?;
-    let again = value.copy()?;
-    json_text(alloc, &again)
-}
-
-/// Whether the copy has this text.
-fn is_copied(alloc: Global, printed: &str) -> bool {
-    match copied(alloc) {
-        Ok(text) => text.as_slice() == printed.as_bytes(),
-        Err(_) => false,
-    }
-}
-
-#[test]
-fn makes_and_copies(rt: HostRuntime) {
-    assert!(rt; is_copied(rt.alloc(), "{\"name\":\"t\"}"));
-}
-
-/// A copy of a text.
-fn text_copied(alloc: Global, text: &str) -> Result<JsonText, Memory> {
-    let text = JsonText::from_str(alloc, text)?;
-    text.copy()
-}
-
-/// Whether the copy is the text.
-fn is_text_copied(alloc: Global, text: &str) -> bool {
-    match text_copied(alloc, text) {
-        Ok(again) => again.as_str() == text,
-        Err(_) => false,
-    }
-}
-
-#[test]
-fn copies_texts(rt: HostRuntime) {
-    assert!(rt; is_text_copied(rt.alloc(), "é"));
 }

@@ -4,8 +4,6 @@
 #[cfg(test)]
 mod base;
 #[cfg(test)]
-mod indexes;
-#[cfg(test)]
 mod input;
 #[cfg(test)]
 mod iterators;

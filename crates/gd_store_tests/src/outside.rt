@@ -1,57 +1,11 @@
 //! Sources, sinks and clocks.
-use gd_base::memory::Memory;
 use gd_outside::clock::{Clock, StdClock};
-use gd_outside::memory::{MemorySink, MemorySource};
 use gd_outside::sink::Sink;
 use gd_outside::source::Source;
 use gd_outside::stream::{StdSink, StdSource};
-use std::alloc::Global;
 use std::io;
 use std::io::{Read, Write};
 use std::time::Duration;
-
-/// What two reads give, of which the first fails.
-fn read_twice(alloc: Global, buf: &mut [u8]) -> Result<usize, Memory> {
-    let mut source = MemorySource::new(alloc, b"abc", &[0])?;
-    let _failed = source.read(buf);
-    Ok(source.read(buf).unwrap_or(9))
-}
-
-/// Whether the second read fills the buffer.
-fn reads(alloc: Global) -> bool {
-    let mut buf = [0; 2];
-    match read_twice(alloc, &mut buf) {
-        Ok(count) => count == 2 && buf == *b"ab",
-        Err(_) => false,
-    }
-}
-
-#[test]
-fn reads_from_memory(rt: HostRuntime) {
-    assert!(rt; reads(rt.alloc()));
-}
-
-/// A sink to which three writes were made, of which the second failed.
-fn written(alloc: Global) -> Result<MemorySink, Memory> {
-    let mut sink = MemorySink::new(alloc, &[1])?;
-    for bytes in [b"ab", b"xy", b"cd"] {
-        let _taken = sink.write(bytes);
-    }
-    Ok(sink)
-}
-
-/// Whether the sink holds the bytes of the others.
-fn writes(alloc: Global) -> bool {
-    match written(alloc) {
-        Ok(sink) => sink.bytes() == b"abcd".as_slice(),
-        Err(_) => false,
-    }
-}
-
-#[test]
-fn writes_to_memory(rt: HostRuntime) {
-    assert!(rt; writes(rt.alloc()));
-}
 
 /// Reads or takes one byte, fails, and then reads and takes nothing. It tells no content, and cannot flush.
 #[derive(Drop)]

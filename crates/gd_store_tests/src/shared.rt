@@ -53,10 +53,15 @@ fn entries<R: Wait>(
 
 /// The same, over two fresh stores.
 fn fresh_entries<R: Wait>(rt: &R, alloc: Global) -> Result<[Option<u32>; 2], Memory> {
-    let first = Store::new(alloc)?;
-    let second = Store::new(alloc)?;
     let batch = objects(alloc, 1)?;
-    entries(rt, alloc, first, second, batch)
+    let first = Store::new(alloc)?;
+    match Store::new(alloc) {
+        Ok(second) => entries(rt, alloc, first, second, batch),
+        Err(refused) => {
+            drop(first);
+            Err(refused)
+        }
+    }
 }
 
 #[test]

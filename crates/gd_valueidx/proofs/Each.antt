@@ -8,7 +8,7 @@ use Rattle.indexmap.proofs.CallerLemmas.{insert_entry-new}
 use Rattle.std.specs.Map.{lookup, keys_of}
 use Rattle.std.specs.Option.{option_to_list, option_map_or}
 use Rattle.std.proofs.lemmas.Bool.{ne_eqb}
-use Rattle.std.proofs.lemmas.List.{map-append}
+use Rattle.std.proofs.lemmas.List.{map-append, length-take-le}
 use Rattle.std.proofs.Math.Seq.{take-append_seam}
 use Rattle.gd_base.specs.declared.datum.Datum.{Datum}
 use Rattle.gd_base.specs.Order.{datum_eq}
@@ -74,14 +74,10 @@ old_value es new v p is same =
     same ∙ sym (ap (λ b. if b then keys_of es else keys_of es ++ v ∷ []) (sym (has_number es v) ∙ ap is_some (sym (found_as es v (Some p) is))))
 
 -- one that has none gets the next
-pub new_value : {S : Type 0} (m : HashMap Datum Places S) (new : List (Datum × Places)) (v : Datum) (w : Places) → None ≡ lookup ((equality.ghosts).eq v) m.entries → new ≡ insert_entry (equality.ghosts).eq m.entries v w
-    → keys_of new ≡ with_value v (keys_of m.entries)
-new_value m new v w is inserted =
-    ap keys_of (inserted ∙ insert_entry-new (equality.ghosts).eq m v w (sym is))
-    ∙ map-append (λ (e : Datum × Places). e.0) m.entries ((v, w) ∷ [])
-    ∙ sym (ap (λ b. if b then keys_of m.entries else keys_of m.entries ++ v ∷ []) (sym (has_number m.entries v) ∙ ap is_some (sym (found_as m.entries v None is))))
+pub as_new : (es : List (Datum × Places)) (v : Datum) → list_any (datum_eq v) (keys_of es) ≡ false → keys_of es ++ v ∷ [] ≡ with_value v (keys_of es)
+as_new es v none = sym (ap (λ b. if b then keys_of es else keys_of es ++ v ∷ []) none)
 
-keys_get : (es : List (Datum × Places)) (n : ℕ) → slice_get (keys_of es) n ≡ option_map (λ e. e.0) (slice_get es n)
+pub keys_get : (es : List (Datum × Places)) (n : ℕ) → slice_get (keys_of es) n ≡ option_map (λ e. e.0) (slice_get es n)
 keys_get [] n = refl
 keys_get (e ∷ es) zero = refl
 keys_get (e ∷ es) (suc n) = keys_get es n
@@ -123,7 +119,7 @@ last_there xs x =
     let count : length (xs ++ x ∷ []) - 1 ≡ length xs = omega (arith, length-append xs (x ∷ [])) in
     ap (slice_get (xs ++ x ∷ [])) count ∙ at_end xs x
 
-all_but_last : {X : Type 0} (xs : List X) (x : X) → xs ≡ take (length (xs ++ x ∷ []) - 1) (xs ++ x ∷ [])
+pub all_but_last : {X : Type 0} (xs : List X) (x : X) → xs ≡ take (length (xs ++ x ∷ []) - 1) (xs ++ x ∷ [])
 all_but_last xs x =
     let count : length (xs ++ x ∷ []) - 1 ≡ length xs = omega (arith, length-append xs (x ∷ [])) in
     sym (ap (λ n. take n (xs ++ x ∷ [])) count ∙ take-append_seam xs (x ∷ []))
@@ -153,3 +149,60 @@ popped_lists old new (Some e) is some sets empty =
     let last : slice_get (keys_of old) (length (keys_of old) - 1) ≡ Some e.0 =
     ap (λ ks. slice_get ks (length ks - 1)) (ap keys_of is ∙ keys_more new e) ∙ last_there (keys_of new) e.0 in
     each_value (λ b p q. q.ids ≡ p.ids) (λ p. refl) old new e.0 None sets (sym (empty e.0 last))
+
+-- ---- a value that gets a number, and one that loses it
+
+some_none : (o : Option Places) → is_some o ≡ false → o ≡ None
+some_none None is = refl
+some_none (Some p) is = cc
+
+none_found : (es : List (Datum × Places)) (v : Datum) → list_any (datum_eq v) (keys_of es) ≡ false → lookup ((equality.ghosts).eq v) es ≡ None
+none_found es v none = ap (λ (eq : Datum → Datum → Bool). lookup (eq v) es) eq_is ∙ some_none (lookup (datum_eq v) es) (has_number es v ∙ none)
+
+pub new_entries : {S : Type 0} (m : HashMap Datum Places S) (new : List (Datum × Places)) (v : Datum) (w : Places) → list_any (datum_eq v) (keys_of m.entries) ≡ false
+    → new ≡ insert_entry (equality.ghosts).eq m.entries v w → new ≡ m.entries ++ (v, w) ∷ []
+new_entries m new v w none inserted = inserted ∙ insert_entry-new (equality.ghosts).eq m v w (none_found m.entries v none)
+
+pub new_keys : (es new : List (Datum × Places)) (v : Datum) (w : Places) → new ≡ es ++ (v, w) ∷ [] → keys_of new ≡ keys_of es ++ v ∷ []
+new_keys es new v w is = ap keys_of is ∙ keys_more es (v, w)
+
+pub undone : (old new es : List (Datum × Places)) (e : Datum × Places) (last : Option (Datum × Places)) → old ≡ new ++ option_to_list last → (0 < length old → IsSome last) → old ≡ es ++ e ∷ [] → new ≡ es
+undone old new es e None is some grown = let none = some (omega (arith, ap length grown, length-append es (e ∷ []))) in cc none
+undone old new es e (Some f) is some grown =
+    let cut = λ (xs : List (Datum × Places)). take (length xs - 1) xs in
+    all_but new f ∙ ap cut (sym is ∙ grown) ∙ sym (all_but es e)
+  where
+    all_but : (xs : List (Datum × Places)) (x : Datum × Places) → xs ≡ take (length (xs ++ x ∷ []) - 1) (xs ++ x ∷ [])
+    all_but xs x = all_but_last xs x
+
+same_some : (o : Option Datum) (v w : Datum) → o ≡ Some v → o ≡ Some w → v ≡ w
+same_some o v w is also = ap (λ p. unwrap_or p v) (sym is ∙ also)
+
+pub popped_last : (old new : List (Datum × Places)) (last : Option (Datum × Places)) (v : Datum) → old ≡ new ++ option_to_list last → (0 < length old → IsSome last)
+    → IfSome last (λ e. Sets datum_eq old new e.0 None) → slice_get (keys_of old) (length (keys_of old) - 1) ≡ Some v → Sets datum_eq old new v None × (keys_of old ≡ keys_of new ++ v ∷ [])
+popped_last [] new None v is some sets end = cc
+popped_last (e ∷ es) new None v is some sets end = let none = some (omega arith) in cc none
+popped_last old new (Some e) v is some sets end =
+    let there : slice_get (keys_of old) (length (keys_of old) - 1) ≡ Some e.0 = ap (λ ks. slice_get ks (length ks - 1)) (ap keys_of is ∙ keys_more new e) ∙ last_there (keys_of new) e.0 in
+    let key : e.0 ≡ v = same_some (slice_get (keys_of old) (length (keys_of old) - 1)) e.0 v there end in
+    (subst (λ (k : Datum). Sets datum_eq old new k None) key sets, ap keys_of is ∙ keys_more new e ∙ ap (λ k. keys_of new ++ k ∷ []) key)
+
+pub gone : (old new : List (Datum × Places)) (v : Datum) → Sets datum_eq old new v None → list_any (datum_eq v) (keys_of new) ≡ false
+gone old new v sets =
+    let itself : datum_eq v v ≡ true = (datum_eq_decides v v).1 refl in
+    sym (has_number new v) ∙ ap is_some (sets v ∙ ap (λ b. cond b None (lookup (datum_eq v) old)) itself)
+
+pub no_number : (es : List (Datum × Places)) (v : Datum) → None ≡ lookup ((equality.ghosts).eq v) es → list_any (datum_eq v) (keys_of es) ≡ false
+no_number es v is = sym (has_number es v) ∙ ap is_some (sym (found_as es v None is))
+
+pub is_one : (ids ys : List ℕ) (n : ℕ) → ys ≡ without_entry true ids → n ≡ length ys → n ≡ 0 → 0 < length ids → length ids ≡ 1
+is_one [] ys n is count none some = absurd (omega (arith, some))
+is_one (x ∷ []) ys n is count none some = refl
+is_one (x ∷ y ∷ ids) ys n is count none some =
+    let long = length-take-le (length (x ∷ y ∷ ids) - 1) (x ∷ y ∷ ids) (omega arith) in
+    let same = ap length is in
+    absurd (omega (arith, long, same, count, none))
+
+pub is_empty : (xs : List ℕ) (n : ℕ) → n ≡ length xs → n ≡ 0 → xs ≡ []
+is_empty [] n count none = refl
+is_empty (x ∷ xs) n count none = absurd (omega (arith, count, none))

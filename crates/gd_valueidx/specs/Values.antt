@@ -1,5 +1,5 @@
 -- Values in the order of their first entry, each with the list of its places.
-use Rattle.std.specs.Prelude.{ℕ, ◌-◌, List, [], ◌∷◌, ◌++◌, Bool, length, take, unwrap_or, slice_get, if◌then◌else◌}
+use Rattle.std.specs.Prelude.{◌≡◌, ℕ, ◌-◌, Option, cond, List, [], ◌∷◌, ◌++◌, Bool, length, take, unwrap_or, slice_get, if◌then◌else◌}
 use Rattle.std.specs.List.{list_any}
 use Rattle.std.specs.Map.{lookup, keys_of}
 use Rattle.std.specs.Option.{option_map_or}
@@ -27,3 +27,7 @@ with_value value values = if list_any (datum_eq value) values then values else v
 -- the values without the last one, where the test holds
 abbrev pub without_value : Bool → List Datum → List Datum
 without_value test values = if test then take (length values - 1) values else values
+
+-- the new entries have this at the value, and at every other value what the old ones have
+abbrev pub Sets : List (Datum × Places) → List (Datum × Places) → Datum → Option Places → Type 0
+Sets old new key w = (q : Datum) → lookup (datum_eq q) new ≡ cond (datum_eq key q) w (lookup (datum_eq q) old)

@@ -1,39 +1,50 @@
 //! Values by number, and the places of each.
-ghost use Rattle.std.specs.Prelude.{◌≡◌, ℕ, ◌-◌, ◌<◌, ◌==◌, [], Some, length, slice_get, position, true, OnOk, OnErr};
+ghost use Rattle.std.specs.Prelude.{◌≡◌, ℕ, ◌+◌, ◌-◌, ◌<◌, ◌≤◌, ◌==◌, [], Some, None, length, slice_get, position, true, nat_lt, if◌then◌else◌, IfOk, OnOk, OnErr};
 ghost use Rattle.std.specs.Option.{option_copied};
 ghost use Rattle.gd_base.specs.declared.datum.Datum as base;
+ghost use Rattle.gd_base.specs.Counts.{Rose};
 ghost use Rattle.gd_base.specs.Order.{datum_eq};
 ghost use Rattle.gd_postings.specs.Postings.{IsAbove};
 ghost use Rattle.gd_lists.specs.Entries.{with_entry, without_entry};
+ghost use Rattle.gd_valueidx.specs.Ranked.{numbers_between};
 ghost use Rattle.gd_valueidx.specs.Values.{value_list, values_in, number_list, with_value, without_value};
 
+use crate::between::between;
+use crate::numbering::{give_number, take_number};
+use crate::numbers::Numbers;
+use crate::order::Order;
 use gd_base::datum::Datum;
 use gd_base::id::Id;
 use gd_base::memory::Memory;
+use gd_base::steps::Steps;
 use gd_postings::postings::Postings;
 use indexmap::IndexMap;
 use std::alloc::Global;
 use std::marker::Model;
 
 /// Values in the order of their first entry, which is that of their numbers from 0, each with the rising list of its
-/// places. Contracts see the entries. A value that was never entered has an empty list.
+/// places. Contracts see the entries. A value that was never entered has an empty list. Beside them stand their numbers in
+/// the order of the values, by which the values between two are found.
 #[derive(Drop)]
 pub struct Values {
     lists: IndexMap<Datum, Postings>,
+    order: Order,
     empty: Postings,
     alloc: Global,
 }
 
 impl Model for Values {
     ghost use Rattle.std.specs.Prelude.{◌≡◌, List, []};
+    ghost use Rattle.std.specs.Map.{keys_of};
     ghost use Rattle.gd_base.specs.declared.datum.Datum.{Datum};
     ghost use Rattle.gd_postings.specs.Postings.{Places};
+    ghost use Rattle.gd_valueidx.specs.Runs.{AreOrdered};
 
     ghost Value = { List (Datum × Places) };
 
     ghost view = { λ values. values.lists.entries };
 
-    ghost invariant = { λ values. values.empty.ids ≡ [] };
+    ghost invariant = { λ values. (values.empty.ids ≡ []) × AreOrdered values.order.runs.items (keys_of values.lists.entries) };
 }
 
 impl Values {
@@ -43,6 +54,7 @@ impl Values {
     {
         Values {
             lists: IndexMap::new(alloc),
+            order: Order::new(alloc),
             empty: Postings::new(alloc),
             alloc,
         }
@@ -86,7 +98,7 @@ impl Values {
     }
 
     /// Enters a place at the end of the list of a value, which gets the next number if it has none. Every other list
-    /// stays. `Memory` leaves the values and the places of each as they were.
+    /// stays. `Memory` leaves the values and the places of each as they were; it also comes where 4,294,967,295 values have a number.
     pub fn add(&mut self, value: &Datum, id: Id) -> Result<(), Memory>
         requires small { id < 2_097_151 }
         requires above { IsAbove (value_list value.now self.old).ids id }
@@ -105,9 +117,7 @@ impl Values {
                 let mut list = Postings::new(self.alloc);
                 list.make_room()?;
                 list.push(id);
-                let value = value.copy()?;
-                self.lists.insert(value, list)?;
-                Ok(())
+                give_number(&mut self.lists, &mut self.order, value, list)
             }
         }
     }
@@ -121,7 +131,7 @@ impl Values {
         ensures values { values_in self.new ≡ without_value (length (value_list value.now self.old).ids == 1) (values_in self.old) }
     {
         if self.take_last(value) == 0 {
-            self.drop_last();
+            self.drop_last(value);
         }
     }
 
@@ -142,11 +152,32 @@ impl Values {
     }
 
     /// Takes the last value away, whose list is empty.
-    fn drop_last(&mut self)
-        requires { (v : base.Datum) → slice_get (values_in self.old) (length (values_in self.old) - 1) ≡ Some v → (value_list v self.old).ids ≡ [] }
+    fn drop_last(&mut self, value: &Datum)
+        requires last { slice_get (values_in self.old) (length (values_in self.old) - 1) ≡ Some value.now }
+        requires empty { (value_list value.now self.old).ids ≡ [] }
         ensures lists { (v : base.Datum) → (value_list v self.new).ids ≡ (value_list v self.old).ids }
         ensures values { values_in self.new ≡ without_value true (values_in self.old) }
     {
-        let _last = self.lists.pop();
+        take_number(&mut self.lists, &mut self.order, value);
+    }
+
+    /// The numbers of the values that are not less than `lo` nor greater than `hi`, where these are given, in the order of the
+    /// values, or None where there are more than `most`. To find the first counts as one step, and each number, and the end,
+    /// as one.
+    pub fn values_between<L>(
+        &self,
+        lo: Option<&Datum>,
+        hi: Option<&Datum>,
+        most: u32,
+        steps: &mut Steps<L>,
+    ) -> Result<Option<Numbers>, Memory>
+        ensures numbers { IfOk result (λ found. found ≡ (if nat_lt most (length (numbers_between (option_copied lo.entry) (option_copied hi.entry) (values_in self.now))) then None
+            else Some (numbers_between (option_copied lo.entry) (option_copied hi.entry) (values_in self.now)))) }
+        ensures work { steps.new ≤ steps.old + most + 2 }
+        ensures later { steps.old ≤ steps.new }
+        ensures counted { Rose steps.old steps.new }
+    {
+        steps.tick();
+        between(&self.order, &self.lists, lo, hi, most, self.alloc, steps)
     }
 }

@@ -4,3 +4,4 @@ pub mod Seen
 pub mod Defined
 pub mod Pages
 pub mod Objects
+pub mod Past

@@ -7,14 +7,14 @@ use Rattle.std.proofs.lemmas.List.{append-nil}
 use Rattle.std.proofs.lemmas.List.Sorted.{IsPermutation-map, IsPermutation-trans}
 use Rattle.gd_prim.specs.declared.Primitive.{Primitive}
 use Rattle.gd_defs.specs.Asked.{SortKey, Asked}
-use Rattle.gd_defs.specs.Rows.{key_place, row_of, rows}
+use Rattle.gd_defs.specs.Rows.{key_place, row_of, rows, sorted_onto}
 use Rattle.gd_defs.specs.Rows as defs
 use Rattle.gd_defs.specs.Reply.{Mark, mark_row, fitted}
 use Rattle.gd_order_laws.specs.Window.{Each, Apart}
 use Rattle.gd_order_laws.proofs.Rows.{meeting, of_objects, apart_rows}
 use Rattle.gd_order_laws.proofs.Sorted.{sorted_permutes}
-use Rattle.gd_window.specs.Laws.{places, defined, CarriesKeys, Carries, keys_at, with_values, IsMarkRow, AreRowsOf, ObjectsGivePages}
-use Rattle.gd_window.proofs.Pages.{pages_given}
+use Rattle.gd_window.specs.Laws.{places, defined, CarriesKeys, Carries, keys_at, with_values, IsMarkRow, AreRowsOf, ObjectsGivePages, RowsBehindAreAsDefined, behind_mark}
+use Rattle.gd_window.proofs.Pages.{behind_defined, pages_given}
 
 keys_carry : (prims : List Primitive) (sort : List SortKey) (ps : List (Option ℕ)) → CarriesKeys prims sort (keys_at prims sort ps)
 keys_carry prims [] ps = tt
@@ -66,3 +66,8 @@ pub objects_give : ObjectsGivePages
 objects_give prims q mark os once all =
     pages_given prims q mark (option_map (λ m. with_values prims q.sort (mark_row prims q.sort m)) mark) (map (λ o. with_values prims q.sort (row_of prims q.sort 0 o)) os)
     (mark_is prims q.sort mark) (are_rows prims q os once all)
+
+pub objects_behind : RowsBehindAreAsDefined
+objects_behind prims q mark os =
+    behind_defined prims q.sort mark (option_map (λ m. with_values prims q.sort (mark_row prims q.sort m)) mark) (map (λ o. with_values prims q.sort (row_of prims q.sort 0 o)) os) (mark_is prims q.sort mark) (all_carry prims q os)
+    ∙ ap (λ l. sorted_onto (defs.row_cmp prims q.sort) [] (behind_mark prims q.sort mark l)) (all_defined prims q os)

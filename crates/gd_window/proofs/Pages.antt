@@ -18,7 +18,7 @@ use Rattle.gd_order_laws.proofs.Sorted.{Each-filter, Each-from_members, Each-mem
 use Rattle.gd_window.specs.declared.row.Row.{Row}
 use Rattle.gd_window.specs.Rows.{row_cmp}
 use Rattle.gd_window.specs.Kept.{is_behind, rows_behind}
-use Rattle.gd_window.specs.Laws.{defined, directions, Carries, IsMarkRow, AreRowsOf, WindowsGivePages}
+use Rattle.gd_window.specs.Laws.{defined, directions, Carries, IsMarkRow, AreRowsOf, WindowsGivePages, behind_mark}
 use Rattle.gd_window.proofs.Defined.{row_same}
 
 -- ---- lists
@@ -82,23 +82,31 @@ in_order_are_rows prims q ys once all =
     offered_permuted cmp (keys.row_total prims q.sort) ys objects (IsPermutation-trans ys (rows prims q) objects all (IsPermutation-sym objects (rows prims q) whole)) once
     (apart_rows prims q (meeting prims q) (apart_objects prims (meets prims q.members 0)))
 
+-- rows that carry their values, behind the row of a mark, are those that the definitions put in order
+pub behind_defined : (prims : List Primitive) (sort : List SortKey) (mark : Option Mark) (after : Option Row) (offered : List Row) → IsMarkRow prims sort mark after → Each (Carries prims sort) offered
+    → map defined (rows_behind (directions sort) after offered) ≡ sorted_onto (defs.row_cmp prims sort) [] (behind_mark prims sort mark (map defined offered))
+behind_defined prims sort None None offered is carry = ap (λ l. map defined (sorted_onto (row_cmp (directions sort)) [] l)) (all_kept offered) ∙ map-sorted prims sort [] offered tt carry
+behind_defined prims sort None (Some r) offered is carry = absurd is
+behind_defined prims sort (Some m) None offered is carry = absurd is
+behind_defined prims sort (Some m) (Some r) offered is carry =
+    let cmp = defs.row_cmp prims sort in
+    let behind : Row → Bool = is_behind (directions sort) (Some r) in
+    let test : defs.Row → Bool = λ s. is_lt (cmp (mark_row prims sort m) s) in
+    let same : Each (λ s. behind s ≡ test (defined s)) offered =
+    Each-weaker (Carries prims sort) (λ s. behind s ≡ test (defined s)) (λ s has. ap is_lt (row_same prims sort r s is.0 has ∙ ap (λ t. cmp t (defined s)) is.1)) offered carry in
+    map-sorted prims sort [] (filter behind offered) tt (Each-filter (Carries prims sort) behind offered carry)
+    ∙ ap (λ l. sorted_onto cmp [] l) (map-filter behind test offered same)
+
 behind_are_after : (prims : List Primitive) (q : Asked) (mark : Option Mark) (after : Option Row) (offered : List Row) → IsMarkRow prims q.sort mark after → AreRowsOf prims q offered
     → map defined (rows_behind (directions q.sort) after offered) ≡ rows_after prims q mark
-behind_are_after prims q None None offered is are =
-    ap (λ l. map defined (sorted_onto (row_cmp (directions q.sort)) [] l)) (all_kept offered)
-    ∙ (map-sorted prims q.sort [] offered tt are.carry ∙ in_order_are_rows prims q (map defined offered) are.once are.all)
-behind_are_after prims q None (Some r) offered is are = absurd is
-behind_are_after prims q (Some m) None offered is are = absurd is
-behind_are_after prims q (Some m) (Some r) offered is are =
-    let cmp = defs.row_cmp prims q.sort in
-    let behind : Row → Bool = is_behind (directions q.sort) (Some r) in
-    let test : defs.Row → Bool = λ s. is_lt (cmp (mark_row prims q.sort m) s) in
-    let same : Each (λ s. behind s ≡ test (defined s)) offered =
-    Each-weaker (Carries prims q.sort) (λ s. behind s ≡ test (defined s)) (λ s has. ap is_lt (row_same prims q.sort r s is.0 has ∙ ap (λ t. cmp t (defined s)) is.1)) offered are.carry in
-    map-sorted prims q.sort [] (filter behind offered) tt (Each-filter (Carries prims q.sort) behind offered are.carry)
-    ∙ (ap (λ l. sorted_onto cmp [] l) (map-filter behind test offered same)
-    ∙ (sorted-filter cmp (keys.row_total prims q.sort) test (map defined offered) are.once
-    ∙ ap (filter test) (in_order_are_rows prims q (map defined offered) are.once are.all)))
+behind_are_after prims q mark after offered is are = behind_defined prims q.sort mark after offered is are.carry ∙ by mark
+  where
+    by : (mark : Option Mark) → sorted_onto (defs.row_cmp prims q.sort) [] (behind_mark prims q.sort mark (map defined offered)) ≡ rows_after prims q mark
+    by None = in_order_are_rows prims q (map defined offered) are.once are.all
+    by (Some m) =
+        let test : defs.Row → Bool = λ s. is_lt (defs.row_cmp prims q.sort (mark_row prims q.sort m) s) in
+        sorted-filter (defs.row_cmp prims q.sort) (keys.row_total prims q.sort) test (map defined offered) are.once
+        ∙ ap (filter test) (in_order_are_rows prims q (map defined offered) are.once are.all)
 
 pub pages_given : WindowsGivePages
 pages_given prims q mark after offered is are =

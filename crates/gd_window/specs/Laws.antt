@@ -1,11 +1,11 @@
 -- The order of rows that carry their values is the order of the rows of a query.
 use Rattle.std.specs.Prelude.{◌≡◌, ℕ, List, [], ◌∷◌, Bool, Option, None, Some, option_map, filter, map, take, length, nat_lt}
 use Rattle.std.specs.List.Sorted.{IsPermutation}
-use Rattle.std.specs.Ordering.{nat_cmp}
+use Rattle.std.specs.Ordering.{nat_cmp, is_lt}
 use Rattle.gd_prim.specs.declared.Primitive.{Primitive}
 use Rattle.gd_prim.specs.Live.{objects}
 use Rattle.gd_defs.specs.Asked.{SortKey, Asked}
-use Rattle.gd_defs.specs.Rows.{key_value, first_key, later_keys, row_of, meets, rows}
+use Rattle.gd_defs.specs.Rows.{key_value, first_key, later_keys, row_of, meets, rows, sorted_onto}
 use Rattle.gd_defs.specs.Rows as defs
 use Rattle.gd_defs.specs.Reply.{Mark, mark_row, page, has_more}
 use Rattle.gd_order_laws.specs.Window.{Each, Apart}
@@ -76,3 +76,14 @@ with_values prims sort r = record { keys = keys_at prims sort r.keys; id = r.obj
 abbrev pub ObjectsGivePages : Type 0
 ObjectsGivePages = (prims : List Primitive) (q : Asked) (mark : Option Mark) (os : List ℕ) → Apart nat_cmp os → IsPermutation os (filter (meets prims q.members 0) (objects prims))
     → IsPage prims q mark (option_map (λ m. with_values prims q.sort (mark_row prims q.sort m)) mark) (map (λ o. with_values prims q.sort (row_of prims q.sort 0 o)) os)
+
+-- rows behind a mark, if there is one, as the definitions compare them
+abbrev pub behind_mark : List Primitive → List SortKey → Option Mark → List defs.Row → List defs.Row
+behind_mark prims sort None rows = rows
+behind_mark prims sort (Some m) rows = filter (λ r. is_lt (defs.row_cmp prims sort (mark_row prims sort m) r)) rows
+
+-- Of the rows of any objects, those that come behind the row of a mark are, in their order, those that the definitions put in order behind the mark.
+abbrev pub RowsBehindAreAsDefined : Type 0
+RowsBehindAreAsDefined = (prims : List Primitive) (q : Asked) (mark : Option Mark) (os : List ℕ)
+    → map defined (rows_behind (directions q.sort) (option_map (λ m. with_values prims q.sort (mark_row prims q.sort m)) mark) (map (λ o. with_values prims q.sort (row_of prims q.sort 0 o)) os))
+    ≡ sorted_onto (defs.row_cmp prims q.sort) [] (behind_mark prims q.sort mark (map (row_of prims q.sort 0) os))

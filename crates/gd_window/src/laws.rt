@@ -1,5 +1,5 @@
 //! Laws: each is the contract of a function that does nothing.
-ghost use Rattle.gd_window.specs.Laws.{ObjectsGivePages, RowsAreAsDefined, WindowsGivePages};
+ghost use Rattle.gd_window.specs.Laws.{ObjectsGivePages, RowsAreAsDefined, RowsBehindAreAsDefined, WindowsGivePages};
 
 /// Rows that carry the values at the places of their keys are ordered as the definitions order rows.
 pub fn rows_are_as_defined()
@@ -14,4 +14,9 @@ pub fn windows_give_pages()
 /// A window to which the row of each object that meets a query is offered, with its values, gives the page.
 pub fn objects_give_pages()
     ensures { ObjectsGivePages }
+{}
+
+/// The rows of objects that come behind the row of a mark, with their values, are those that the definitions put in order.
+pub fn rows_behind_are_as_defined()
+    ensures { RowsBehindAreAsDefined }
 {}

@@ -1,5 +1,5 @@
 //! The first rows behind a row.
-ghost use Rattle.std.specs.Prelude.{◌≡◌, ◌+◌, ◌≤◌, [], ◌∷◌, ◌++◌, List, length, take, nat_lt, IfOk, OnOk, OnErr};
+ghost use Rattle.std.specs.Prelude.{◌≡◌, ◌+◌, ◌≤◌, [], ◌∷◌, ◌++◌, List, true, length, take, nat_lt, IfOk, OnOk, OnErr};
 ghost use Rattle.gd_window.specs.declared.row.Row.{Row};
 ghost use Rattle.gd_window.specs.Kept.{is_behind, rows_behind, HasSeen};
 
@@ -7,6 +7,7 @@ use crate::compare::row_order;
 use crate::order::Order;
 use crate::place::{place_of, put};
 use crate::row::{Row, Rows};
+use gd_base::id::Id;
 use gd_base::memory::Memory;
 use std::alloc::Global;
 use std::marker::Model;
@@ -82,6 +83,38 @@ impl Window {
         }
         let place = place_of(&self.order, self.kept.as_slice(), &row);
         put(&mut self.kept, self.limit as usize + 1, place, row)
+    }
+
+    /// How many rows it is to give at most.
+    pub fn limit(&self) -> u32
+        ensures { result ≡ self.now.limit }
+    {
+        self.limit
+    }
+
+    /// The rows that are kept, in their order: one more than the limit at most.
+    pub fn rows(&self) -> &[Row]
+        ensures rows { result.now ≡ self.now.rows }
+        ensures few { length self.now.rows ≤ self.now.limit + 1 }
+    {
+        self.kept.as_slice()
+    }
+
+    /// Whether the row of this object need not be offered, since it would change nothing: no keys order the rows, as many are kept
+    /// as may be, and the objects of all of these are less. The same is true of each greater object then. It takes no memory.
+    pub fn is_past(&self, id: Id) -> bool
+        ensures { result ≡ true → (row : Row) → row.id ≡ id → (offered : List Row) → HasSeen self.now offered → HasSeen self.now (offered ++ row ∷ []) }
+    {
+        if !self.order.as_slice().is_empty() {
+            return false;
+        }
+        if self.kept.len() <= self.limit as usize {
+            return false;
+        }
+        match self.kept.as_slice().last() {
+            Some(last) => last.id.place() < id.place(),
+            None => false,
+        }
     }
 
     /// The first rows behind `after` of all that were offered, in their order and up to the limit, and whether there are

@@ -37,7 +37,7 @@ impl<D: Disk> Serving<D> {
     ) -> Replies
         requires lines { self.old.progress.lines + length lines.now < 2 ^ 63 }
         requires short { All IsShort lines.now }
-        ensures { AnswersRound D.content D.images D.faults lines.now self.old self.new
+        ensures { AnswersRound D.content D.moment D.images D.images_since D.faults lines.now self.old self.new
             (C.may clock.old) (C.may clock.new) (reply_texts result) }
     {
         match Vec::with_capacity(alloc, lines.len()) {
@@ -58,7 +58,7 @@ impl<D: Disk> Serving<D> {
         requires short { All IsShort lines.now }
         requires none { replies.items ≡ [] }
         requires room { length lines.now ≤ vec_capacity replies }
-        ensures { AnswersRound D.content D.images D.faults lines.now self.old self.new
+        ensures { AnswersRound D.content D.moment D.images D.images_since D.faults lines.now self.old self.new
             (C.may clock.old) (C.may clock.new) (map reply_text result.items) }
     {
         for line in lines {

@@ -1,4 +1,4 @@
-use Rattle.std.proofs.Common.{◌≡◌, ◌++◌, ◌∷◌, [], ◌∙◌, ap, sym, subst, map, drop, ◌+◌, Bor, List, ℕ, Result, Ok, refl, arith}
+use Rattle.std.proofs.Common.{◌∙◌, ap, sym, subst, map, drop, ◌+◌, Bor, List, ℕ, Result, Ok, refl, arith}
 use Rattle.std.proofs.lemmas.Result.{err_from_is_err_and}
 use Rattle.gd_grammar.specs.Chain.{◌>>=◌}
 use Rattle.gd_prim.specs.declared.Primitive.{Primitive}
@@ -16,7 +16,7 @@ use Rattle.gd_intent.specs.declared.intent.Item.{Item}
 use Rattle.gd_carry.specs.Printed.{Field, printed_view}
 use Rattle.gd_carry.specs.declared.print.Printed.{Printed}
 use Rattle.gd_carry.specs.Outcome.{Makes}
-use Rattle.gd_carry.proofs.Nested.{nested_view, same_members}
+use Rattle.gd_carry.proofs.Nested.{nested_view}
 use Rattle.gd_carry.proofs.Nesting.{nested_done, nested_unmade, nested_unlinked}
 use Rattle.gd_carry.proofs.Depths.{entry_in, item_in}
 use Rattle.gd_growing.specs.Seen.{answer_word}

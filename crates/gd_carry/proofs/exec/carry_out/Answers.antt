@@ -1,4 +1,4 @@
-use Rattle.std.proofs.Common.{◌≡◌, ◌∙◌, ap, subst, List, ℕ, Ok, Err, length, drop}
+use Rattle.std.proofs.Common.{◌≡◌, ◌∙◌, ap, subst, List, Ok, Err, length, drop}
 use Rattle.std.proofs.lemmas.List.{append-nil}
 use Rattle.std.proofs.lemmas.Result.{err_from_is_err_and}
 use Rattle.gd_prim.specs.declared.Batch.{Batch}
@@ -13,7 +13,7 @@ use Rattle.gd_intent.specs.declared.intent.Entry.{Entry}
 use Rattle.gd_intent.specs.declared.intent.Item.{Item}
 use Rattle.gd_intent.specs.Seen.{intent_view, members_view}
 use Rattle.gd_carry.specs.declared.print.Printed.{Printed}
-use Rattle.gd_carry.specs.Outcome.{Makes, fault_of}
+use Rattle.gd_carry.specs.Outcome.{fault_of}
 use Rattle.gd_carry.specs.Printed.{Field, fields_view}
 use Rattle.gd_carry.proofs.Whole.{carried_done, carried_refused}
 use Rattle.gd_carry.proofs.exec.carry_out.Goals as goal

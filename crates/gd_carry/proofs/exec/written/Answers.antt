@@ -1,9 +1,9 @@
-use Rattle.std.proofs.Common.{◌≡◌, ◌∙◌, ap, sym, subst, Result, Err}
+use Rattle.std.proofs.Common.{◌∙◌, ap, sym, subst, Result, Err}
 use Rattle.std.proofs.lemmas.Result.{err_from_is_err_and}
 use Rattle.gd_prim.specs.declared.Batch.{Batch}
 use Rattle.gd_prim.specs.History.{prims_of}
 use Rattle.gd_tree.specs.Json as tree
-use Rattle.gd_defs.specs.Change.{Change, Root}
+use Rattle.gd_defs.specs.Change.{Change}
 use Rattle.gd_defs.specs.Write.Links.{ChangeFault}
 use Rattle.gd_mql.specs.Requests.{write_view}
 use Rattle.gd_compile.specs.Fault.{unknown_of}

@@ -1,5 +1,4 @@
-use Rattle.std.proofs.Common.{◌≡◌, ◌≤◌, ◌∙◌, ap, sym, map, length, arith}
-use Rattle.gd_json.specs.View.{view, member_view}
+use Rattle.std.proofs.Common.{◌≤◌, ◌∙◌, ap, sym, map, length, arith}
 use Rattle.gd_growing.specs.State.{so_far}
 use Rattle.gd_carry.specs.Printed.{printed_view, fields_view, pair_view}
 use Rattle.gd_carry.proofs.Fields.{fields_seen, items_seen, take_all}

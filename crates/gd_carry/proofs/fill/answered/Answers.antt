@@ -1,4 +1,4 @@
-use Rattle.std.proofs.Common.{◌≡◌, ◌≤◌, ◌∙◌, ◌++◌, ap, sym, map, length, List, ℕ, arith}
+use Rattle.std.proofs.Common.{◌≤◌, ◌∙◌, ◌++◌, ap, sym, map, length, List, ℕ, arith}
 use Rattle.gd_json.specs.View.{member_view}
 use Rattle.gd_json.specs.declared.value.Json.{Json}
 use Rattle.gd_carry.proofs.Answered.{answer_first, answer_later, answer_none}

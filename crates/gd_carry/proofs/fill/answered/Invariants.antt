@@ -1,4 +1,4 @@
-use Rattle.std.proofs.Common.{◌≡◌, ◌++◌, drop, map}
+use Rattle.std.proofs.Common.{◌≡◌, drop, map}
 use Rattle.gd_json.specs.View.{member_view, members_view}
 use Rattle.gd_defs.specs.Write.Carried.{answered}
 use Rattle.gd_carry.specs.Printed.{pairs_before}

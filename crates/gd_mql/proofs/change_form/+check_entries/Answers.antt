@@ -3,7 +3,7 @@ use Rattle.std.proofs.lemmas.Result.{err_from_is_err_and}
 use Rattle.gd_json.specs.View.{view, items_view, members_view}
 use Rattle.gd_form_laws.specs.WriteFaults.{entries_fault, items_fault}
 use Rattle.gd_form_laws.proofs.Changes.{connect-item, created, plain-item, named-item, list-item}
-use Rattle.gd_mql.specs.Fault.{code_view}
+use Rattle.gd_fault.specs.Fault.{code_view}
 use Rattle.gd_mql.specs.Names.{name_view}
 use Rattle.gd_mql.specs.Changes.{setting_view}
 use Rattle.gd_mql.specs.FormFault.{Checks, Refuses}

@@ -1,14 +1,14 @@
 use Rattle.gd_json.specs.View.{view}
+use Rattle.gd_mql.specs.Line.{fault_view}
 use Rattle.std.proofs.lemmas.Result.{err_from_is_err_and}
 use Rattle.gd_mql.specs.Requests.{read_view}
-use Rattle.gd_mql.proofs.Envelopes.{read_given_line}
-use Rattle.gd_mql.proofs.Refused.{read_line_refused}
+use Rattle.gd_mql.proofs.Envelopes.{read_line_failed, read_line_made}
 use Rattle.gd_mql.proofs.line.read_from.Goals as goal
 
-pub returns-in_err-check_read : goal.returns-in_err-check_read
-returns-in_err-check_read c =
+pub returns-in_err-request : goal.returns-in_err-request
+returns-in_err-request c =
     let p = err_from_is_err_and c.from_residual.result c.from_residual.ensures.1 in
-    rw (p.1, p.2) (read_line_refused c.args.sid (view c.args.envelope) c.in_err-check_read.field-0.0 c.in_err-check_read.ensures)
+    rw (p.1, p.2) (λ named. read_line_failed c.args.sid (view c.args.envelope) _ (c.in_err-request.ensures named))
 
 pub returns : goal.returns
-returns c = read_given_line c.args.sid (view c.args.envelope) (read_view c.in_ok-request.request) c.in_ok-request.ensures
+returns c = read_line_made c.args.sid (view c.args.envelope) (read_view c.in_ok-request.request) c.in_ok-request.ensures

@@ -1,10 +1,13 @@
 use Rattle.std.proofs.Common.{◌≡◌, ℕ, List, length, refl, sym, ap, subst, arith}
+use Rattle.gd_bytes.specs.Disk.{LeavesOnly}
+use Rattle.gd_disk.specs.Runs.{leaves_start}
 use Rattle.gd_journal.specs.State.{Journaled}
 use Rattle.gd_served_laws.specs.Served.{Progress, Grows}
 use Rattle.gd_served_laws.proofs.Growing.{grows_none}
 use Rattle.gd_serving.specs.Running.{Running, IsBacked}
-use Rattle.gd_serving.specs.Rounds.{Answered, reply_texts, no_memory}
-use Rattle.gd_serving.proofs.Rounds.{behind, passed}
+use Rattle.gd_serving.specs.Rounds.{Answered, StandsWithin, reply_texts, no_memory}
+use Rattle.gd_serving.proofs.Rounds.{behind, passed, within_none}
+use Rattle.gd_serving.proofs.Backed.{stands}
 use Rattle.gd_serving.proofs.serving.Serving.answer_round.Goals as goal
 
 pub returns-in-Err : goal.returns-in-Err
@@ -24,6 +27,9 @@ returns-in-Err g c =
       next = ap (λ (q : Progress). q.lines) moved;
       grows = subst (λ (q : Progress). Grows p.batches q.batches) (sym moved) (grows_none p.batches);
       backed = λ held. subst (IsBacked d.content d.images) (sym c.pass_over.ensures.run) held;
+      moments = λ held. subst (λ (l : Journaled _). LeavesOnly d.moment d.images d.images_since c.args.self.now.log.disk l.disk (StandsWithin may ls p (reply_texts c.pass_over.result))) (sym log)
+          (leaves_start d.moment d.images d.images_since c.args.self.now.log.disk (StandsWithin may ls p (reply_texts c.pass_over.result)) (g.met.D.Disk.only_now c.args.self.now.log.disk)
+          (λ file now. within_none may ls p (reply_texts c.pass_over.result) file (stands (d.content c.args.self.now.log.disk) (d.images c.args.self.now.log.disk) c.args.self.now.log.gate c.args.self.now.log.doubt p.batches p.doubt held file now)));
       clock = refl;
       later = let same = ap (λ (l : Journaled _). d.faults l.disk) log in omega (arith, same);
     }

@@ -1,16 +1,16 @@
 use Rattle.std.proofs.Common.{◌≡◌, ℕ, ap, sym, ◌∙◌, subst, refl, rules, List, [], ◌∷◌, ◌++◌, Some, None}
 use Rattle.std.specs.Option.{IsSome}
+use Rattle.std.specs.List.{list_any}
 use Rattle.std.specs.Map.{keys_of}
+use Rattle.std.proofs.lemmas.Result.{on_ok_weaker}
 use Rattle.std.specs.HashMap.{HashMap}
 use Rattle.gd_base.specs.declared.datum.Datum.{Datum}
 use Rattle.gd_base.specs.Order.{datum_eq}
-use Rattle.gd_base.specs.contracts.datum.DatumPartialEq.TheImpl as equality
-use Rattle.indexmap.specs.IndexMap.{insert_entry}
 use Rattle.gd_postings.specs.Postings.{Places, IsAbove}
 use Rattle.gd_lists.specs.Lists.{nothing}
 use Rattle.gd_lists.specs.Entries.{with_entry}
 use Rattle.gd_valueidx.specs.Values.{value_list, with_value}
-use Rattle.gd_valueidx.proofs.Each.{Sets, each_value, as_sets, found_list, old_value, new_value, always}
+use Rattle.gd_valueidx.proofs.Each.{Sets, each_value, as_sets, found_list, old_value, as_new, no_number, always}
 use Rattle.gd_valueidx.proofs.values.Values.add.Goals as goal
 
 pub returns-in_err-make_room-in-Some-clause-err_lists : goal.returns-in_err-make_room-in-Some-clause-err_lists
@@ -42,25 +42,25 @@ returns-in_ok-make_room-in-Some-clause-values c =
     old_value c.self.inside.lists.entries (c.get_mut.follows.lender w).entries c.args.value.now c.in-Some.list.now c.in-Some.ensures.value (c.get_mut.follows.holds w).1
     ∙ ap (λ es. with_value c.args.value.now (keys_of es)) c.self.view_is
 
-pub returns-in_ok-insert-in-None-clause-lists : goal.returns-in_ok-insert-in-None-clause-lists
-returns-in_ok-insert-in-None-clause-lists c =
+pub give_number-requires-clause-none : goal.give_number-requires-clause-none
+give_number-requires-clause-none c =
+    ap (λ (m : HashMap Datum Places _). list_any (datum_eq c.args.value.now) (keys_of m.entries)) c.get_mut.follows.holds-at-none ∙ no_number c.self.inside.lists.entries c.args.value.now c.in-None.ensures.value
+
+pub returns-in_ok-make_room-in-None-clause-lists : goal.returns-in_ok-make_room-in-None-clause-lists
+returns-in_ok-make_room-in-None-clause-lists c =
     let w = c.push-in-None.new.self in
-    let new : List (Datum × Places) = c.insert.new.self.entries in
+    let new : List (Datum × Places) = c.give_number.new.lists.entries in
     let found : nothing ≡ value_list c.args.value.now c.self.inside.lists.entries = found_list c.self.inside.lists.entries c.args.value.now None c.in-None.ensures.value in
-    let written : Sets (equality.ghosts).eq c.self.inside.lists.entries new c.args.value.now (Some w) =
-    subst (λ (m : HashMap Datum Places _). Sets (equality.ghosts).eq m.entries new c.args.value.now (Some w)) c.get_mut.follows.holds-at-none
-    (subst (λ (k : Datum). Sets (equality.ghosts).eq c.get_mut.follows.lender-at-none.entries new k (Some w)) c.in_ok-value-in-None.ensures c.in_ok-insert-in-None.ensures.updates.0) in
+    on_ok_weaker c.give_number.result (λ sets.
     subst (λ (es : List (Datum × Places)). (v : Datum) → (value_list v new).ids ≡ with_entry (datum_eq c.args.value.now v) c.args.id (value_list v es).ids) c.self.view_is
     (each_value (λ b p q. q.ids ≡ with_entry b c.args.id p.ids) (λ _. refl) c.self.inside.lists.entries new c.args.value.now (Some w)
-    (as_sets c.self.inside.lists.entries new c.args.value.now (Some w) written)
-    (c.push-in-None.ensures.ids ∙ ap (λ ids. ids ++ c.args.id ∷ []) (c.make_room-in-None.ensures.ids ∙ c.new-list.ensures ∙ ap (λ (p : Places). p.ids) found)))
+    (subst (λ (m : HashMap Datum Places _). Sets datum_eq m.entries new c.args.value.now (Some w)) c.get_mut.follows.holds-at-none sets)
+    (c.push-in-None.ensures.ids ∙ ap (λ ids. ids ++ c.args.id ∷ []) (c.make_room-in-None.ensures.ids ∙ c.new-list.ensures ∙ ap (λ (p : Places). p.ids) found)))) c.give_number.ensures.sets
 
-pub returns-in_ok-insert-in-None-clause-values : goal.returns-in_ok-insert-in-None-clause-values
-returns-in_ok-insert-in-None-clause-values c =
-    let w = c.push-in-None.new.self in
-    let new : List (Datum × Places) = c.insert.new.self.entries in
-    new_value c.self.inside.lists new c.args.value.now w c.in-None.ensures.value
-    (c.in_ok-insert-in-None.ensures.entries
-    ∙ ap (λ (d : Datum). insert_entry (equality.ghosts).eq c.get_mut.follows.lender-at-none.entries d w) c.in_ok-value-in-None.ensures
-    ∙ ap (λ (m : HashMap Datum Places _). insert_entry (equality.ghosts).eq m.entries c.args.value.now w) c.get_mut.follows.holds-at-none)
-    ∙ ap (λ es. with_value c.args.value.now (keys_of es)) c.self.view_is
+pub returns-in_ok-make_room-in-None-clause-values : goal.returns-in_ok-make_room-in-None-clause-values
+returns-in_ok-make_room-in-None-clause-values c =
+    on_ok_weaker c.give_number.result (λ keys.
+    keys
+    ∙ ap (λ (m : HashMap Datum Places _). keys_of m.entries ++ c.args.value.now ∷ []) c.get_mut.follows.holds-at-none
+    ∙ as_new c.self.inside.lists.entries c.args.value.now (no_number c.self.inside.lists.entries c.args.value.now c.in-None.ensures.value)
+    ∙ ap (λ (es : List (Datum × Places)). with_value c.args.value.now (keys_of es)) c.self.view_is) c.give_number.ensures.keys

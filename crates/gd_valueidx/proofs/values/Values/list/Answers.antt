@@ -10,5 +10,5 @@ returns-in-Some c =
 
 pub returns-in-None : goal.returns-in-None
 returns-in-None c =
-    c.self.invariant
+    c.self.invariant.0
     ∙ ap (λ (p : Places). p.ids) (found_list c.self.inside.lists.entries c.args.value.now None c.in-None.ensures.value ∙ ap (value_list c.args.value.now) c.self.view_is)

@@ -11,5 +11,5 @@ returns-in-Some c =
 
 pub returns-in-None : goal.returns-in-None
 returns-in-None c =
-    c.self.invariant
+    c.self.invariant.0
     ∙ ap (λ (p : Places). p.ids) (number_absent c.self.inside.lists.entries c.args.number c.in-None.ensures.entry ∙ ap (number_list c.args.number) c.self.view_is)

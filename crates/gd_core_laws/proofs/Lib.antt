@@ -1,0 +1,17 @@
+pub mod Reading
+pub mod OneLine
+pub mod Lines
+pub mod Whole
+pub mod WriteLines
+pub mod RoundAfter
+pub mod Sorted
+pub mod SideHistory
+pub mod SideWrites
+pub mod Threads
+pub mod Lock
+pub mod LockRun
+pub mod After
+pub mod Prefix
+pub mod Memory
+pub mod Bounds
+pub mod Laws

@@ -1,0 +1,9 @@
+use Rattle.gd_json.specs.View.{view}
+use Rattle.gd_events.proofs.Named.{slice_nobody, slice_made}
+use Rattle.gd_events.proofs.read.slice.Goals as goal
+
+pub returns-in_err-sid : goal.returns-in_err-sid
+returns-in_err-sid c = rw c.from_residual.ensures (slice_nobody (view c.args.value.now) c.in_err-sid.ensures)
+
+pub returns : goal.returns
+returns c = slice_made (view c.args.value.now) c.in_ok-sid.sid c.in_ok-budget.budget c.in_ok-sid.ensures c.in_ok-budget.ensures.number

@@ -1,0 +1,5 @@
+//! The events of a run, read from its lines.
+#![tactic(auto)]
+
+pub mod event;
+mod read;

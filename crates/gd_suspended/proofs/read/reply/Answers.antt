@@ -1,0 +1,13 @@
+use Rattle.gd_mql.specs.Requests.{read_view}
+use Rattle.gd_suspended.proofs.Begun.{reply_ok, reply_err}
+use Rattle.gd_suspended.proofs.read.reply.Goals as goal
+
+pub returns-in-Ok : goal.returns-in-Ok
+returns-in-Ok g c =
+    reply_ok c.args.store.now c.view-view.result c.earlier-below.result c.requests-latest.result c.args.line (read_view c.args.request) c.in-Ok.reading c.line_of.result
+    c.requests-latest.ensures.count c.view-view.ensures c.in-Ok.ensures.begun c.dateline.result c.dateline.ensures c.earlier-below.ensures c.line_of.ensures
+
+pub returns-in-Err : goal.returns-in-Err
+returns-in-Err g c =
+    reply_err c.args.store.now c.view-view.result c.requests-latest.result c.args.line (read_view c.args.request) c.in-Err.fault c.line.result
+    c.requests-latest.ensures.count c.view-view.ensures c.in-Err.ensures.begun c.line.ensures.refused c.line.ensures.memory

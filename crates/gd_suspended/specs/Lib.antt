@@ -1,0 +1,6 @@
+pub mod Subject
+pub mod Begun
+pub mod Went
+pub mod Stages
+pub mod Rounds
+pub mod Reading

@@ -1,0 +1,127 @@
+-- Where a reading stands: what it does, over the batches below its dateline.
+use Rattle.std.specs.Prelude.{◌≡◌, ◌<◌, ◌≤◌, ℕ, List, [], map, length, Bool, false, Result, Ok, if◌then◌else◌}
+use Rattle.std.specs.List.{list_any}
+use Rattle.gd_prim.specs.declared.Batch.{Batch}
+use Rattle.gd_prim.specs.declared.Primitive.{Primitive}
+use Rattle.gd_prim.specs.History.{prims_of, AreHeld}
+use Rattle.gd_tree.specs.Json.{Json}
+use Rattle.gd_tree.specs.Trees.{Trees, no_trees, trees_of, list_of}
+use Rattle.gd_defs.specs.Asked.{Asked, asked_query}
+use Rattle.gd_defs.specs.Plan.{template_of}
+use Rattle.gd_defs.specs.Lines.{count_json}
+use Rattle.gd_defs.specs.Reply.{Path, is_ambiguous}
+use Rattle.gd_bytes.specs.Frozen.{Body, building, printing}
+use Rattle.gd_runs.specs.Owed.{ScanOrder, owed_by, weighs_too_much}
+use Rattle.gd_runs.specs.Scanned.{scan_order}
+use Rattle.gd_runs.specs.Shape.{page_shape}
+use Rattle.gd_runs.specs.Thawed.{body_line}
+use Rattle.gd_runs.specs.Request.{asks_page}
+use Rattle.gd_scan_laws.specs.Ordered.{start}
+use Rattle.gd_match_laws.specs.Rows.{rows_order}
+use Rattle.gd_suspended_laws.specs.Standing.{rows_of, marks_of, page_rows, IsOrderOf, HasScanned, IsKept}
+use Rattle.gd_mql.specs.Requests.{cursor_view}
+use Rattle.gd_plan.specs.Asked.{asked_view}
+use Rattle.gd_plan.specs.declared.asked.Asked.{Asked as Found}
+use Rattle.gd_trees.specs.View.{view as tree_view, trees_view}
+use Rattle.gd_window.specs.Kept.{Kept}
+use Rattle.gd_match.specs.Matched.{stands, order_of, IsOver}
+use Rattle.gd_match.specs.declared.matcher.Matcher.{Matcher}
+use Rattle.gd_shape.specs.Shaping.{page_of, body_print, IsOf}
+use Rattle.gd_shape.specs.declared.shape.PageBody.{PageBody}
+use Rattle.gd_shape.specs.declared.shape.PageBody.TheVariants as page
+use Rattle.gd_shape.specs.declared.shape.Shape.{Shape}
+use Rattle.gd_read.specs.Scanned.{mark_of}
+use Rattle.gd_suspended.specs.Subject.{written, line_of}
+use Rattle.gd_suspended.specs.declared.subject.Subject.{Subject}
+use Rattle.gd_suspended.specs.declared.scanning.Scanning.{Scanning}
+use Rattle.gd_suspended.specs.declared.building.Building.{Building}
+use Rattle.gd_suspended.specs.declared.stage.Stage.{Stage}
+use Rattle.gd_suspended.specs.declared.stage.Stage.TheVariants as stage
+
+-- ---- a query that is read
+
+-- this is what the query asks, with few sort keys and a limit, over batches within the limits of a store
+pub record IsAsked (batches : List Batch) (s : Subject) (q : Asked) : Type 0 where
+  pub below : length batches ≡ s.dateline
+  pub asked : asked_query (prims_of batches) (written s) ≡ Ok q
+  pub held : AreHeld (prims_of batches)
+  pub end : length (prims_of batches) ≤ 2_097_151
+  pub few : length q.sort ≤ 4
+  pub some : 0 < q.limit
+
+-- the line that a body owes with the rows that a window keeps, where it no longer scans
+abbrev pub body_owes : List Batch → Subject → Asked → Kept → Body → ℕ → List ℕ
+body_owes batches s q w body k = body_line (prims_of batches) q (scan_order (prims_of batches) q) s.dateline k (asks_page (cursor_view s.request.cursor)) (mark_of s.after) (marks_of w) body
+
+-- ---- scanning
+
+-- the order in which a matcher scans for a query
+abbrev pub order_for : List Batch → Found → Matcher → ScanOrder
+order_for batches plan m = order_of batches (template_of (asked_view plan)) m
+
+-- a reading scans: from its start, in an order with each candidate once, it has come to where its matcher stands
+pub record Scans (batches : List Batch) (s : Subject) (r : Scanning) (w : Kept) : Type 0 where
+  pub asked : IsAsked batches s (asked_view r.plan)
+  pub order : IsOrderOf (prims_of batches) (asked_view r.plan) (order_for batches r.plan r.matcher)
+  pub over : IsOver batches (template_of (asked_view r.plan)) r.matcher
+  pub scanned : HasScanned (prims_of batches) (asked_view r.plan) (mark_of s.after) (order_for batches r.plan r.matcher) (stands r.matcher) w
+
+-- ---- building
+
+-- what a reading that builds trees does, as the definitions have it
+abbrev pub building_of : Building → Body
+building_of b = building b.weight (trees_of (map tree_view b.trees.items)) (stands b.matcher)
+
+-- a reading builds the trees of the rows of its page, and owes its line; no row that is left weighs too much
+pub record Builds (batches : List Batch) (s : Subject) (b : Building) (w : Kept) : Type 0 where
+  pub asked : IsAsked batches s (asked_view b.plan)
+  pub kept : IsKept (prims_of batches) (asked_view b.plan) (mark_of s.after) w
+  pub listed : (asked_view b.plan).count ≡ false
+  pub over : IsOver batches (template_of (asked_view b.plan)) b.matcher
+  pub order : order_for batches b.plan b.matcher ≡ rows_order (page_rows w)
+  pub light : list_any weighs_too_much (owed_by (prims_of batches) (template_of (asked_view b.plan)) (rows_order (page_rows w)) (stands b.matcher)) ≡ false
+  pub owes : (k : ℕ) → body_owes batches s (asked_view b.plan) w (building_of b) k ≡ line_of batches s k
+
+-- the scan of a plan has ended: the rows are kept, and their trees are to be built
+pub record IsScanned (batches : List Batch) (s : Subject) (plan : Found) (w : Kept) : Type 0 where
+  pub asked : IsAsked batches s (asked_view plan)
+  pub kept : IsKept (prims_of batches) (asked_view plan) (mark_of s.after) w
+  pub owes : (k : ℕ) → body_owes batches s (asked_view plan) w (building 0 no_trees start) k ≡ line_of batches s k
+
+-- ---- printing
+
+-- what a page prints from trees, or how many rows it has, where they are counted
+abbrev pub page_prints : List Primitive → Asked → Kept → Trees → Result Json Path
+page_prints prims q w ts = if q.count then Ok (count_json (length (page_rows w))) else page_shape prims q (list_of ts) []
+
+-- the trees of a body; of a count there are none
+abbrev pub body_trees : PageBody → Trees
+body_trees (page.Trees ts) = trees_view ts
+body_trees (page.Count n) = no_trees
+
+-- a page is to be printed from a body
+pub record IsBuilt (batches : List Batch) (s : Subject) (plan : Found) (body : PageBody) (w : Kept) : Type 0 where
+  pub asked : IsAsked batches s (asked_view plan)
+  pub kept : IsKept (prims_of batches) (asked_view plan) (mark_of s.after) w
+  pub prints : body_print (prims_of batches) (asked_view plan) body ≡ page_prints (prims_of batches) (asked_view plan) w (body_trees body)
+  pub owes : (k : ℕ) → body_owes batches s (asked_view plan) w (printing 0 (body_trees body) []) k ≡ line_of batches s k
+
+-- a reading prints the page of a query from trees, or their count, and owes its line
+pub record Prints (batches : List Batch) (s : Subject) (shape : Shape) (w : Kept) : Type 0 where
+  pub q : Asked
+  pub trees : Trees
+  pub asked : IsAsked batches s q
+  pub kept : IsKept (prims_of batches) q (mark_of s.after) w
+  pub one : is_ambiguous q.single (length (rows_of w)) ≡ false
+  pub prints : page_of (prims_of batches) shape ≡ page_prints (prims_of batches) q w trees
+  pub known : IsOf (prims_of batches) shape
+  pub owes : (k : ℕ) → body_owes batches s q w (printing 0 trees []) k ≡ line_of batches s k
+
+-- ---- all of them
+
+-- a reading that goes on stands where it owes its line; the rows that were built do not weigh too much together
+abbrev pub StageOwes : List Batch → Subject → Stage → Kept → Type 0
+StageOwes batches s (stage.Scanning r) w = Scans batches s r w
+StageOwes batches s (stage.Building b) w = Builds batches s b w × (b.weight ≤ 262_144)
+StageOwes batches s (stage.Printing shape) w = Prints batches s shape w
+StageOwes batches s stage.Spent w = ⊥

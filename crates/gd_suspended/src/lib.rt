@@ -1,0 +1,13 @@
+//! Readings that are suspended: a read over a store, in slices of a budget of steps.
+#![tactic(auto)]
+
+mod advance;
+mod building;
+pub mod fault;
+mod printing;
+pub mod read;
+pub mod reading;
+mod rows;
+mod scanning;
+mod stage;
+mod subject;

@@ -1,0 +1,70 @@
+//! What a reading does.
+ghost use Rattle.std.specs.Prelude.{◌≡◌, ◌+◌, ◌<◌, ◌≤◌, ◌^◌, IfOk};
+ghost use Rattle.gd_suspended.specs.Stages.{StageOwes};
+ghost use Rattle.gd_suspended.specs.Rounds.{RoundGives, RoundCounts};
+
+use crate::building::Building;
+use crate::printing::print_on;
+use crate::scanning::Scanning;
+use crate::subject::Subject;
+use gd_base::memory::Memory;
+use gd_base::steps::Steps;
+use gd_shape::shape::Shape;
+use gd_store::view::View;
+use gd_window::window::Window;
+use std::alloc::Global;
+
+/// What a reading does, one after the other: candidates are scanned and the best rows are kept; then the trees of the rows of
+/// the page are built; then the page is printed.
+#[derive(Drop)]
+pub(crate) enum Stage {
+    Scanning(Scanning),
+    Building(Building),
+    Printing(Shape),
+    /// The reply was given, or memory was wanting.
+    Spent,
+}
+
+/// What a round of a reading comes to.
+#[derive(Drop)]
+pub(crate) enum Round {
+    /// The reply line.
+    Reply(Vec<u8>),
+    /// It goes on with this.
+    Going(Stage),
+}
+
+impl Stage {
+    /// Goes on by a round. `Memory`: an allocation was refused.
+    pub(crate) fn go_on<L>(
+        self,
+        alloc: Global,
+        subject: &Subject,
+        window: &mut Window,
+        view: &View<'_>,
+        budget: u64,
+        line: u64,
+        steps: &mut Steps<L>,
+    ) -> Result<Round, Memory>
+        requires budget { 0 < budget }
+        requires line { line < 2 ^ 63 }
+        requires owes { StageOwes view.now subject.now self window.old }
+        ensures gives { IfOk result (λ round. RoundGives view.now subject.now line window.new round) }
+        ensures counted { IfOk result (λ round. RoundCounts steps.old steps.new round) }
+        ensures work { steps.new ≤ steps.old + budget + 1024 }
+        ensures later { steps.old ≤ steps.new }
+    {
+        match self {
+            Stage::Scanning(scanning) => {
+                scanning.go_on(alloc, subject, window, view, budget, line, steps)
+            }
+            Stage::Building(building) => {
+                building.go_on(alloc, subject, window, view, budget, line, steps)
+            }
+            Stage::Printing(shape) => {
+                print_on(alloc, shape, subject, window, view, budget, line, steps)
+            }
+            Stage::Spent => unreachable!(),
+        }
+    }
+}

@@ -1,0 +1,9 @@
+pub mod Keys
+pub mod Windows
+pub mod Scanning
+pub mod Building
+pub mod Given
+pub mod Going
+pub mod Everything
+pub mod Fewer
+pub mod Laws

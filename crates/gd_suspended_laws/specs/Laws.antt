@@ -1,0 +1,117 @@
+-- The laws of readings that are suspended.
+use Rattle.std.specs.Prelude.{◌≡◌, ◌<◌, ℕ, ◌+◌, List, [], map, length, Bool, true, false, nat_lt, Option, Some, None, Ok, if◌then◌else◌, codes}
+use Rattle.std.specs.List.{list_any}
+use Rattle.gd_prim.specs.declared.Primitive.{Primitive}
+use Rattle.gd_tree.specs.Trees.{Trees, no_trees, append, trees_of, list_of, lists_of}
+use Rattle.gd_defs.specs.Query.{Query}
+use Rattle.gd_defs.specs.Asked.{Asked, Members, asked_query}
+use Rattle.gd_defs.specs.Lines.{too_wide, refused_at, err_line, count_json}
+use Rattle.gd_defs.specs.Plan.{template_of}
+use Rattle.gd_defs.specs.Reply.{Mark, reply, page_cursor, result_line, is_ambiguous, max_candidate_weight, max_page_weight}
+use Rattle.gd_defs.specs.Rows.{key_place, meets_given}
+use Rattle.gd_defs.specs.Template.{tree_of}
+use Rattle.gd_bytes.specs.Frozen.{Scan, scanning, building, printing}
+use Rattle.gd_runs.specs.Owed.{ScanOrder, Candidate, owed_by, weighs_too_much}
+use Rattle.gd_runs.specs.RootSets.{everything}
+use Rattle.gd_runs.specs.Scanned.{scan_order, set_order}
+use Rattle.gd_runs.specs.Shape.{page_shape}
+use Rattle.gd_runs.specs.Shape.Answers.{key_places, sort_lists}
+use Rattle.gd_runs.specs.Thawed.{built_trees, built_weight, body_line}
+use Rattle.gd_template_laws.specs.Laws.{AreHeld}
+use Rattle.gd_scan_laws.specs.Ordered.{start}
+use Rattle.gd_match_laws.specs.Moves.{Runs}
+use Rattle.gd_match_laws.specs.Laws.{AtEnd}
+use Rattle.gd_match_laws.specs.Rows.{rows_order}
+use Rattle.gd_window.specs.Kept.{Kept}
+use Rattle.gd_window.specs.Laws.{RowsBehindAreAsDefined}
+use Rattle.gd_suspended_laws.specs.Standing.{rows_of, marks_of, page_rows, IsOrderOf, HasScanned, IsKept}
+
+-- The sort keys of an object stand where its tree tells.
+abbrev pub TreesTellKeys : Type 0
+TreesTellKeys = (prims : List Primitive) (written : Query) (q : Asked) (o : ℕ) → AreHeld prims → asked_query prims written ≡ Ok q
+    → key_places q.sort o (sort_lists q.members (lists_of (tree_of prims (template_of q) o))) ≡ map (key_place prims o) q.sort
+
+-- The order of a query's scan is one.
+abbrev pub OrdersAre : Type 0
+OrdersAre = (prims : List Primitive) (written : Query) (q : Asked) → AreHeld prims → asked_query prims written ≡ Ok q → IsOrderOf prims q (scan_order prims q)
+
+-- So is that of all places.
+abbrev pub EverythingIs : Type 0
+EverythingIs = (prims : List Primitive) (written : Query) (q : Asked) → AreHeld prims → asked_query prims written ≡ Ok q → IsOrderOf prims q (set_order prims everything)
+
+-- So is that of a scan for members that each candidate meets, as some of the query's own.
+abbrev pub FewerAre : Type 0
+FewerAre = (prims : List Primitive) (written : Query) (q : Asked) (ms : Members) → AreHeld prims → asked_query prims written ≡ Ok q → ((o : ℕ) → meets_given prims q.members 0 o ≡ true → meets_given prims ms 0 o ≡ true)
+    → IsOrderOf prims q (scan_order prims (record q { members = ms }))
+
+-- ---- scanning
+
+-- A reading that has given nothing owes the reply to its query, in whichever order it scans.
+abbrev pub StartsOwe : Type 0
+StartsOwe = (prims : List Primitive) (written : Query) (q : Asked) (order : ScanOrder) → AreHeld prims → asked_query prims written ≡ Ok q → IsOrderOf prims q order → (dateline k : ℕ) (with_cursor : Bool) (after : Option Mark)
+    → body_line prims q order dateline k with_cursor after [] (scanning start) ≡ reply prims dateline k with_cursor after written
+
+-- Wherever a scan stands that came from its start, the reading owes what it did there.
+abbrev pub ScansOwe : Type 0
+ScansOwe = RowsBehindAreAsDefined → (prims : List Primitive) (q : Asked) (order : ScanOrder) (after : Option Mark) (s : Scan) (w : Kept) → 0 < q.limit → IsOrderOf prims q order → HasScanned prims q after order s w → (dateline k : ℕ) (with_cursor : Bool)
+    → body_line prims q order dateline k with_cursor after (marks_of w) (scanning s) ≡ body_line prims q order dateline k with_cursor after [] (scanning start)
+
+-- Where a candidate that is owed weighs too much, the reading owes the refusal that says so.
+abbrev pub HeavyScansRefuse : Type 0
+HeavyScansRefuse = (prims : List Primitive) (q : Asked) (order : ScanOrder) (dateline k : ℕ) (with_cursor : Bool) (after : Option Mark) (kept : List Mark) (s : Scan) → list_any weighs_too_much (owed_by prims (template_of q) order s) ≡ true
+    → body_line prims q order dateline k with_cursor after kept (scanning s) ≡ err_line dateline k (too_wide (max_candidate_weight + 1))
+
+-- The rows that a scan keeps are read again from their marks.
+abbrev pub ScansKeep : Type 0
+ScansKeep = RowsBehindAreAsDefined → (prims : List Primitive) (q : Asked) (order : ScanOrder) (after : Option Mark) (s : Scan) (w : Kept) → IsOrderOf prims q order → HasScanned prims q after order s w → IsKept prims q after w
+
+-- ---- building
+
+-- Where no candidate is left, the trees of the rows that are kept are built.
+abbrev pub ThenBuilds : Type 0
+ThenBuilds = (prims : List Primitive) (q : Asked) (order : ScanOrder) (dateline k : ℕ) (with_cursor : Bool) (after : Option Mark) (kept : List Mark) (s : Scan) → AtEnd prims order (template_of q) s
+    → body_line prims q order dateline k with_cursor after kept (scanning s) ≡ body_line prims q order dateline k with_cursor after kept (building 0 no_trees start)
+
+-- A reading that builds trees goes on by a run over its rows, none of which weighs too much.
+abbrev pub BuildsGo : Type 0
+BuildsGo = (prims : List Primitive) (q : Asked) (order : ScanOrder) (dateline k : ℕ) (with_cursor : Bool) (after : Option Mark) (w : Kept) → IsKept prims q after w → q.count ≡ false → (weight : ℕ) (ts : Trees) (s m : Scan) (cs : List Candidate)
+    → Runs prims (rows_order (page_rows w)) (template_of q) s cs m → list_any weighs_too_much cs ≡ false
+    → body_line prims q order dateline k with_cursor after (marks_of w) (building weight ts s)
+    ≡ body_line prims q order dateline k with_cursor after (marks_of w) (building (weight + built_weight cs) (append ts (trees_of (built_trees cs))) m)
+
+-- Where a row that is still to be built weighs too much, the reading owes the refusal that says so.
+abbrev pub HeavyBuildsRefuse : Type 0
+HeavyBuildsRefuse = (prims : List Primitive) (q : Asked) (order : ScanOrder) (dateline k : ℕ) (with_cursor : Bool) (after : Option Mark) (w : Kept) → IsKept prims q after w → q.count ≡ false → (weight : ℕ) (ts : Trees) (s : Scan)
+    → list_any weighs_too_much (owed_by prims (template_of q) (rows_order (page_rows w)) s) ≡ true
+    → body_line prims q order dateline k with_cursor after (marks_of w) (building weight ts s) ≡ err_line dateline k (too_wide (max_candidate_weight + 1))
+
+-- Where the rows that were built weigh too much together, and of those that are left none does by itself, the reading owes the refusal that says so.
+abbrev pub HeavyPagesRefuse : Type 0
+HeavyPagesRefuse = (prims : List Primitive) (q : Asked) (order : ScanOrder) (dateline k : ℕ) (with_cursor : Bool) (after : Option Mark) (w : Kept) → IsKept prims q after w → q.count ≡ false → (weight : ℕ) (ts : Trees) (s : Scan)
+    → list_any weighs_too_much (owed_by prims (template_of q) (rows_order (page_rows w)) s) ≡ false → nat_lt max_page_weight weight ≡ true
+    → body_line prims q order dateline k with_cursor after (marks_of w) (building weight ts s) ≡ err_line dateline k (too_wide (max_page_weight + 1))
+
+-- ---- printing
+
+-- Where no row is left and the page does not weigh too much, its trees are printed.
+abbrev pub ThenPrints : Type 0
+ThenPrints = (prims : List Primitive) (q : Asked) (order : ScanOrder) (dateline k : ℕ) (with_cursor : Bool) (after : Option Mark) (w : Kept) → IsKept prims q after w → q.count ≡ false → (weight : ℕ) (ts : Trees) (s : Scan)
+    → AtEnd prims (rows_order (page_rows w)) (template_of q) s → nat_lt max_page_weight weight ≡ false
+    → body_line prims q order dateline k with_cursor after (marks_of w) (building weight ts s) ≡ body_line prims q order dateline k with_cursor after (marks_of w) (printing 0 ts [])
+
+-- Of a count no tree is built.
+abbrev pub ThenCounts : Type 0
+ThenCounts = (prims : List Primitive) (q : Asked) (order : ScanOrder) (dateline k : ℕ) (with_cursor : Bool) (after : Option Mark) (kept : List Mark) → q.count ≡ true
+    → body_line prims q order dateline k with_cursor after kept (building 0 no_trees start) ≡ body_line prims q order dateline k with_cursor after kept (printing 0 no_trees [])
+
+-- A reading that prints, of which more than one row was found where one is asked, owes the refusal that says so.
+abbrev pub ManyRefuse : Type 0
+ManyRefuse = (prims : List Primitive) (q : Asked) (order : ScanOrder) (dateline k : ℕ) (with_cursor : Bool) (after : Option Mark) (w : Kept) → IsKept prims q after w → (ts : Trees) → is_ambiguous q.single (length (rows_of w)) ≡ true
+    → body_line prims q order dateline k with_cursor after (marks_of w) (printing 0 ts []) ≡ err_line dateline k (refused_at (codes "NotUnique") [])
+
+-- Else it owes the line of its page: the count, or what its trees print, with the cursor where one is asked.
+abbrev pub PrintsOwe : Type 0
+PrintsOwe = (prims : List Primitive) (q : Asked) (order : ScanOrder) (dateline k : ℕ) (with_cursor : Bool) (after : Option Mark) (w : Kept) → IsKept prims q after w → (ts : Trees) → is_ambiguous q.single (length (rows_of w)) ≡ false
+    → body_line prims q order dateline k with_cursor after (marks_of w) (printing 0 ts [])
+    ≡ result_line dateline k (if with_cursor then Some (page_cursor dateline (page_rows w) (nat_lt w.limit (length (rows_of w)))) else None)
+    (if q.count then Ok (count_json (length (page_rows w))) else page_shape prims q (list_of ts) [])

@@ -1,0 +1,85 @@
+//! Readings that are suspended: from scanning to building to printing they owe the same line. Each law is the contract of a
+//! function that does nothing: whoever calls it may use the law, and code above cites its statement from `specs/Laws.antt`.
+#![tactic(auto)]
+
+ghost use Rattle.gd_suspended_laws.specs.Laws.{BuildsGo, EverythingIs, FewerAre, HeavyBuildsRefuse, HeavyPagesRefuse, HeavyScansRefuse, ManyRefuse, OrdersAre, PrintsOwe, ScansKeep, ScansOwe, StartsOwe, ThenBuilds, ThenCounts, ThenPrints, TreesTellKeys};
+
+/// The sort keys of an object stand where its tree tells.
+pub fn trees_tell_keys()
+    ensures { TreesTellKeys }
+{}
+
+/// The order of a query's scan has each candidate once.
+pub fn orders_are()
+    ensures { OrdersAre }
+{}
+
+/// The order of all places has each candidate once.
+pub fn everything_is()
+    ensures { EverythingIs }
+{}
+
+/// The order of a scan for some members of a query has each of its candidates once.
+pub fn fewer_are()
+    ensures { FewerAre }
+{}
+
+/// A reading that has given nothing owes the reply to its query, in whichever order it scans.
+pub fn starts_owe()
+    ensures { StartsOwe }
+{}
+
+/// Wherever a scan stands that came from its start, the reading owes what it did there.
+pub fn scans_owe()
+    ensures { ScansOwe }
+{}
+
+/// Where a candidate that is owed weighs too much, the reading owes the refusal that says so.
+pub fn heavy_scans_refuse()
+    ensures { HeavyScansRefuse }
+{}
+
+/// The rows that a scan keeps are read again from their marks.
+pub fn scans_keep()
+    ensures { ScansKeep }
+{}
+
+/// Where no candidate is left, the trees of the rows that are kept are built.
+pub fn then_builds()
+    ensures { ThenBuilds }
+{}
+
+/// A reading that builds trees goes on by a run over its rows.
+pub fn builds_go()
+    ensures { BuildsGo }
+{}
+
+/// Where a row that is still to be built weighs too much, the reading owes the refusal that says so.
+pub fn heavy_builds_refuse()
+    ensures { HeavyBuildsRefuse }
+{}
+
+/// Where the rows that were built weigh too much together, the reading owes the refusal that says so.
+pub fn heavy_pages_refuse()
+    ensures { HeavyPagesRefuse }
+{}
+
+/// Where no row is left and the page does not weigh too much, its trees are printed.
+pub fn then_prints()
+    ensures { ThenPrints }
+{}
+
+/// Of a count no tree is built.
+pub fn then_counts()
+    ensures { ThenCounts }
+{}
+
+/// A reading that prints two rows where one is asked owes the refusal that says so.
+pub fn many_refuse()
+    ensures { ManyRefuse }
+{}
+
+/// Else a reading that prints owes the line of its page.
+pub fn prints_owe()
+    ensures { PrintsOwe }
+{}

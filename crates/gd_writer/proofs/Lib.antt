@@ -1,0 +1,11 @@
+pub mod Histories
+pub mod Steps
+pub mod Backed
+pub mod Kept
+pub mod Waiting
+pub mod Going
+pub mod Told
+pub mod Started
+pub mod Alone
+pub mod Judged
+pub mod Carried

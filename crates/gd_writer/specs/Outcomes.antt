@@ -1,0 +1,35 @@
+-- What is kept of write lines.
+use Rattle.std.specs.Prelude.{◌≡◌, ◌≢◌, ◌+◌, ◌<◌, ◌^◌, ℕ, List, map, Bool, true, false, Option, Some}
+use Rattle.gd_json.specs.View.{view}
+use Rattle.gd_defs.specs.Lines.{ok_line}
+use Rattle.gd_change.specs.Fault.{fault_of, IsSmall}
+use Rattle.gd_carry.specs.declared.fault.ChangeFault.{ChangeFault}
+use Rattle.gd_carry.specs.declared.fault.ChangeFault.TheVariants as fault
+use Rattle.gd_runs.specs.Side.{Kept, kept_stored, kept_late, kept_refused, kept_doubt, kept_unsettled, kept_memory, Told, told_of}
+use Rattle.gd_writer.specs.declared.outcome.Outcome.{Outcome}
+use Rattle.gd_writer.specs.declared.outcome.Outcome.TheVariants as outcome
+use Rattle.gd_writer.specs.declared.outcome.WriteOf.{WriteOf}
+
+-- what is kept, as the definitions have it
+abbrev pub kept_view : Outcome → Kept
+kept_view (outcome.Stored entry answer reply) = kept_stored entry (view answer)
+kept_view (outcome.Late entry) = kept_late entry
+kept_view (outcome.Refused f at) = kept_refused (fault_of f) at
+kept_view (outcome.Doubt at) = kept_doubt at
+kept_view outcome.Unsettled = kept_unsettled
+kept_view outcome.Memory = kept_memory
+
+-- a line with what is kept of it
+abbrev pub told_view : WriteOf → Told
+told_view w = told_of w.line (kept_view w.outcome)
+
+-- What is kept of a line: the reply line of what is stored is there, and a refusal is none of memory, with a number that JSON has.
+abbrev pub IsTold : ℕ → Outcome → Type 0
+IsTold line (outcome.Stored entry answer reply) = reply.items ≡ ok_line (entry + 1) line (view answer)
+IsTold line (outcome.Refused f at) = IsSmall f × (f ≢ fault.Memory)
+IsTold line _ = Unit {0}
+
+-- what is kept is an entry that is shown
+abbrev pub is_stored : Option Kept → Bool
+is_stored (Some (kept_stored e r)) = true
+is_stored _ = false
