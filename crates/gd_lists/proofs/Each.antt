@@ -13,7 +13,7 @@ use Rattle.std.proofs.lemmas.Cmp.{nat_list_eq_equiv}
 use Rattle.std.proofs.lemmas.Map.Text.{is_eq-slice_cmp}
 use Rattle.std.proofs.lemmas.Slice.Eq.{bytes_eq-Decides}
 use Rattle.gd_postings.specs.Postings.{Places}
-use Rattle.gd_lists.specs.Lists.{text_list, id_list, pair_list, nothing}
+use Rattle.gd_lists.specs.Lists.{text_list, pair_list, nothing}
 
 -- the new entries have this value at the key, and at every other key what the old ones have
 abbrev pub Sets : {K X : Type 0} → (K → K → Ordering) → List (K × X) → List (K × X) → K → X → Type 0

@@ -1,6 +1,6 @@
 -- What a list is with an identity more, and without its last one.
 use Rattle.std.proofs.Common.{◌≡◌, ℕ, zero, suc, ◌<◌, ◌+◌, ◌-◌, Bool, false, List, [], ◌∷◌, ◌++◌, length, take, Option, Some, None, IfSome, true, refl, sym, ap, ◌∙◌, subst, arith, length-append}
-use Rattle.std.specs.Prelude.{◌≤◌, max, Result, Ok, Err, OnOk, OnErr, IfNone, slice_get}
+use Rattle.std.specs.Prelude.{IfNone, slice_get}
 use Rattle.std.proofs.Math.Seq.{take-append_seam}
 use Rattle.gd_postings.specs.Postings.{Places, IsAbove}
 use Rattle.gd_lists.specs.Entries.{without_entry, with_entry, last_of}

@@ -1,8 +1,9 @@
 //! Lists under nodes.
-ghost use Rattle.std.specs.Prelude.{◌≡◌, ℕ, ◌<◌, ◌≤◌, ◌==◌, [], ◌∷◌, ◌++◌, unwrap_or, length, OnOk};
+ghost use Rattle.std.specs.Prelude.{◌≡◌, ℕ, ◌+◌, ◌<◌, ◌≤◌, ◌==◌, [], ◌∷◌, ◌++◌, unwrap_or, length, OnOk, OnErr, IfOk};
 ghost use Rattle.std.specs.Option.{ForSome, option_copied};
 ghost use Rattle.gd_postings.specs.Postings.{IsAbove};
 ghost use Rattle.gd_lists.specs.Lists.{id_list, nothing};
+ghost use Rattle.gd_lists.specs.Table.{by_node, number_at, IsTable};
 ghost use Rattle.gd_lists.specs.Entries.{is_of, with_entry, without_entry, spare_less};
 
 use gd_base::id::Id;
@@ -11,33 +12,78 @@ use gd_postings::postings::Postings;
 use std::alloc::Global;
 use std::marker::Model;
 
-/// A list for each node up to one: a table by node, so that a look-up is one step. Contracts see the lists, in the order of
-/// the nodes.
+/// A list for each node up to one: a table by node of the numbers of the lists, and the lists, so that a look-up is two
+/// steps, and a node without a list takes four bytes. Contracts see the lists, in the order of the nodes.
 #[derive(Drop)]
 pub struct NodeLists {
+    numbers: Vec<u32>,
     lists: Vec<Postings>,
     alloc: Global,
 }
 
 impl Model for NodeLists {
-    ghost use Rattle.std.specs.Prelude.{List};
+    ghost use Rattle.std.specs.Prelude.{List, length};
     ghost use Rattle.gd_postings.specs.Postings.{Places};
+    ghost use Rattle.gd_lists.specs.Table.{by_node, IsTable};
 
     ghost Value = { List Places };
 
-    ghost view = { λ nodes. nodes.lists.items };
+    ghost view = { λ nodes. by_node nodes.lists.items nodes.numbers.items };
+
+    ghost invariant = { λ nodes. IsTable nodes.numbers.items (length nodes.lists.items) };
 }
 
-/// Adds empty lists, until there are so many.
-fn lengthen(lists: &mut Vec<Postings>, alloc: Global, len: usize) -> Result<(), Memory>
-    ensures there { OnOk result (len ≤ length lists.new.items) }
-    ensures same { (n : ℕ) → (id_list lists.new.items n).ids ≡ (id_list lists.old.items n).ids }
-    ensures kept { (n : ℕ) → (id_list lists.old.items n).spare ≤ (id_list lists.new.items n).spare }
+/// Adds nodes without a list, until there are so many.
+fn lengthen(numbers: &mut Vec<u32>, len: usize) -> Result<(), Memory>
+    ensures there { OnOk result (len ≤ length numbers.new.items) }
+    ensures same { (n : ℕ) → number_at numbers.new.items n ≡ number_at numbers.old.items n }
 {
-    for _place in lists.len()..len {
-        lists.push(Postings::new(alloc))?;
+    for _node in numbers.len()..len {
+        numbers.push(0)?;
     }
     Ok(())
+}
+
+/// The number that the next list gets, or `Memory` where all numbers were given.
+fn next_number(lists: &[Postings]) -> Result<u32, Memory>
+    ensures { IfOk result (λ number. number ≡ length lists.now + 1) }
+{
+    let count = lists.len();
+    if count >= u32::MAX as usize {
+        return Err(Memory);
+    }
+    Ok(count as u32 + 1)
+}
+
+/// Gives a node of the table a list, if it has none.
+fn give_list(
+    numbers: &mut Vec<u32>,
+    lists: &mut Vec<Postings>,
+    node: usize,
+    alloc: Global,
+) -> Result<(), Memory>
+    requires there { node < length numbers.old.items }
+    requires table { IsTable numbers.old.items (length lists.old.items) }
+    ensures given { OnOk result (0 < number_at numbers.new.items node) }
+    ensures table { IsTable numbers.new.items (length lists.new.items) }
+    ensures same { (n : ℕ) → (id_list (by_node lists.new.items numbers.new.items) n).ids ≡ (id_list (by_node lists.old.items numbers.old.items) n).ids }
+    ensures kept { (n : ℕ) → (id_list (by_node lists.old.items numbers.old.items) n).spare ≤ (id_list (by_node lists.new.items numbers.new.items) n).spare }
+{
+    if numbers[node] > 0 {
+        return Ok(());
+    }
+    let number = next_number(lists.as_slice())?;
+    lists.push(Postings::new(alloc))?;
+    numbers[node] = number;
+    Ok(())
+}
+
+/// Where the list of a node stands.
+fn index_of(numbers: &[u32], node: usize) -> usize
+    requires { 0 < number_at numbers.now node }
+    ensures { number_at numbers.now node ≡ result + 1 }
+{
+    numbers[node] as usize - 1
 }
 
 impl NodeLists {
@@ -46,6 +92,7 @@ impl NodeLists {
         ensures { result ≡ [] }
     {
         NodeLists {
+            numbers: Vec::new(alloc),
             lists: Vec::new(alloc),
             alloc,
         }
@@ -55,7 +102,10 @@ impl NodeLists {
     pub fn list(&self, node: Id) -> Option<&Postings>
         ensures { unwrap_or (option_copied result) nothing ≡ id_list self.now node }
     {
-        self.lists.get(node.place() as usize)
+        match self.numbers.get(node.place() as usize) {
+            Some(number) if *number > 0 => self.lists.get(*number as usize - 1),
+            _ => None,
+        }
     }
 
     /// Makes room for one identity more in the list of a node. It lowers the room of no list.
@@ -65,8 +115,10 @@ impl NodeLists {
         ensures kept { (n : ℕ) → (id_list self.old n).spare ≤ (id_list self.new n).spare }
     {
         let place = node.place() as usize;
-        lengthen(&mut self.lists, self.alloc, place + 1)?;
-        self.lists[place].make_room()
+        lengthen(&mut self.numbers, place + 1)?;
+        give_list(&mut self.numbers, &mut self.lists, place, self.alloc)?;
+        let index = index_of(self.numbers.as_slice(), place);
+        self.lists[index].make_room()
     }
 
     /// Adds an identity at the end of the list of a node, where room was made. It takes no memory.
@@ -77,7 +129,8 @@ impl NodeLists {
         ensures ids { (n : ℕ) → (id_list self.new n).ids ≡ with_entry (node == n) id (id_list self.old n).ids }
         ensures spare { (n : ℕ) → (id_list self.new n).spare ≡ spare_less (node == n) (id_list self.old n).spare }
     {
-        self.lists[node.place() as usize].push(id);
+        let index = index_of(self.numbers.as_slice(), node.place() as usize);
+        self.lists[index].push(id);
     }
 
     /// Takes the last identity of the list of a node away. It takes no memory.
@@ -85,7 +138,8 @@ impl NodeLists {
         requires { 0 < length (id_list self.old node).ids }
         ensures { (n : ℕ) → (id_list self.new n).ids ≡ without_entry (node == n) (id_list self.old n).ids }
     {
-        let _last = self.lists[node.place() as usize].pop_last();
+        let index = index_of(self.numbers.as_slice(), node.place() as usize);
+        let _last = self.lists[index].pop_last();
     }
 
     /// Makes room in the list of a node, where it is there. It lowers the room of no list.

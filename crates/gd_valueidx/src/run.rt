@@ -71,7 +71,8 @@ impl Run {
         Ok(())
     }
 
-    /// Keeps the numbers before a place, and gives the others, or for want of memory leaves all as it was.
+    /// Keeps the numbers before a place, and gives the others, or for want of memory leaves all as it was. What was kept
+    /// takes no more room than it needs.
     pub(crate) fn split(&mut self, at: usize) -> Result<Run, Memory>
         requires some { 0 < at }
         requires rest { at < length self.old }
@@ -80,6 +81,7 @@ impl Run {
         ensures err { OnErr result (self.new ≡ self.old) }
     {
         let numbers = self.numbers.split_off(at)?;
+        self.numbers.shrink_to_fit();
         Ok(Run { numbers })
     }
 
