@@ -1,5 +1,6 @@
 pub mod Advanced
 pub mod Scanned
+pub mod Checked
 pub mod Built
 pub mod Printed
 pub mod Begun

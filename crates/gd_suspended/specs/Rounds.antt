@@ -1,5 +1,5 @@
 -- What a round of a reading comes to.
-use Rattle.std.specs.Prelude.{◌≡◌, ℕ, List, Bool, true, false}
+use Rattle.std.specs.Prelude.{◌≡◌, ℕ, List}
 use Rattle.gd_prim.specs.declared.Batch.{Batch}
 use Rattle.gd_base.specs.Counts.{Rose}
 use Rattle.gd_window.specs.Kept.{Kept}

@@ -1,5 +1,7 @@
 -- Where a reading stands: what it does, over the batches below its dateline.
-use Rattle.std.specs.Prelude.{◌≡◌, ◌<◌, ◌≤◌, ℕ, List, [], map, length, Bool, false, Result, Ok, if◌then◌else◌}
+use Rattle.std.specs.Prelude.{◌≡◌, ◌<◌, ◌≤◌, ℕ, List, [], map, take, length, false, Option, IfSome, Result, Ok, if◌then◌else◌}
+use Rattle.std.specs.Prelude.{Vec}
+use Rattle.std.specs.Global.{Global}
 use Rattle.std.specs.List.{list_any}
 use Rattle.gd_prim.specs.declared.Batch.{Batch}
 use Rattle.gd_prim.specs.declared.Primitive.{Primitive}
@@ -18,7 +20,8 @@ use Rattle.gd_runs.specs.Thawed.{body_line}
 use Rattle.gd_runs.specs.Request.{asks_page}
 use Rattle.gd_scan_laws.specs.Ordered.{start}
 use Rattle.gd_match_laws.specs.Rows.{rows_order}
-use Rattle.gd_suspended_laws.specs.Standing.{rows_of, marks_of, page_rows, IsOrderOf, HasScanned, IsKept}
+use Rattle.gd_order_laws.specs.Window.{In}
+use Rattle.gd_suspended_laws.specs.Standing.{rows_of, marks_of, page_rows, IsOrderOf, IsListed, IsLast, HasScanned, IsKept, ChangesNothing}
 use Rattle.gd_mql.specs.Requests.{cursor_view}
 use Rattle.gd_plan.specs.Asked.{asked_view}
 use Rattle.gd_plan.specs.declared.asked.Asked.{Asked as Found}
@@ -34,6 +37,7 @@ use Rattle.gd_read.specs.Scanned.{mark_of}
 use Rattle.gd_suspended.specs.Subject.{written, line_of}
 use Rattle.gd_suspended.specs.declared.subject.Subject.{Subject}
 use Rattle.gd_suspended.specs.declared.scanning.Scanning.{Scanning}
+use Rattle.gd_suspended.specs.declared.checking.Checking.{Checking}
 use Rattle.gd_suspended.specs.declared.building.Building.{Building}
 use Rattle.gd_suspended.specs.declared.stage.Stage.{Stage}
 use Rattle.gd_suspended.specs.declared.stage.Stage.TheVariants as stage
@@ -60,11 +64,34 @@ abbrev pub order_for : List Batch → Found → Matcher → ScanOrder
 order_for batches plan m = order_of batches (template_of (asked_view plan)) m
 
 -- a reading scans: from its start, in an order with each candidate once, it has come to where its matcher stands
-pub record Scans (batches : List Batch) (s : Subject) (r : Scanning) (w : Kept) : Type 0 where
-  pub asked : IsAsked batches s (asked_view r.plan)
-  pub order : IsOrderOf (prims_of batches) (asked_view r.plan) (order_for batches r.plan r.matcher)
-  pub over : IsOver batches (template_of (asked_view r.plan)) r.matcher
-  pub scanned : HasScanned (prims_of batches) (asked_view r.plan) (mark_of s.after) (order_for batches r.plan r.matcher) (stands r.matcher) w
+pub record Scans (batches : List Batch) (s : Subject) (plan : Found) (m : Matcher) (w : Kept) : Type 0 where
+  pub asked : IsAsked batches s (asked_view plan)
+  pub order : IsOrderOf (prims_of batches) (asked_view plan) (order_for batches plan m)
+  pub over : IsOver batches (template_of (asked_view plan)) m
+  pub scanned : HasScanned (prims_of batches) (asked_view plan) (mark_of s.after) (order_for batches plan m) (stands m) w
+
+-- where the places of a scan are at hand, each that passes is one of them
+abbrev pub IsKnown : List Batch → Found → Matcher → Option (Vec ℕ Global) → Type 0
+IsKnown batches plan m places = IfSome places (λ ps. IsListed (prims_of batches) (asked_view plan) (order_for batches plan m) ps.items)
+
+-- a reading scans, and the last candidate that it gave is at this place
+pub record HasFound (batches : List Batch) (s : Subject) (r : Scanning) (w : Kept) (place : ℕ) : Type 0 where
+  pub scans : Scans batches s r.plan r.matcher w
+  pub known : IsKnown batches r.plan r.matcher r.places
+  pub last : IsLast scans.scanned.given place
+
+-- ---- asking whether what is left would change anything
+
+-- the first of places, those behind the last one that was given, would change nothing
+abbrev pub AreChecked : List Primitive → Asked → Kept → List ℕ → ℕ → ℕ → Type 0
+AreChecked prims q w places last n = (o : ℕ) → In o (take n places) → last < o → ChangesNothing prims q w o
+
+-- a reading scans whose places are at hand, and it has asked of some of them
+pub record Checks (batches : List Batch) (s : Subject) (c : Checking) (w : Kept) : Type 0 where
+  pub scans : Scans batches s c.plan c.matcher w
+  pub listed : IsListed (prims_of batches) (asked_view c.plan) (order_for batches c.plan c.matcher) c.places.items
+  pub last : IsLast scans.scanned.given c.last
+  pub checked : AreChecked (prims_of batches) (asked_view c.plan) w c.places.items c.last c.next
 
 -- ---- building
 
@@ -121,7 +148,8 @@ pub record Prints (batches : List Batch) (s : Subject) (shape : Shape) (w : Kept
 
 -- a reading that goes on stands where it owes its line; the rows that were built do not weigh too much together
 abbrev pub StageOwes : List Batch → Subject → Stage → Kept → Type 0
-StageOwes batches s (stage.Scanning r) w = Scans batches s r w
+StageOwes batches s (stage.Scanning r) w = Scans batches s r.plan r.matcher w × IsKnown batches r.plan r.matcher r.places
+StageOwes batches s (stage.Checking c) w = Checks batches s c w
 StageOwes batches s (stage.Building b) w = Builds batches s b w × (b.weight ≤ 262_144)
 StageOwes batches s (stage.Printing shape) w = Prints batches s shape w
 StageOwes batches s stage.Spent w = ⊥

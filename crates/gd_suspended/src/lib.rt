@@ -3,10 +3,12 @@
 
 mod advance;
 mod building;
+mod checking;
 pub mod fault;
 mod printing;
 pub mod read;
 pub mod reading;
+mod roots;
 mod rows;
 mod scanning;
 mod stage;

@@ -61,6 +61,8 @@ pub(crate) fn print_page(
     ensures { IfOk result (λ round. RoundGives view.now subject.now line window.now round) }
 {
     if are_many(&plan, window) {
+        drop(plan);
+        drop(body);
         return Ok(Round::Reply(many_line(alloc, subject, line)?));
     }
     let shape = Shape::start(alloc, plan.into_asked(), body)?;
@@ -129,13 +131,18 @@ pub(crate) fn print_on<L>(
 {
     match shape.resume(alloc, view, budget, steps) {
         Ok(ShapeTurn::Reply(json)) => {
+            drop(shape);
             Ok(Round::Reply(page_line(alloc, subject, window, line, Ok(json))?))
         }
         Ok(ShapeTurn::Unfinished) => Ok(Round::Going(Stage::Printing(shape))),
         Err(ShapeFault::NotUnique { path }) => {
+            drop(shape);
             let path = Path::from(path);
             Ok(Round::Reply(page_line(alloc, subject, window, line, Err(path))?))
         }
-        Err(ShapeFault::Memory) => Err(Memory),
+        Err(ShapeFault::Memory) => {
+            drop(shape);
+            Err(Memory)
+        }
     }
 }

@@ -54,7 +54,9 @@ pub fn reply<L>(
     match Reading::begin(alloc, &view, request, steps) {
         Ok(mut reading) => {
             let below = view.earlier(reading.dateline());
-            line_of(alloc, &below, &mut reading, budget, line, steps)
+            let bytes = line_of(alloc, &below, &mut reading, budget, line, steps);
+            drop(reading);
+            bytes
         }
         Err(fault) => fault.line(alloc, latest, line),
     }

@@ -14,9 +14,11 @@ ghost use Rattle.gd_read.specs.Scanned.{mark_of};
 ghost use Rattle.gd_suspended.specs.Begun.{fault_at, HasOffset, asked_from, dateline_from, Begins, IsMeaningless};
 ghost use Rattle.gd_suspended.specs.Subject.{line_of};
 ghost use Rattle.gd_suspended.specs.Stages.{IsAsked};
+ghost use Rattle.gd_suspended.specs.Roots.{ScanBegins};
 ghost use Rattle.gd_suspended.specs.Reading.{reading_view, IsGoing, Replies, is_unfinished};
 
 use crate::fault::ReadFault;
+use crate::roots::scanning_for;
 use crate::rows::window_behind;
 use crate::scanning::Scanning;
 use crate::stage::{Round, Stage};
@@ -29,8 +31,6 @@ use gd_frozen::cursor::Cursor;
 use gd_frozen::{FrozenFault, cursor_from};
 use gd_iter_core::budget::Budget;
 use gd_json::value::JsonText;
-use gd_match::matcher::Matcher;
-use gd_match::root::Root;
 use gd_mql::request::{CursorAsk, ReadRequest};
 use gd_plan::plan::Plan;
 use gd_store::view::View;
@@ -135,19 +135,45 @@ fn plan_at<L>(
     }
 }
 
-/// The reading of a plan that scans and has given nothing yet.
+/// The reading that scans and has given nothing yet.
+fn begun_scanning(
+    alloc: Global,
+    view: &View<'_>,
+    subject: Subject,
+    scanning: Scanning,
+) -> Result<Reading, Memory>
+    requires asked { IsAsked view.now subject (asked_view scanning.plan) }
+    requires begins { ScanBegins view.now scanning }
+    ensures subject { IfOk result (λ reading. reading.subject ≡ subject) }
+    ensures going { IfOk result (λ reading. IsGoing view.now reading) }
+{
+    match window_behind(alloc, view, scanning.plan.asked(), &subject.after) {
+        Ok(window) => Ok(Reading {
+            subject,
+            window,
+            stage: Stage::Scanning(scanning),
+        }),
+        Err(refused) => {
+            drop(subject);
+            drop(scanning);
+            Err(refused)
+        }
+    }
+}
+
+/// The reading of a plan that has given nothing yet.
 fn begun(alloc: Global, view: &View<'_>, subject: Subject, plan: Plan) -> Result<Reading, Memory>
     requires asked { IsAsked view.now subject (asked_view plan) }
     ensures subject { IfOk result (λ reading. reading.subject ≡ subject) }
     ensures going { IfOk result (λ reading. IsGoing view.now reading) }
 {
-    let window = window_behind(alloc, view, plan.asked(), &subject.after)?;
-    let matcher = Matcher::start(alloc, Root::All)?;
-    Ok(Reading {
-        subject,
-        window,
-        stage: Stage::Scanning(Scanning { plan, matcher }),
-    })
+    match scanning_for(alloc, view, plan) {
+        Ok(scanning) => begun_scanning(alloc, view, subject, scanning),
+        Err(refused) => {
+            drop(subject);
+            Err(refused)
+        }
+    }
 }
 
 /// The reading of a request at the view's dateline, from behind a cursor if there is one.
@@ -167,13 +193,22 @@ fn begin_at<L>(
 {
     // Each primitive below the end may hold its value.
     let _end = view.end();
-    let plan = plan_at(alloc, view, &request, steps)?;
     let subject = Subject {
         request,
         dateline: view.dateline(),
         after,
     };
-    Ok(begun(alloc, view, subject, plan)?)
+    let plan = match plan_at(alloc, view, &subject.request, steps) {
+        Ok(plan) => plan,
+        Err(fault) => {
+            drop(subject);
+            return Err(fault);
+        }
+    };
+    match begun(alloc, view, subject, plan) {
+        Ok(reading) => Ok(reading),
+        Err(refused) => Err(ReadFault::from(refused)),
+    }
 }
 
 impl Reading {
@@ -200,7 +235,10 @@ impl Reading {
                 let below = view.earlier(dateline_behind(latest, &after));
                 begin_at(alloc, &below, after, request, steps)
             }
-            Err(fault) => Err(fault),
+            Err(fault) => {
+                drop(request);
+                Err(fault)
+            }
         }
     }
 
@@ -241,7 +279,7 @@ impl Reading {
         )? {
             Round::Reply(bytes) => Ok(Some(bytes)),
             Round::Going(stage) => {
-                self.stage = stage;
+                drop(std::mem::replace(&mut self.stage, stage));
                 Ok(None)
             }
         }

@@ -4,6 +4,7 @@ ghost use Rattle.gd_suspended.specs.Stages.{StageOwes};
 ghost use Rattle.gd_suspended.specs.Rounds.{RoundGives, RoundCounts};
 
 use crate::building::Building;
+use crate::checking::Checking;
 use crate::printing::print_on;
 use crate::scanning::Scanning;
 use crate::subject::Subject;
@@ -14,11 +15,13 @@ use gd_store::view::View;
 use gd_window::window::Window;
 use std::alloc::Global;
 
-/// What a reading does, one after the other: candidates are scanned and the best rows are kept; then the trees of the rows of
-/// the page are built; then the page is printed.
+/// What a reading does, one after the other: candidates are scanned and the best rows are kept; where the window is full, it may
+/// be asked whether those that are left would change anything; then the trees of the rows of the page are built; then the page
+/// is printed.
 #[derive(Drop)]
 pub(crate) enum Stage {
     Scanning(Scanning),
+    Checking(Checking),
     Building(Building),
     Printing(Shape),
     /// The reply was given, or memory was wanting.
@@ -57,6 +60,9 @@ impl Stage {
         match self {
             Stage::Scanning(scanning) => {
                 scanning.go_on(alloc, subject, window, view, budget, line, steps)
+            }
+            Stage::Checking(checking) => {
+                checking.go_on(alloc, subject, window, view, budget, line, steps)
             }
             Stage::Building(building) => {
                 building.go_on(alloc, subject, window, view, budget, line, steps)

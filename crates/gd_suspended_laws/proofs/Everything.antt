@@ -1,5 +1,5 @@
 -- All places, scanned in rising order, have each candidate of a query once.
-use Rattle.std.proofs.Common.{◌≡◌, ◌↔◌, ℕ, List, [], ◌∷◌, map, filter, true, refl, ap, sym, subst, ◌∙◌}
+use Rattle.std.proofs.Common.{◌≡◌, ◌↔◌, ℕ, List, [], ◌∷◌, map, true, refl, ap, sym, subst, ◌∙◌}
 use Rattle.std.specs.Ordering.{nat_cmp}
 use Rattle.std.proofs.lemmas.Cmp.{nat_cmp_total}
 use Rattle.std.specs.Prelude.{is_none}
@@ -21,17 +21,17 @@ use Rattle.gd_scan_laws.proofs.Laws.{planned}
 use Rattle.gd_scan_laws.proofs.Objects.{both_true, true_both, object_is, is_object_in, live_there, there_place}
 use Rattle.gd_suspended_laws.specs.Laws.{EverythingIs}
 
-themselves : (ps : List ℕ) → map (λ (c : ℕ × ℕ). c.1) (map (λ (place : ℕ). (place, place)) ps) ≡ ps
+pub themselves : (ps : List ℕ) → map (λ (c : ℕ × ℕ). c.1) (map (λ (place : ℕ). (place, place)) ps) ≡ ps
 themselves [] = refl
 themselves (p ∷ ps) = ap (λ l. p ∷ l) (themselves ps)
 
-abbrev every : List Primitive → List ℕ
+abbrev pub every : List Primitive → List ℕ
 every prims = map (λ (c : ℕ × ℕ). c.1) (set_order prims everything)
 
 every_once : (prims : List Primitive) → Apart nat_cmp (every prims)
 every_once prims = subst (Apart nat_cmp) (sym (themselves (places_where (λ p. true) prims))) (Apart-rising nat_cmp (places_where (λ p. true) prims) (places_rise (λ p. true) prims))
 
-every_object : (prims : List Primitive) (o : ℕ) → In o (objects prims) → In o (every prims)
+pub every_object : (prims : List Primitive) (o : ℕ) → In o (objects prims) → In o (every prims)
 every_object prims o here =
     let found = live_there (λ p. is_none p.typ) prims o here in
     subst (In o) (sym (themselves (places_where (λ p. true) prims))) (there_place (λ p. true) prims o found.0 found.1 refl)

@@ -1,9 +1,9 @@
 -- A scan goes on by a run, and a reading that builds trees by another one.
-use Rattle.std.proofs.Common.{◌≡◌, ℕ, zero, suc, ◌+◌, ◌<◌, ◌≤◌, List, [], ◌∷◌, ◌++◌, Bool, false, length, map, take, Option, Ok, refl, ap, sym, subst, ◌∙◌}
+use Rattle.std.proofs.Common.{◌≡◌, ℕ, zero, suc, ◌<◌, List, [], ◌∷◌, ◌++◌, false, length, map, take, Option, Some, Ok, refl, ap, sym, subst, ◌∙◌, append_assoc}
 use Rattle.std.specs.List.{list_any, enumerate_from}
 use Rattle.std.proofs.lemmas.List.{append-nil}
 use Rattle.gd_prim.specs.declared.Primitive.{Primitive}
-use Rattle.gd_tree.specs.Trees.{Tree, Trees, no_trees, and_tree, append, trees_of, place_of, lists_of}
+use Rattle.gd_tree.specs.Trees.{Tree, and_tree, append, trees_of, place_of, lists_of}
 use Rattle.gd_defs.specs.Query.{Query}
 use Rattle.gd_defs.specs.Asked.{Asked, asked_query}
 use Rattle.gd_defs.specs.Plan.{template_of}
@@ -24,7 +24,7 @@ use Rattle.gd_match_laws.proofs.Bodies.{filter_map-append, map-append}
 use Rattle.gd_window.specs.declared.row.Row.{Row}
 use Rattle.gd_window.specs.Kept.{Kept, HasSeen}
 use Rattle.gd_window.specs.Laws.{with_values, defined}
-use Rattle.gd_suspended_laws.specs.Standing.{valued, window_of, rows_of, page_rows, HasScanned}
+use Rattle.gd_suspended_laws.specs.Standing.{valued, window_of, page_rows, HasScanned, IsLast}
 use Rattle.gd_suspended_laws.proofs.Given.{runs_join, light_join}
 use Rattle.gd_suspended_laws.proofs.Keys.{trees_tell_keys}
 
@@ -40,7 +40,7 @@ module _ (prims : List Primitive) (q : Asked) (after : Option Mark) (order : Sca
   }
 
   -- LAW: a scan that goes on by a run, of which the rows that answer are offered
-  pub scanned_on : (s m : Scan) (w v : Kept) (cs : List Candidate) → HasScanned prims q after order s w → Runs prims order (template_of q) s cs m → list_any weighs_too_much cs ≡ false
+  abbrev pub scanned_on : (s m : Scan) (w v : Kept) (cs : List Candidate) → HasScanned prims q after order s w → Runs prims order (template_of q) s cs m → list_any weighs_too_much cs ≡ false
       → v ≡ record w { rows = v.rows } → ((offered : List Row) → HasSeen w offered → HasSeen v (offered ++ map (valued prims q) (answering cs))) → HasScanned prims q after order m v
   scanned_on s m w v cs has run light same seen = record {
     given = has.given ++ cs;
@@ -49,6 +49,21 @@ module _ (prims : List Primitive) (q : Asked) (after : Option Mark) (order : Sca
     is = same ∙ ap (λ (k : Kept). record k { rows = v.rows }) has.is;
     seen = subst (HasSeen v) (sym (ap (map (valued prims q)) (filter_map-append _ has.given cs) ∙ map-append (valued prims q) (answering has.given) (answering cs))) (seen (map (valued prims q) (answering has.given)) has.seen);
   }
+
+  -- LAW: a scan that goes on by a run whose last candidate has a tree
+  pub scanned_tree : (s m : Scan) (w v : Kept) (cs before : List Candidate) (weight : ℕ) (u : Tree) → HasScanned prims q after order s w → Runs prims order (template_of q) s cs m → list_any weighs_too_much cs ≡ false
+      → v ≡ record w { rows = v.rows } → ((offered : List Row) → HasSeen w offered → HasSeen v (offered ++ map (valued prims q) (answering cs))) → cs ≡ before ++ record { weight = weight; answer = Some u } ∷ []
+      → (has : HasScanned prims q after order m v) × IsLast has.given (place_of u)
+  scanned_tree s m w v cs before weight u has run light same seen is = (
+    scanned_on s m w v cs has run light same seen,
+    record {
+      before = has.given ++ before;
+      weight = weight;
+      tree = u;
+      is = ap (λ l. has.given ++ l) is ∙ sym (append_assoc has.given before (record { weight = weight; answer = Some u } ∷ []));
+      at = refl;
+    },
+  )
 
   -- LAW: where none answers, the window stays
   pub scanned_by : (s m : Scan) (w : Kept) (cs : List Candidate) → HasScanned prims q after order s w → Runs prims order (template_of q) s cs m → list_any weighs_too_much cs ≡ false → answering cs ≡ [] → HasScanned prims q after order m w

@@ -5,5 +5,7 @@ pub mod Building
 pub mod Given
 pub mod Going
 pub mod Everything
+pub mod Named
 pub mod Fewer
+pub mod Early
 pub mod Laws

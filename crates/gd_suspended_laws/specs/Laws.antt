@@ -9,22 +9,23 @@ use Rattle.gd_defs.specs.Lines.{too_wide, refused_at, err_line, count_json}
 use Rattle.gd_defs.specs.Plan.{template_of}
 use Rattle.gd_defs.specs.Reply.{Mark, reply, page_cursor, result_line, is_ambiguous, max_candidate_weight, max_page_weight}
 use Rattle.gd_defs.specs.Rows.{key_place, meets_given}
-use Rattle.gd_defs.specs.Template.{tree_of}
+use Rattle.gd_defs.specs.Template.{tree_of, passes_template}
 use Rattle.gd_bytes.specs.Frozen.{Scan, scanning, building, printing}
 use Rattle.gd_runs.specs.Owed.{ScanOrder, Candidate, owed_by, weighs_too_much}
-use Rattle.gd_runs.specs.RootSets.{everything}
+use Rattle.gd_runs.specs.RootSets.{everything, named_places}
 use Rattle.gd_runs.specs.Scanned.{scan_order, set_order}
 use Rattle.gd_runs.specs.Shape.{page_shape}
 use Rattle.gd_runs.specs.Shape.Answers.{key_places, sort_lists}
 use Rattle.gd_runs.specs.Thawed.{built_trees, built_weight, body_line}
 use Rattle.gd_template_laws.specs.Laws.{AreHeld}
+use Rattle.gd_order_laws.specs.Window.{In}
 use Rattle.gd_scan_laws.specs.Ordered.{start}
 use Rattle.gd_match_laws.specs.Moves.{Runs}
 use Rattle.gd_match_laws.specs.Laws.{AtEnd}
 use Rattle.gd_match_laws.specs.Rows.{rows_order}
 use Rattle.gd_window.specs.Kept.{Kept}
 use Rattle.gd_window.specs.Laws.{RowsBehindAreAsDefined}
-use Rattle.gd_suspended_laws.specs.Standing.{rows_of, marks_of, page_rows, IsOrderOf, HasScanned, IsKept}
+use Rattle.gd_suspended_laws.specs.Standing.{rows_of, marks_of, page_rows, IsOrderOf, HasScanned, IsKept, IsLast, IsListed, ChangesNothing}
 
 -- The sort keys of an object stand where its tree tells.
 abbrev pub TreesTellKeys : Type 0
@@ -38,6 +39,11 @@ OrdersAre = (prims : List Primitive) (written : Query) (q : Asked) → AreHeld p
 -- So is that of all places.
 abbrev pub EverythingIs : Type 0
 EverythingIs = (prims : List Primitive) (written : Query) (q : Asked) → AreHeld prims → asked_query prims written ≡ Ok q → IsOrderOf prims q (set_order prims everything)
+
+-- So is that of places that are named, if each place that passes is one of them.
+abbrev pub NamedAre : Type 0
+NamedAre = (prims : List Primitive) (written : Query) (q : Asked) (places : List ℕ) → AreHeld prims → asked_query prims written ≡ Ok q → ((o : ℕ) → passes_template prims (template_of q) o ≡ true → In o places)
+    → IsOrderOf prims q (set_order prims (named_places places))
 
 -- So is that of a scan for members that each candidate meets, as some of the query's own.
 abbrev pub FewerAre : Type 0
@@ -60,6 +66,11 @@ ScansOwe = RowsBehindAreAsDefined → (prims : List Primitive) (q : Asked) (orde
 abbrev pub HeavyScansRefuse : Type 0
 HeavyScansRefuse = (prims : List Primitive) (q : Asked) (order : ScanOrder) (dateline k : ℕ) (with_cursor : Bool) (after : Option Mark) (kept : List Mark) (s : Scan) → list_any weighs_too_much (owed_by prims (template_of q) order s) ≡ true
     → body_line prims q order dateline k with_cursor after kept (scanning s) ≡ err_line dateline k (too_wide (max_candidate_weight + 1))
+
+-- Where the places of an order are listed, and each of the list behind the last tree that was given would change nothing, the scan may go to its end with the window that it has.
+abbrev pub ScansEndEarly : Type 0
+ScansEndEarly = (prims : List Primitive) (q : Asked) (order : ScanOrder) (after : Option Mark) (s : Scan) (w : Kept) (places : List ℕ) (last : ℕ) → IsListed prims q order places
+    → (has : HasScanned prims q after order s w) → IsLast has.given last → ((o : ℕ) → In o places → last < o → ChangesNothing prims q w o) → (e : Scan) × (HasScanned prims q after order e w × AtEnd prims order (template_of q) e)
 
 -- The rows that a scan keeps are read again from their marks.
 abbrev pub ScansKeep : Type 0

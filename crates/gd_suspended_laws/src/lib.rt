@@ -2,7 +2,7 @@
 //! function that does nothing: whoever calls it may use the law, and code above cites its statement from `specs/Laws.antt`.
 #![tactic(auto)]
 
-ghost use Rattle.gd_suspended_laws.specs.Laws.{BuildsGo, EverythingIs, FewerAre, HeavyBuildsRefuse, HeavyPagesRefuse, HeavyScansRefuse, ManyRefuse, OrdersAre, PrintsOwe, ScansKeep, ScansOwe, StartsOwe, ThenBuilds, ThenCounts, ThenPrints, TreesTellKeys};
+ghost use Rattle.gd_suspended_laws.specs.Laws.{BuildsGo, EverythingIs, FewerAre, HeavyBuildsRefuse, HeavyPagesRefuse, HeavyScansRefuse, ManyRefuse, NamedAre, OrdersAre, PrintsOwe, ScansEndEarly, ScansKeep, ScansOwe, StartsOwe, ThenBuilds, ThenCounts, ThenPrints, TreesTellKeys};
 
 /// The sort keys of an object stand where its tree tells.
 pub fn trees_tell_keys()
@@ -17,6 +17,11 @@ pub fn orders_are()
 /// The order of all places has each candidate once.
 pub fn everything_is()
     ensures { EverythingIs }
+{}
+
+/// The order of places that are named has each candidate once, if each place that passes is one of them.
+pub fn named_are()
+    ensures { NamedAre }
 {}
 
 /// The order of a scan for some members of a query has each of its candidates once.
@@ -37,6 +42,11 @@ pub fn scans_owe()
 /// Where a candidate that is owed weighs too much, the reading owes the refusal that says so.
 pub fn heavy_scans_refuse()
     ensures { HeavyScansRefuse }
+{}
+
+/// Where what is left would change nothing, the scan may go to its end with the window that it has.
+pub fn scans_end_early()
+    ensures { ScansEndEarly }
 {}
 
 /// The rows that a scan keeps are read again from their marks.

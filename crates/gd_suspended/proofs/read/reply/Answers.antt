@@ -4,8 +4,8 @@ use Rattle.gd_suspended.proofs.read.reply.Goals as goal
 
 pub returns-in-Ok : goal.returns-in-Ok
 returns-in-Ok g c =
-    reply_ok c.args.store.now c.view-view.result c.earlier-below.result c.requests-latest.result c.args.line (read_view c.args.request) c.in-Ok.reading c.line_of.result
-    c.requests-latest.ensures.count c.view-view.ensures c.in-Ok.ensures.begun c.dateline.result c.dateline.ensures c.earlier-below.ensures c.line_of.ensures
+    reply_ok c.args.store.now c.view-view.result c.earlier-below.result c.requests-latest.result c.args.line (read_view c.args.request) c.in-Ok.reading c.line_of-bytes.result
+    c.requests-latest.ensures.count c.view-view.ensures c.in-Ok.ensures.begun c.dateline.result c.dateline.ensures c.earlier-below.ensures c.line_of-bytes.ensures
 
 pub returns-in-Err : goal.returns-in-Err
 returns-in-Err g c =
