@@ -3,6 +3,7 @@ use Rattle.std.proofs.lemmas.Result.{err_from_is_err_and}
 use Rattle.gd_disk.specs.Runs.{untouched_then}
 use Rattle.gd_prim.specs.declared.Batch.{Batch}
 use Rattle.gd_bytes.specs.File.{meaning, StandsFor}
+use Rattle.gd_log.specs.State.{IsHeld}
 use Rattle.gd_log.proofs.Opens.{journal_refuses, reason_refuses, loads_stands, untouched_means, kept_untouched, finished_means, kept_finished}
 use Rattle.gd_log.proofs.opening.open_log.Goals as goal
 
@@ -81,6 +82,13 @@ pub returns-in_ok-opened-in-Ok-clause-means : goal.returns-in_ok-opened-in-Ok-cl
 returns-in_ok-opened-in-Ok-clause-means g c = λ f is.
     let stands = loads_stands f c.in-Ok.store (c.in-Ok.ensures.all f (c.in_ok-opening.ensures.untouched.same ∙ is)) in
     subst (λ (bs : List Batch). StandsFor f bs) (sym c.in_ok-opened-in-Ok.ensures.store) stands
+
+pub returns-in_ok-opened-in-Ok-clause-held : goal.returns-in_ok-opened-in-Ok-clause-held
+returns-in_ok-opened-in-Ok-clause-held g c = λ f is.
+    let e = c.in_ok-opened-in-Ok in
+    let u = untouched_then c.in_ok-opening.ensures.untouched c.load.ensures.untouched in
+    let held = e.ensures.held f (u.same ∙ is) (c.in-Ok.ensures.all f (c.in_ok-opening.ensures.untouched.same ∙ is)) in
+    subst (λ (bs : List Batch). IsHeld (g.D.Disk.content e.opened.0.disk) (g.D.Disk.images e.opened.0.disk) e.opened.0.gate bs) (sym e.ensures.store) held
 
 pub returns-in_ok-opened-in-Ok-clause-moments : goal.returns-in_ok-opened-in-Ok-clause-moments
 returns-in_ok-opened-in-Ok-clause-moments g c = λ f is.
