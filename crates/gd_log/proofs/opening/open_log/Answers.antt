@@ -83,13 +83,6 @@ returns-in_ok-opened-in-Ok-clause-means g c = λ f is.
     let stands = loads_stands f c.in-Ok.store (c.in-Ok.ensures.all f (c.in_ok-opening.ensures.untouched.same ∙ is)) in
     subst (λ (bs : List Batch). StandsFor f bs) (sym c.in_ok-opened-in-Ok.ensures.store) stands
 
-pub returns-in_ok-opened-in-Ok-clause-held : goal.returns-in_ok-opened-in-Ok-clause-held
-returns-in_ok-opened-in-Ok-clause-held g c = λ f is.
-    let e = c.in_ok-opened-in-Ok in
-    let u = untouched_then c.in_ok-opening.ensures.untouched c.load.ensures.untouched in
-    let held = e.ensures.held f (u.same ∙ is) (c.in-Ok.ensures.all f (c.in_ok-opening.ensures.untouched.same ∙ is)) in
-    subst (λ (bs : List Batch). IsHeld (g.D.Disk.content e.opened.0.disk) (g.D.Disk.images e.opened.0.disk) e.opened.0.gate bs) (sym e.ensures.store) held
-
 pub returns-in_ok-opened-in-Ok-clause-moments : goal.returns-in_ok-opened-in-Ok-clause-moments
 returns-in_ok-opened-in-Ok-clause-moments g c = λ f is.
     let d = g.D.Disk in
@@ -106,3 +99,11 @@ returns-in_ok-opened-in-Ok-clause-kept g c = λ f is.
     let u = untouched_then c.in_ok-opening.ensures.untouched c.load.ensures.untouched in
     let stands = loads_stands f c.in-Ok.store (c.in-Ok.ensures.all f (c.in_ok-opening.ensures.untouched.same ∙ is)) in
     kept_finished c.args.disk mid e.opened.0.disk f c.in-Ok.store (g.met.D.Disk.reads_one e.opened.0.disk) (g.met.D.Disk.reads_one c.args.disk f is) is u stands (e.ensures.moments f (u.same ∙ is)) e.ensures.told
+
+pub returns-in_ok-opened-in-Ok-clause-held : goal.returns-in_ok-opened-in-Ok-clause-held
+returns-in_ok-opened-in-Ok-clause-held g c = λ f is.
+    let d = g.D.Disk in
+    let e = c.in_ok-opened-in-Ok in
+    let u = untouched_then c.in_ok-opening.ensures.untouched c.load.ensures.untouched in
+    subst (IsHeld (d.content e.opened.0.disk) (d.images e.opened.0.disk) e.opened.0.gate) (sym e.ensures.store)
+    (e.ensures.held f (u.same ∙ is) (c.in-Ok.ensures.all f (c.in_ok-opening.ensures.untouched.same ∙ is)))
