@@ -2,10 +2,15 @@
 use gd_base::datum::Datum;
 use gd_base::id::Id;
 use gd_base::memory::Memory;
+use gd_base::steps::Steps;
 use gd_prim::well_formed::BadBatch;
 use gd_prim::{Batch, Primitive, Prims, What};
 use gd_store::store::{Full, Store};
+use gd_valueidx::values::Values;
 use std::alloc::Global;
+
+/// The run that steps are counted for.
+struct Run;
 
 /// A batch of so many objects.
 pub(crate) fn objects(alloc: Global, count: usize) -> Result<Batch, Memory> {
@@ -57,6 +62,37 @@ fn refused(alloc: Global, batch: &Batch) -> (Option<Full>, Option<BadBatch>) {
         }
         Err(_) => (None, None),
     }
+}
+
+/// Whether the number of `true` alone is found from `false` up to it.
+fn finds_true(values: &Values) -> bool {
+    let mut steps: Steps<Run> = Steps::new();
+    let low = Datum::Bool(false);
+    let high = Datum::Bool(true);
+    match values.values_between(Some(&low), Some(&high), 1, &mut steps) {
+        Ok(Some(numbers)) => match values.number_of(&high) {
+            Some(number) => numbers.len() == 1 && numbers.as_slice()[0] as usize == number,
+            None => false,
+        },
+        _ => false,
+    }
+}
+
+/// The same, of the built-in list.
+fn finds_true_in_a_fresh_store(alloc: Global) -> bool {
+    match Store::new(alloc) {
+        Ok(store) => {
+            let found = finds_true(store.values());
+            drop(store);
+            found
+        }
+        Err(_) => false,
+    }
+}
+
+#[test]
+fn values_between_found(rt: HostRuntime) {
+    assert!(rt; finds_true_in_a_fresh_store(rt.alloc()));
 }
 
 #[test]

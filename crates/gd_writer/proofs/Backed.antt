@@ -1,5 +1,5 @@
 -- What a step of a ledger leaves of its disk.
-use Rattle.std.proofs.Common.{◌≡◌, ◌≤◌, ◌⊎◌, ℕ, List, [], ◌∷◌, ◌++◌, Option, Some, None, Bool, refl, sym, ap, subst, ◌∙◌, inl, inr, ⊎_elim, arith}
+use Rattle.std.proofs.Common.{◌≡◌, ◌≤◌, ◌⊎◌, ℕ, List, [], ◌∷◌, Option, Some, None, refl, sym, ap, subst, ◌∙◌, inl, inr, ⊎_elim, arith}
 use Rattle.std.specs.Option.{is_some}
 use Rattle.gd_prim.specs.declared.Batch.{Batch}
 use Rattle.gd_bytes.specs.Disk.{LeavesOnly}
@@ -7,7 +7,7 @@ use Rattle.gd_bytes.specs.File.{StandsFor, MayStandFor}
 use Rattle.gd_disk.specs.Runs.{leaves_start, leaves_join, leaves_weaken}
 use Rattle.gd_journal.specs.State.{Journaled}
 use Rattle.gd_log.specs.Stored.{Holds, groups_in_doubt}
-use Rattle.gd_runs.specs.Legal.{Entry, History, batches, with_entry}
+use Rattle.gd_runs.specs.Legal.{Entry, batches, with_entry}
 use Rattle.gd_runs.specs.Side.{doubt_groups}
 use Rattle.gd_runs.proofs.Rounds.{batches_more}
 use Rattle.gd_writer.specs.Parts.{LedgerValue, StandsForLedger, Tells, Backs, EndsAs, group_of}

@@ -1,12 +1,12 @@
 -- What carrying a write out comes to, over a history with nothing in doubt.
-use Rattle.std.proofs.Common.{◌≡◌, refl, ℕ, ◌+◌, Bool, List, Option, None, Some, Ok, Err, sym, subst, ap, ◌∙◌}
+use Rattle.std.proofs.Common.{◌≡◌, ℕ, ◌+◌, Bool, Option, None, Some, Err, sym, subst, ap, ◌∙◌}
 use Rattle.gd_json.specs.View.{view}
 use Rattle.gd_tree.specs.Json.{Json}
 use Rattle.gd_defs.specs.Write.{WriteRequest, ChangeFault}
 use Rattle.gd_runs.specs.Legal.{Entry, History, size, with_entry, exec_line}
-use Rattle.gd_runs.specs.Core.{State, Session, Settles, Writable}
+use Rattle.gd_runs.specs.Core.{State, Settles, Writable}
 use Rattle.gd_runs.specs.Explained.{MayBe}
-use Rattle.gd_runs.specs.Side.{Kept, kept_stored, kept_late, kept_refused, kept_doubt, kept_memory, WriteKeeps}
+use Rattle.gd_runs.specs.Side.{kept_stored, kept_late, kept_refused, kept_doubt, kept_memory, WriteKeeps}
 use Rattle.gd_writer.specs.declared.judge.Next.{Next}
 use Rattle.gd_writer.specs.Entries.{entry_view}
 use Rattle.gd_writer.specs.Judged.{IsStorable}

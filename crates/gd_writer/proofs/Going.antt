@@ -1,5 +1,5 @@
 -- What a call of a side leaves.
-use Rattle.std.proofs.Common.{◌≡◌, ℕ, Bool, List, Option, refl, inl, arith}
+use Rattle.std.proofs.Common.{ℕ, Bool, List, Option, refl, inl, arith}
 use Rattle.gd_disk.specs.Runs.{leaves_start}
 use Rattle.gd_writer.specs.Side.{SideValue, KeepsAll, GoesOn, StandsForEither}
 

@@ -16,7 +16,7 @@ use Rattle.gd_writer.specs.declared.entry.Entry.{Entry}
 use Rattle.gd_writer.specs.Entries.{entry_view, history_of}
 use Rattle.gd_writer.specs.Parts.{LedgerValue, Backs, IsLedger, AreReady, IsReadyDoubt, Tells, group_of}
 use Rattle.gd_writer.proofs.Backed.{backs_by}
-use Rattle.gd_writer.proofs.Histories.{history_more, bytes_more, batches_is, size_is}
+use Rattle.gd_writer.proofs.Histories.{history_more, bytes_more, batches_is}
 
 -- a write in doubt just where the log is
 pub ready_of : (bs : List Batch) (kept : ℕ) (next : Option ℕ) (e : legal.Entry) → AreReady bs kept next (Some e) → IsReadyDoubt bs kept e

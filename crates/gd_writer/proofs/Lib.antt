@@ -9,3 +9,7 @@ pub mod Started
 pub mod Alone
 pub mod Judged
 pub mod Carried
+pub mod Settled
+pub mod Ended
+pub mod Changed
+pub mod Written

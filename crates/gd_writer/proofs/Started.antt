@@ -1,5 +1,5 @@
 -- A side before its first write.
-use Rattle.std.proofs.Common.{◌≡◌, refl, ℕ, ◌+◌, ◌≤◌, Bool, true, List, [], ◌∷◌, ◌++◌, length, map, Option, None, Some, sym, subst, ap, ◌∙◌, arith, append-nil}
+use Rattle.std.proofs.Common.{◌≡◌, refl, ℕ, Bool, true, List, [], length, Option, None, Some, sym, subst, ap, ◌∙◌, arith, append-nil}
 use Rattle.std.specs.Option.{ForSome, is_some}
 use Rattle.gd_prim.specs.declared.Batch.{Batch}
 use Rattle.gd_prim.specs.History.{is_history}

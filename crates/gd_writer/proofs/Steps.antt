@@ -1,11 +1,10 @@
 -- Steps of the core, by the parts of the state that they make.
-use Rattle.std.proofs.Common.{◌≡◌, refl, ℕ, ◌+◌, ◌⊎◌, inl, inr, ⊎_elim, Bool, List, Option, None, Some, Ok, Err, sym, subst, ap, ◌∙◌}
+use Rattle.std.proofs.Common.{◌≡◌, refl, ℕ, ◌+◌, ◌⊎◌, inl, inr, ⊎_elim, Bool, Option, None, Some, Ok, Err, sym, subst, ap, ◌∙◌}
 use Rattle.gd_defs.specs.Write.{WriteRequest, ChangeFault}
-use Rattle.gd_tree.specs.Json.{Json}
 use Rattle.gd_runs.specs.Legal.{Entry, History, size, with_entry, exec_line}
 use Rattle.gd_runs.specs.Explained.{MayBe}
 use Rattle.gd_runs.specs.Core.{State, Session, Settles, Writable}
-use Rattle.gd_runs.specs.Side.{Kept, kept_stored, kept_late, kept_refused, kept_doubt, kept_unsettled, kept_memory, WriteKeeps, stores, stores_late, refuses, doubts, leaves_doubt, lacks_memory, lacks_memory_settled}
+use Rattle.gd_runs.specs.Side.{kept_stored, kept_late, kept_refused, kept_doubt, kept_memory, WriteKeeps, stores, stores_late, refuses, doubts, lacks_memory_settled}
 
 -- a state, by its parts
 abbrev pub state : History → ℕ → Option Entry → (ℕ → Session) → State

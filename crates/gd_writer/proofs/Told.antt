@@ -1,13 +1,13 @@
 -- What is kept of write lines, with one more.
-use Rattle.std.proofs.Common.{◌≡◌, refl, ℕ, zero, suc, ◌+◌, ◌≤◌, ◌<◌, ◌==◌, ◌⊎◌, inl, inr, ⊎_elim, Bool, true, false, List, [], ◌∷◌, ◌++◌, length, map, drop, Option, None, Some, slice_get, sym, subst, ap, ◌∙◌, arith, if◌then◌else◌}
+use Rattle.std.proofs.Common.{◌≡◌, ℕ, ◌≤◌, ◌<◌, ⊎_elim, Bool, List, [], ◌∷◌, ◌++◌, map, None, Some, slice_get, sym, subst, ap, ◌∙◌, arith}
 use Rattle.std.specs.List.{AllByRecursion}
 use Rattle.std.proofs.lemmas.List.{map-append}
 use Rattle.gd_defs.specs.Write.{WriteRequest}
 use Rattle.gd_tree.specs.Json.{Json}
-use Rattle.gd_runs.specs.Legal.{Entry, History, size, with_entry, batches}
-use Rattle.gd_runs.specs.Core.{State, Settles, after_entry}
+use Rattle.gd_runs.specs.Legal.{size}
+use Rattle.gd_runs.specs.Core.{State}
 use Rattle.gd_runs.specs.Side.{Kept, kept_stored, Told, told_of, WriteKeeps, stores, stores_late, refuses, doubts, leaves_doubt, lacks_memory, lacks_memory_settled, KeepsHistory}
-use Rattle.gd_runs.proofs.Rounds.{no_some, some_same, get_cases}
+use Rattle.gd_runs.proofs.Rounds.{get_cases}
 use Rattle.gd_core_laws.proofs.Lines.{one_longer}
 use Rattle.gd_core_laws.proofs.SideHistory.{Settled, settle_keeps, only}
 use Rattle.gd_writer.specs.declared.outcome.WriteOf.{WriteOf}

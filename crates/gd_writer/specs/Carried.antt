@@ -2,10 +2,13 @@
 use Rattle.std.specs.Prelude.{◌≡◌, ℕ, List, length, Bool, true, Option}
 use Rattle.gd_base.specs.Counts.{Rose}
 use Rattle.gd_defs.specs.Write.{WriteRequest}
+use Rattle.gd_journal.specs.declared.fault.JournalFault.{JournalFault}
+use Rattle.gd_journal.specs.declared.fault.JournalFault.TheVariants.{DiskFault}
 use Rattle.gd_runs.specs.Legal.{batches}
 use Rattle.gd_runs.specs.Core.{State, Session, Settles}
 use Rattle.gd_runs.specs.Side.{WriteKeeps, is_fault}
 use Rattle.gd_writer.specs.declared.outcome.Outcome.{Outcome}
+use Rattle.gd_writer.specs.declared.outcome.Outcome.TheVariants as outcome
 use Rattle.gd_writer.specs.Outcomes.{kept_view, IsTold}
 use Rattle.gd_writer.specs.Parts.{LedgerValue, CopiesValue, Backs}
 
@@ -37,3 +40,8 @@ pub record Changes {D C : Type 0} (content : D → Option (List ℕ)) (moment : 
     (ledger : LedgerValue D) (copies : CopiesValue) (clock : C) (line bytes : ℕ) (w : WriteRequest) (after : LedgerValue D) (shows : CopiesValue) (ticks : C) (outcome : Outcome) : Type 0 where
   pub step : (s : State) → Settles s (desk_state ledger copies s.sessions) → WriteKeeps (may clock) s line bytes w (kept_view outcome) (desk_state after shows s.sessions)
   pub along : GoesAlong content moment images images_since faults may ledger copies clock line after shows ticks outcome
+
+-- what a write came to whose append failed over so many requests
+abbrev pub failed_as : JournalFault → ℕ → Outcome
+failed_as DiskFault at = outcome.Doubt at
+failed_as _ at = outcome.Memory

@@ -1,6 +1,5 @@
 -- What a write comes to before anything is stored.
-use Rattle.std.specs.Prelude.{◌≡◌, ◌≢◌, ◌+◌, ◌≤◌, ℕ, List, [], ◌∷◌, Ok, Err}
-use Rattle.gd_prim.specs.declared.Batch.{Batch}
+use Rattle.std.specs.Prelude.{◌≡◌, ◌≢◌, ◌+◌, ◌≤◌, ℕ, [], ◌∷◌, Ok, Err}
 use Rattle.gd_json.specs.View.{view}
 use Rattle.gd_defs.specs.Lines.{ok_line}
 use Rattle.gd_defs.specs.Write.{WriteRequest}

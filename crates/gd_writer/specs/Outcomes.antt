@@ -1,9 +1,8 @@
 -- What is kept of write lines.
-use Rattle.std.specs.Prelude.{◌≡◌, ◌≢◌, ◌+◌, ◌<◌, ◌^◌, ℕ, List, map, Bool, true, false, Option, Some}
+use Rattle.std.specs.Prelude.{◌≡◌, ◌≢◌, ◌+◌, ℕ, Bool, true, false, Option, Some}
 use Rattle.gd_json.specs.View.{view}
 use Rattle.gd_defs.specs.Lines.{ok_line}
 use Rattle.gd_change.specs.Fault.{fault_of, IsSmall}
-use Rattle.gd_carry.specs.declared.fault.ChangeFault.{ChangeFault}
 use Rattle.gd_carry.specs.declared.fault.ChangeFault.TheVariants as fault
 use Rattle.gd_runs.specs.Side.{Kept, kept_stored, kept_late, kept_refused, kept_doubt, kept_unsettled, kept_memory, Told, told_of}
 use Rattle.gd_writer.specs.declared.outcome.Outcome.{Outcome}

@@ -84,7 +84,7 @@ impl Copies {
     }
 
     /// A batch more is to be shown.
-    pub(crate) fn add(&mut self, batch: Batch)
+    fn add(&mut self, batch: Batch)
         requires room { 1 ≤ self.old.spare }
         requires follows { IsTrue (is_history (self.old.all ++ batch ∷ [])) }
         ensures { self.new ≡ record self.old { all = self.old.all ++ batch ∷ []; spare = self.old.spare - 1 } }
@@ -101,6 +101,20 @@ impl Copies {
         hand_on(&mut self.publisher, &mut self.waiting)?;
         self.publisher.publish(rt)?;
         Ok(())
+    }
+
+    /// Shows a batch more with all that is to be shown. It waits for readers. `Memory`: nothing more is shown, and the batch
+    /// waits with the others.
+    pub(crate) fn show_with<R: Wait>(&mut self, rt: &R, batch: Batch) -> Result<(), Memory>
+        requires room { 1 ≤ self.old.spare }
+        requires follows { IsTrue (is_history (self.old.all ++ batch ∷ [])) }
+        ensures shown { MatchResult result (λ _. self.new.shown ≡ self.old.all ++ batch ∷ []) (λ _. self.new.shown ≡ self.old.shown) }
+        ensures all { self.new.all ≡ self.old.all ++ batch ∷ [] }
+        ensures table { self.new.table ≡ self.old.table }
+        ensures spare { self.old.spare ≤ self.new.spare + 1 }
+    {
+        self.add(batch);
+        self.show(rt)
     }
 
     /// A receipt of what is shown.

@@ -1,12 +1,12 @@
 //! The history, with its log and its store.
-ghost use Rattle.std.specs.Prelude.{◌≡◌, ◌≤◌, ◌+◌, ◌-◌, ◌++◌, ◌∷◌, ℕ, List, [], None, OnOk, OnErr, IfOk, IfErr, IsTrue, length};
+ghost use Rattle.std.specs.Prelude.{◌≡◌, ◌≤◌, ◌+◌, ◌-◌, ◌++◌, ◌∷◌, ℕ, List, [], None, OnOk, OnErr, IfOk, IfErr, IsSome, IsTrue, length};
 ghost use Rattle.gd_journal.specs.Causes.{HasReason};
 ghost use Rattle.gd_log.specs.State.{IsHeld};
 ghost use Rattle.gd_log.specs.Stored.{MayAppend};
 ghost use Rattle.gd_prim.specs.History.{is_history};
 ghost use Rattle.gd_runs.specs.Legal.{batches, size, history_bytes};
 ghost use Rattle.gd_writer.specs.Entries.{entry_view};
-ghost use Rattle.gd_writer.specs.Parts.{LedgerValue, Backs, AppendsAs, Tells, StandsForLedger};
+ghost use Rattle.gd_writer.specs.Parts.{LedgerValue, Backs, EndsAs, AppendsAs, Tells, StandsForLedger};
 
 use crate::entry::Entry;
 use crate::made::Made;
@@ -132,6 +132,30 @@ impl<D: Disk> Ledger<D> {
         ensures kept { self.old.spare ≤ self.new.spare }
     {
         self.entries.reserve(more)
+    }
+
+    /// Ends a doubt, if there is one, and gives the batch of a write that counts, which is an entry then. An error leaves
+    /// the doubt. `DiskFault`: the disk failed.
+    pub(crate) fn settle(&mut self) -> Result<Option<Batch>, JournalFault>
+        requires room { 1 ≤ self.old.spare }
+        ensures ends { IfOk result (EndsAs self.old self.new) }
+        ensures err { OnErr result (self.new ≡ record self.old { log = self.new.log }) }
+        ensures some { OnErr result (IsSome self.old.doubt) }
+        ensures backs { Backs D.content D.moment D.images D.images_since D.faults self.old self.new }
+        ensures cause { IfErr result (HasReason (D.faults self.old.log.disk) (D.faults self.new.log.disk)) }
+    {
+        let Some(made) = &self.doubt else {
+            return Ok(None);
+        };
+        let counts = self.held.settle(slice::from_ref(&made.batch))?;
+        let ended = self.doubt.take();
+        if !counts {
+            return Ok(None);
+        }
+        match ended {
+            Some(made) => Ok(Some(enter(&mut self.entries, &mut self.kept, made))),
+            None => unreachable!(),
+        }
     }
 
     /// Appends a write that may follow, and gives its batch back. `DiskFault`: the disk failed, and the write is in doubt.

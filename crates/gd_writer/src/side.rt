@@ -18,6 +18,7 @@ ghost use Rattle.gd_writer.specs.Side.{KeepsAll, ShowsStored, GoesOn, Writes, Be
 
 use crate::copies::Copies;
 use crate::desk::Desk;
+use crate::judge::Asked;
 use crate::ledger::Ledger;
 use crate::outcome::{Outcome, WriteOf};
 use crate::roomy::Roomy;
@@ -160,21 +161,29 @@ impl<D: Disk, C: Clock> WriteSide<D, C> {
     /// Publishing waits for readers.
     pub fn write<R: Wait>(
         &mut self,
-        _rt: &R,
-        _line: u64,
-        _request: &WriteRequest,
-        _bytes: u64,
+        rt: &R,
+        line: u64,
+        request: &WriteRequest,
+        bytes: u64,
     ) -> Result<(), Memory>
-        requires left { IsLeft self.old.outcomes _line }
-        requires fresh { IsFresh self.old.history self.old.doubt _line }
-        requires bytes { _bytes ≤ 262_144 }
-        requires line { _line < 2 ^ 63 }
-        ensures ok { OnOk result (Writes (C.may self.old.clock) D.faults self.old _line _bytes (write_view _request.now) self.new) }
+        requires left { IsLeft self.old.outcomes line }
+        requires fresh { IsFresh self.old.history self.old.doubt line }
+        requires bytes { bytes ≤ 262_144 }
+        requires line { line < 2 ^ 63 }
+        ensures ok { OnOk result (Writes (C.may self.old.clock) D.faults self.old line bytes (write_view request.now) self.new) }
         ensures err { OnErr result (self.new ≡ self.old) }
         ensures goes { GoesOn D.content D.moment D.images D.images_since D.faults C.may self.old self.new }
     {
         let _stored = self.stored();
-        Err(Memory)
+        self.outcomes.reserve(1)?;
+        let asked = Asked {
+            line,
+            request,
+            bytes,
+        };
+        let outcome = self.desk.write(rt, asked);
+        self.outcomes.push(WriteOf { line, outcome });
+        Ok(())
     }
 
     /// Shows all that is stored. It waits for readers. `Memory`: nothing more is shown.

@@ -1,5 +1,4 @@
 use Rattle.std.proofs.Common.{◌++◌, sym, subst}
-use Rattle.gd_prim.specs.declared.Batch.{Batch}
 use Rattle.gd_shared.specs.Shared.{MayFollow}
 use Rattle.gd_writer.proofs.Waiting.{may_hand}
 use Rattle.gd_writer.proofs.copies.hand_first.Goals as goal

@@ -1,9 +1,7 @@
-use Rattle.std.proofs.Common.{◌≡◌}
 use Rattle.gd_runs.specs.Legal.{batches}
 use Rattle.gd_runs.specs.Request.{exec_after}
 use Rattle.gd_mql.specs.Requests.{write_view}
-use Rattle.gd_change.specs.Fault.{fault_of}
-use Rattle.gd_writer.proofs.Judged.{done_is, fault_is, refused_line}
+use Rattle.gd_writer.proofs.Judged.{done_is}
 use Rattle.gd_writer.proofs.judge.judge.Goals as goal
 
 pub judge_done-requires-clause-does : goal.judge_done-requires-clause-does

@@ -1,5 +1,5 @@
-use Rattle.std.proofs.Common.{◌≡◌, ◌+◌, ◌≤◌, ℕ, List, Result, Ok, refl, sym, ap, ◌∙◌, arith}
-use Rattle.gd_tree.specs.Json.{Json, compact}
+use Rattle.std.proofs.Common.{◌+◌, ◌≤◌, ℕ, Ok, refl, sym, ap, ◌∙◌, arith}
+use Rattle.gd_tree.specs.Json.{Json}
 use Rattle.gd_json.specs.View.{view}
 use Rattle.gd_defs.specs.Lines.{ok_line}
 use Rattle.gd_runs.specs.Legal.{history_bytes, kept_bytes, max_history}

@@ -1,11 +1,11 @@
-use Rattle.std.proofs.Common.{◌≡◌, ◌≤◌, ◌+◌, ◌++◌, ◌∷◌, [], ℕ, List, Option, None, Some, option_map, refl, sym, ap, subst, ◌∙◌, length, arith, inl, inr, Err, length-append}
+use Rattle.std.proofs.Common.{◌≡◌, ◌+◌, ◌++◌, ◌∷◌, [], ℕ, List, Option, None, Some, option_map, sym, ap, subst, ◌∙◌, length, arith, Err, length-append}
 use Rattle.gd_prim.specs.declared.Batch.{Batch}
 use Rattle.gd_log.specs.Stored.{Holds, MayAppend, doubt_after}
 use Rattle.gd_runs.specs.Legal.{Entry, batches, history_bytes}
 use Rattle.gd_writer.specs.declared.made.Made.{Made}
 use Rattle.gd_writer.specs.declared.entry.Entry.{Entry as Kept}
-use Rattle.gd_writer.specs.Entries.{entry_view, history_of}
-use Rattle.gd_writer.specs.Parts.{LedgerValue, RoomyValue, IsLedger, Tells, Backs, group_of}
+use Rattle.gd_writer.specs.Entries.{entry_view}
+use Rattle.gd_writer.specs.Parts.{LedgerValue, RoomyValue, IsLedger, Backs, group_of}
 use Rattle.gd_writer.proofs.Histories.{batches_is}
 use Rattle.gd_writer.proofs.Kept.{ledger_value, ledger_more, ledger_same, ledger_backs, ledger_grown, holds_group, doubted, not_doubted, done_undoubted, ready_some}
 use Rattle.gd_writer.proofs.ledger.Ledger.append.Goals as goal

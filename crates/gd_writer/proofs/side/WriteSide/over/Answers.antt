@@ -1,4 +1,4 @@
-use Rattle.std.proofs.Common.{ap, ◌∙◌}
+use Rattle.std.proofs.Common.{ap}
 use Rattle.gd_writer.specs.Parts.{LedgerValue, CopiesValue}
 use Rattle.gd_writer.proofs.Started.{side_begins}
 use Rattle.gd_writer.proofs.side.WriteSide.over.Goals as goal

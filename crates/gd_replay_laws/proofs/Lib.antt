@@ -1,0 +1,4 @@
+pub mod Joined
+pub mod Below
+pub mod Whole
+pub mod Bounds

@@ -1,0 +1,26 @@
+-- The laws of a run of events.
+use Rattle.std.specs.Prelude.{◌≡◌, ℕ, ◌+◌, List, ◌++◌, length, Bool, Ok}
+use Rattle.gd_prim.specs.declared.Batch.{Batch}
+use Rattle.gd_runs.specs.Owed.{MembersOf}
+use Rattle.gd_runs.specs.Explained.{Numbered, lines_of}
+use Rattle.gd_runs.specs.Core.{Event, State, opened}
+use Rattle.gd_runs.specs.Replay.{event_from, Replays}
+use Rattle.gd_replay_laws.specs.Runs.{BuiltLine, BuiltReplies, IsBounded, AreBelow, AreBuilt}
+
+-- A run of lines and a run of the lines behind them are a run.
+abbrev pub RunsFollow : Type 0
+RunsFollow = (members : MembersOf) (may : ℕ → Bool) (s mid t : State) (k : ℕ) (before behind : List Numbered) (output rest : List ℕ) → BuiltReplies members may s k before output mid
+    → BuiltReplies members may mid (k + length before) behind rest t → BuiltReplies members may s k (before ++ behind) (output ++ rest) t
+
+-- Where each entry is of an earlier line, so it is behind line k.
+abbrev pub LinesStayBelow : Type 0
+LinesStayBelow = (members : MembersOf) (may : ℕ → Bool) (s t : State) (k : ℕ) (bytes reply : List ℕ) → AreBelow k s → BuiltLine members may s k bytes reply t → AreBelow (k + 1) t
+
+-- Where no line freezes or thaws, a run as far as events are built is one of the definitions.
+abbrev pub BuiltRunsAreReplays : Type 0
+BuiltRunsAreReplays = (members : MembersOf) (may : ℕ → Bool) (loaded : List Batch) (input output : List ℕ) (t : State) → AreBuilt (lines_of input) → BuiltReplies members may (opened loaded) 0 (lines_of input) output t
+    → Replays members may loaded input output t
+
+-- The session of an event that bytes spell is one of 64, and its budget one that there may be.
+abbrev pub EventsAreBounded : Type 0
+EventsAreBounded = (bytes : List ℕ) (e : Event) → event_from bytes ≡ Ok e → IsBounded e

@@ -1,0 +1,25 @@
+//! What a run of events prints, as far as events are built. Each law is the contract of a function that does nothing:
+//! whoever calls it may use the law, and code above cites its statement from `specs/Laws.antt`.
+#![tactic(auto)]
+
+ghost use Rattle.gd_replay_laws.specs.Laws.{LinesStayBelow, RunsFollow, BuiltRunsAreReplays, EventsAreBounded};
+
+/// A run of lines and a run of the lines behind them are a run.
+pub fn runs_follow()
+    ensures { RunsFollow }
+{}
+
+/// No line of a run has the number of an entry, or of a group in doubt, that stood before it.
+pub fn lines_stay_below()
+    ensures { LinesStayBelow }
+{}
+
+/// Where no line freezes or thaws, what is built prints what the definitions say.
+pub fn built_runs_are_replays()
+    ensures { BuiltRunsAreReplays }
+{}
+
+/// The session of an event is one of 64, and the budget of a slice one that there may be.
+pub fn events_are_bounded()
+    ensures { EventsAreBounded }
+{}
