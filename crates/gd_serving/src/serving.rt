@@ -30,25 +30,28 @@ use gd_mql::fault::LineFault;
 use gd_mql::line::line_from;
 use gd_mql::request::{Line, ReadRequest};
 use gd_outside::clock::Clock;
-use gd_read::read::reply as reply_to;
 use gd_reply::lines::err_line_plain;
 use gd_reply::refusal::Refusal;
 use gd_reply::reply::{Failure, Reply};
 use gd_store::store::Store;
+use gd_suspended::read::reply as reply_to;
 use std::alloc::Global;
 use std::marker::Model;
+use std::num::NonZeroU64;
 
 /// The run that steps are counted for.
 struct Run;
 
-/// A run over the log of a disk with its store, the write that is in doubt, the number of the next line, and the bytes of
-/// the stored lines and their results. Contracts see how far the run is, and its log.
+/// A run over the log of a disk with its store, the write that is in doubt, the number of the next line, the bytes of the
+/// stored lines and their results, and how many steps a slice of a read may take. Contracts see how far the run is, and
+/// its log.
 #[derive(Drop)]
 pub struct Serving<D: Disk> {
     held: StoredLog<D>,
     pending: Option<Pending>,
     lines: u64,
     kept: u64,
+    budget: NonZeroU64,
 }
 
 impl<D: Disk> Model for Serving<D> {
@@ -84,8 +87,9 @@ fn made(line: Result<Vec<u8>, Memory>) -> Result<Reply, Memory>
 }
 
 impl<D: Disk> Serving<D> {
-    /// A run that begins with what `open_log` gave: a log, and the store of its batches. It takes no memory.
-    pub fn new(log: Log<D>, store: Store) -> Serving<D>
+    /// A run that begins with what `open_log` gave: a log, and the store of its batches. Its reads go on in slices of a
+    /// budget of steps. It takes no memory.
+    pub fn new(log: Log<D>, store: Store, budget: NonZeroU64) -> Serving<D>
         requires no_doubt { log.doubt ≡ None }
         ensures log { result.log ≡ log }
         ensures progress { result.progress ≡ record { batches = store; lines = 0; kept = 0; doubt = None } }
@@ -98,6 +102,7 @@ impl<D: Disk> Serving<D> {
             pending: None,
             lines: 0,
             kept: 0,
+            budget,
         }
     }
 
@@ -182,7 +187,7 @@ impl<D: Disk> Serving<D> {
             RoundLine::Bytes(bytes) => bytes.as_slice(),
         };
         match line_from(alloc, bytes) {
-            Ok(Line::Read { request, .. }) => made(self.read(alloc, &request)),
+            Ok(Line::Read { request, .. }) => made(self.read(alloc, request)),
             Ok(Line::Write { request, .. }) => { self.write(alloc, clock, &request, bytes.len()) }
             Err(fault) => made(self.fault_reply(alloc, fault)),
         }
@@ -223,13 +228,20 @@ impl<D: Disk> Serving<D> {
         }
     }
 
-    /// The reply to a read of the store as it is.
-    fn read(&self, alloc: Global, request: &ReadRequest) -> Result<Vec<u8>, Memory>
+    /// The reply to a read of the store as it is, in slices of the budget.
+    fn read(&self, alloc: Global, request: ReadRequest) -> Result<Vec<u8>, Memory>
         requires { self.now.progress.lines < 2 ^ 63 }
         ensures { IfOk result (λ reply. reply.items ≡ reply_of self.now.progress.batches
-            (length self.now.progress.batches) self.now.progress.lines (read_view request.now)) }
+            (length self.now.progress.batches) self.now.progress.lines (read_view request)) }
     {
         let mut steps: Steps<Run> = Steps::new();
-        reply_to(alloc, self.store(), self.lines, request, &mut steps)
+        reply_to(
+            alloc,
+            self.store(),
+            self.lines,
+            request,
+            self.budget.get(),
+            &mut steps,
+        )
     }
 }

@@ -20,6 +20,7 @@ use gd_outside::sink::Sink;
 use gd_outside::source::Source;
 use gd_serving::serving::Serving;
 use std::alloc::Global;
+use std::num::NonZeroU64;
 
 /// Serves the whole input, and says how that ended.
 fn serve_all<D: Disk, S: Source, K: Sink, C: Clock>(
@@ -47,11 +48,12 @@ fn serve_all<D: Disk, S: Source, K: Sink, C: Clock>(
     }
 }
 
-/// Opens the store that a disk holds, before the first line is read, and serves the whole input over it. The disk is
-/// handed back, however it ends.
+/// Opens the store that a disk holds, before the first line is read, and serves the whole input over it, its reads in
+/// slices of a budget of steps. The disk is handed back, however it ends.
 fn serve_over<D: Disk, S: Source, K: Sink, C: Clock>(
     alloc: Global,
     disk: D,
+    budget: NonZeroU64,
     source: &mut S,
     sink: &mut K,
     clock: &mut C,
@@ -68,7 +70,7 @@ fn serve_over<D: Disk, S: Source, K: Sink, C: Clock>(
 {
     match open_log(alloc, disk) {
         Ok((log, store)) => {
-            let mut serving = Serving::new(log, store);
+            let mut serving = Serving::new(log, store, budget);
             let status = serve_all(alloc, &mut serving, source, sink, clock);
             (status, serving.into_disk())
         }
@@ -80,6 +82,7 @@ fn serve_over<D: Disk, S: Source, K: Sink, C: Clock>(
 pub fn serve_in_file<S: Source, K: Sink, F: Shelf, C: Clock>(
     alloc: Global,
     path: &Text,
+    budget: NonZeroU64,
     source: &mut S,
     sink: &mut K,
     shelf: &mut F,
@@ -103,7 +106,7 @@ pub fn serve_in_file<S: Source, K: Sink, F: Shelf, C: Clock>(
 {
     match shelf.open_at(path) {
         Ok(device) => {
-            let (status, device) = serve_over(alloc, device, source, sink, clock);
+            let (status, device) = serve_over(alloc, device, budget, source, sink, clock);
             shelf.put_back(path, device);
             status
         }
@@ -114,6 +117,7 @@ pub fn serve_in_file<S: Source, K: Sink, F: Shelf, C: Clock>(
 /// Serves the whole input over an empty store that is kept in memory alone.
 pub fn serve_in_memory<S: Source, K: Sink, C: Clock>(
     alloc: Global,
+    budget: NonZeroU64,
     source: &mut S,
     sink: &mut K,
     clock: &mut C,
@@ -128,7 +132,7 @@ pub fn serve_in_memory<S: Source, K: Sink, C: Clock>(
 {
     match SteadyDisk::new(alloc) {
         Ok(disk) => {
-            let (status, _disk) = serve_over(alloc, disk, source, sink, clock);
+            let (status, _disk) = serve_over(alloc, disk, budget, source, sink, clock);
             status
         }
         Err(_refused) => Status::Memory,

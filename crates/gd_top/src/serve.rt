@@ -1,6 +1,7 @@
 //! The top call.
 ghost use Rattle.std.specs.Prelude.{◌≡◌, ◌≢◌, ◌↔◌, ◌≤◌, ◌<◌, ◌⊎◌, ◌^◌, ℕ, List, length, option_map, true, false, None, Some, IfSome, IsSomeAnd};
 ghost use Rattle.std.specs.Io.KnownBytes.{IsAtEnd};
+ghost use Rattle.std.specs.NonZero.{non_zero_u64_get};
 ghost use Rattle.gd_base.specs.Counts.{Rose};
 ghost use Rattle.gd_bytes.specs.Disk.{HoldsSame};
 ghost use Rattle.gd_bytes.specs.File.{not_store, damaged};
@@ -21,11 +22,24 @@ use gd_outside::source::Source;
 use gd_words::reader::command;
 use gd_words::verbs::Command;
 use std::alloc::Global;
+use std::num::NonZeroU64;
 
-/// Serves the whole input over the store of a file, or, without one, over an empty store in memory.
+/// How many steps a slice of a read may take: as many as the words say, and 1 where they said 0.
+fn slice_budget(steps: u32) -> NonZeroU64
+    ensures { 0 < steps → non_zero_u64_get result ≡ steps }
+{
+    match NonZeroU64::new(u64::from(steps)) {
+        Some(budget) => budget,
+        None => NonZeroU64::MIN,
+    }
+}
+
+/// Serves the whole input over the store of a file, or, without one, over an empty store in memory. Reads go on in slices
+/// of a budget of steps.
 fn serve<S: Source, K: Sink, F: Shelf, C: Clock>(
     alloc: Global,
     file: Option<&Text>,
+    budget: NonZeroU64,
     source: &mut S,
     sink: &mut K,
     shelf: &mut F,
@@ -51,8 +65,8 @@ fn serve<S: Source, K: Sink, F: Shelf, C: Clock>(
         (F.images shelf.old other) (F.images shelf.new other) }
 {
     match file {
-        Some(path) => serve_in_file(alloc, path, source, sink, shelf, clock),
-        None => serve_in_memory(alloc, source, sink, clock),
+        Some(path) => serve_in_file(alloc, path, budget, source, sink, shelf, clock),
+        None => serve_in_memory(alloc, budget, source, sink, clock),
     }
 }
 
@@ -145,6 +159,7 @@ pub fn graphd<S: Source, K: Sink, F: Shelf, C: Clock + Drop>(
         Ok(Some(Command::Serve(settings))) => serve(
             alloc,
             settings.file.as_ref(),
+            slice_budget(settings.budget),
             source,
             sink,
             shelf,

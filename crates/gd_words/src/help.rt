@@ -14,7 +14,7 @@ Options, each at most once, as --name value or --name=value:
   --file PATH     keep the store in this file; without it, in memory
   --workers N     1 to 16 threads, 4 if not given (no effect yet)
   --budget N      1 to 1000000 steps for a slice of a read, 10000 if not
-                  given (no effect yet)
+                  given
 
 Example:
   graphd serve --file store.graphd --budget=5000 < requests.txt
