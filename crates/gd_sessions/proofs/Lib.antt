@@ -1,0 +1,13 @@
+pub mod Steps
+pub mod Fronts
+pub mod Begun
+pub mod Growing
+pub mod Table
+pub mod Told
+pub mod Shown
+pub mod Taken
+pub mod Ran
+pub mod One
+pub mod Goes
+pub mod Opened
+pub mod Left

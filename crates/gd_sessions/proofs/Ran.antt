@@ -1,0 +1,141 @@
+-- What an event of a session does to a core.
+use Rattle.std.proofs.Common.{◌≡◌, ℕ, ◌+◌, ◌<◌, ◌≤◌, List, [], ◌++◌, length, Bool, Option, None, Result, Ok, Err, IfOk, OnErr, ◌⊎◌, inl, inr, ⊎_elim, refl, sym, ap, subst, ◌∙◌, arith}
+use Rattle.std.specs.Prelude.{get_or, set}
+use Rattle.std.specs.Global.{Vec}
+use Rattle.std.specs.List.{AllByRecursion}
+use Rattle.gd_base.specs.declared.memory.Memory.{Memory}
+use Rattle.gd_runs.specs.Explained.{memory_line}
+use Rattle.std.proofs.lemmas.List.{length-set}
+use Rattle.gd_prim.specs.declared.Batch.{Batch}
+use Rattle.gd_defs.specs.Write.{WriteRequest}
+use Rattle.gd_runs.specs.Owed.{MembersOf}
+use Rattle.gd_runs.specs.Legal.{batches, size}
+use Rattle.gd_runs.specs.Request.{ReadRequest}
+use Rattle.gd_runs.specs.Core.{Session, State, with_session, entered, BeginStep, SliceStep, LearnStep, WriteStep}
+use Rattle.gd_runs.specs.Side.{Kept, kept_stored, kept_late, kept_refused, kept_doubt, kept_unsettled, kept_memory, WriteKeeps, lacks_memory}
+use Rattle.gd_runs.proofs.Rounds.{length_batches}
+use Rattle.gd_core_laws.specs.Round.{kept_reply}
+use Rattle.gd_core_laws.proofs.Laws.{kept_writes_are_steps}
+use Rattle.gd_writer.specs.Side.{SideValue, state_of}
+use Rattle.gd_sessions.specs.declared.held.Held.{Held}
+use Rattle.gd_sessions.specs.Sessions.{in_session, BeginsAs, SlicesAs, LearnsAs}
+use Rattle.gd_sessions.specs.Held.{session_view, sessions_of, HoldsGoing}
+use Rattle.gd_sessions.specs.Writes.{IsToldKept, WritesFor}
+use Rattle.gd_sessions.specs.Running.{IsRunning, Answers}
+use Rattle.gd_sessions.proofs.Steps.{session_stays, begin_step, slice_step, learn_step}
+use Rattle.gd_sessions.proofs.Growing.{Grows, write_grows}
+use Rattle.gd_sessions.proofs.Table.{state_set, all_at, all_set, all_weaker, going_more}
+use Rattle.gd_sessions.proofs.Told.{at_session, told_state}
+
+-- a session that holds the same reading
+same_reading : (bs : List Batch) (shown : ℕ) (before after : Held) → after.reading ≡ before.reading → HoldsGoing bs shown before → HoldsGoing bs shown after
+same_reading bs shown before after same holds = rw same holds
+
+module _ {D C : Type 0} (side : SideValue D C) (hs : List Held) (i : ℕ) (before after : Held) (lt : i < length hs) (is : before ≡ get_or hs i before) where
+  abbrev old_state : State
+  old_state = state_of side (sessions_of hs)
+
+  abbrev new_state : State
+  new_state = state_of side (sessions_of (set hs i after))
+
+  -- the session stays, and so does the state
+  pub run_stays : session_view after ≡ session_view before → new_state ≡ old_state
+  run_stays same = state_set side hs i after lt ∙ session_stays old_state i (session_view after) (same ∙ at_session hs i before lt is)
+
+  -- or it has entered, and holds nothing
+  pub run_ends : session_view after ≡ in_session (length side.shown) None → new_state ≡ entered old_state i None
+  run_ends same = state_set side hs i after lt ∙ ap (with_session old_state i) same
+
+  pub run_begins : (k : ℕ) (r : ReadRequest) (line : List ℕ) → BeginsAs (batches side.history) (length side.shown) k r line (session_view after) → BeginStep old_state k i r line new_state
+  run_begins k r line begins = begin_step old_state new_state k i r line (session_view after) begins (state_set side hs i after lt)
+
+  pub run_slices : (members : MembersOf) (k : ℕ) (line : List ℕ) → SlicesAs (batches side.history) (length side.shown) k (session_view before) line (session_view after) → SliceStep members old_state k i line new_state
+  run_slices members k line slices =
+      let at_i = subst (λ (x : Session). SlicesAs (batches side.history) (length side.shown) k x line (session_view after)) (at_session hs i before lt is) slices in
+      slice_step members old_state new_state k i line (session_view after) at_i (state_set side hs i after lt)
+
+  pub run_learns : (k m : ℕ) (line : List ℕ) → LearnsAs (length side.shown) k m (session_view before) line (session_view after) → LearnStep old_state k i m line new_state
+  run_learns k m line learns =
+      let at_i = subst (λ (x : Session). LearnsAs (length side.shown) k m x line (session_view after)) (at_session hs i before lt is) learns in
+      learn_step old_state new_state k i m line (session_view after) at_i (state_set side hs i after lt)
+
+  -- the same, of the reply of a call
+  pub begins_ok : (bs : List Batch) (shown k : ℕ) (r : ReadRequest) (result : Result (Vec ℕ) Memory) → bs ≡ batches side.history → shown ≡ length side.shown
+      → IfOk result (λ reply. BeginsAs bs shown k r reply.items (session_view after)) → IfOk result (λ reply. BeginStep old_state k i r reply.items new_state)
+  begins_ok bs shown k r (Ok bytes) stored count told =
+      run_begins k r bytes.items (subst (λ (n : ℕ). BeginsAs (batches side.history) n k r bytes.items (session_view after)) count (subst (λ (b : List Batch). BeginsAs b shown k r bytes.items (session_view after)) stored told))
+  begins_ok bs shown k r (Err e) stored count told = tt
+
+  pub slices_ok : (bs : List Batch) (shown k : ℕ) (result : Result (Vec ℕ) Memory) → bs ≡ batches side.history → shown ≡ length side.shown
+      → IfOk result (λ reply. SlicesAs bs shown k (session_view before) reply.items (session_view after)) → IfOk result (λ reply. (members : MembersOf) → SliceStep members old_state k i reply.items new_state)
+  slices_ok bs shown k (Ok bytes) stored count told = λ members.
+      run_slices members k bytes.items (subst (λ (n : ℕ). SlicesAs (batches side.history) n k (session_view before) bytes.items (session_view after)) count
+      (subst (λ (b : List Batch). SlicesAs b shown k (session_view before) bytes.items (session_view after)) stored told))
+  slices_ok bs shown k (Err e) stored count told = tt
+
+  pub slices_err : (shown : ℕ) (result : Result (Vec ℕ) Memory) → shown ≡ length side.shown → OnErr result ((session_view after ≡ session_view before) ⊎ (session_view after ≡ in_session shown None))
+      → OnErr result ((new_state ≡ old_state) ⊎ (new_state ≡ entered old_state i None))
+  slices_err shown (Ok bytes) count told = tt
+  slices_err shown (Err e) count told = ⊎_elim (λ same. inl (run_stays same)) (λ ends. inr (run_ends (ends ∙ ap (λ (n : ℕ). in_session n None) count))) told
+
+  pub learns_ok : (shown k m : ℕ) (result : Result (Vec ℕ) Memory) → shown ≡ length side.shown
+      → IfOk result (λ reply. LearnsAs shown k m (session_view before) reply.items (session_view after)) → IfOk result (λ reply. LearnStep old_state k i m reply.items new_state)
+  learns_ok shown k m (Ok bytes) count told = run_learns k m bytes.items (subst (λ (n : ℕ). LearnsAs n k m (session_view before) bytes.items (session_view after)) count told)
+  learns_ok shown k m (Err e) count told = tt
+
+  -- what the core keeps
+  pub run_held : IsRunning side hs → HoldsGoing (batches side.history) (length side.shown) before
+  run_held keeps = subst (HoldsGoing (batches side.history) (length side.shown)) (sym is) (all_at (HoldsGoing (batches side.history) (length side.shown)) hs i before keeps.going lt)
+
+  pub run_keeps : IsRunning side hs → HoldsGoing (batches side.history) (length side.shown) after → IsRunning side (set hs i after)
+  run_keeps keeps holds = record {
+    many = length-set hs i after ∙ keeps.many;
+    outcomes = keeps.outcomes;
+    going = all_set (HoldsGoing (batches side.history) (length side.shown)) hs i after keeps.going holds;
+  }
+
+  -- a write: the side is another one, and the session was told
+  pub run_writes : (new : SideValue D C) (may : ℕ → Bool) (k bytes : ℕ) (w : WriteRequest) (kept : Kept) → ((sessions : ℕ → Session) → WriteKeeps may (state_of side sessions) k bytes w kept (state_of new sessions))
+      → IsToldKept kept (length new.shown) before after → WriteStep may old_state k bytes i w (kept_reply k kept) (state_of new (sessions_of (set hs i after)))
+  run_writes new may k bytes w kept step told =
+      subst (λ (t : State). WriteStep may old_state k bytes i w (kept_reply k kept) t) (told_state new hs i before after kept lt (at_session hs i before lt is) told)
+      (kept_writes_are_steps may old_state k bytes i w kept (state_of new (sessions_of hs)) (step (sessions_of hs)))
+
+  told_reading : (kept : Kept) (shown : ℕ) → IsToldKept kept shown before after → after.reading ≡ before.reading
+  told_reading (kept_stored e r) shown told = ap (λ (h : Held). h.reading) told
+  told_reading (kept_late e) shown told = ap (λ (h : Held). h.reading) told
+  told_reading (kept_refused f n) shown told = ap (λ (h : Held). h.reading) told
+  told_reading (kept_doubt n) shown told = ap (λ (h : Held). h.reading) told
+  told_reading kept_unsettled shown told = ap (λ (h : Held). h.reading) told
+  told_reading kept_memory shown told = ap (λ (h : Held). h.reading) told
+
+  pub run_written : (new : SideValue D C) (may : ℕ → Bool) (k bytes : ℕ) (w : WriteRequest) (kept : Kept) → length side.shown ≤ length (batches side.history) → IsRunning side hs
+      → ((sessions : ℕ → Session) → WriteKeeps may (state_of side sessions) k bytes w kept (state_of new sessions)) → IsToldKept kept (length new.shown) before after → new.outcomes ≡ [] → IsRunning new (set hs i after)
+  run_written new may k bytes w kept within keeps step told none =
+      let grows = write_grows may old_state (state_of new (sessions_of hs)) k bytes w kept (let long = length_batches side.history in omega (arith, long, within)) (step (sessions_of hs)) in
+      let weaker : (h : Held) → HoldsGoing (batches side.history) (length side.shown) h → HoldsGoing (batches new.history) (length new.shown) h =
+      λ h holds. subst (λ (bs : List Batch). HoldsGoing bs (length new.shown) h) (sym grows.batches) (going_more (batches side.history) grows.more (length side.shown) (length new.shown) h within grows.shown holds) in
+      let held = weaker before (run_held keeps) in
+      record {
+        many = length-set hs i after ∙ keeps.many;
+        outcomes = none;
+        going = all_set (HoldsGoing (batches new.history) (length new.shown)) hs i after (all_weaker (HoldsGoing (batches side.history) (length side.shown)) (HoldsGoing (batches new.history) (length new.shown)) weaker hs keeps.going)
+            (same_reading (batches new.history) (length new.shown) before after (told_reading kept (length new.shown) told) held);
+      }
+
+  pub writes_ok : (new : SideValue D C) (may : ℕ → Bool) (faults : D → ℕ) (k bytes : ℕ) (w : WriteRequest) (result : Result (Vec ℕ) Memory) → WritesFor may faults side k bytes w new before after result
+      → Answers (λ reply. WriteStep may old_state k bytes i w reply (state_of new (sessions_of (set hs i after)))) result
+  writes_ok new may faults k bytes w (Ok reply) does =
+      subst (λ (line : List ℕ). WriteStep may old_state k bytes i w line (state_of new (sessions_of (set hs i after)))) (sym does.reply) (run_writes new may k bytes w does.kept does.step does.told)
+  writes_ok new may faults k bytes w (Err e) does = (kept_reply k does.kept, run_writes new may k bytes w does.kept does.step does.told)
+
+  pub writes_keeps : (new : SideValue D C) (may : ℕ → Bool) (faults : D → ℕ) (k bytes : ℕ) (w : WriteRequest) (result : Result (Vec ℕ) Memory) → length side.shown ≤ length (batches side.history) → IsRunning side hs
+      → WritesFor may faults side k bytes w new before after result → IsRunning new (set hs i after)
+  writes_keeps new may faults k bytes w result within keeps does = run_written new may k bytes w does.kept within keeps does.step does.told does.outcomes
+
+-- where there was no memory for what is to be kept, nothing was done
+pub writes_none : {D C : Type 0} (may : ℕ → Bool) (faults : D → ℕ) (side new : SideValue D C) (k bytes : ℕ) (w : WriteRequest) (before : Held) (result : Result (Vec ℕ) Memory) → new ≡ side → side.outcomes ≡ []
+    → IfOk result (λ reply. reply.items ≡ memory_line k) → WritesFor may faults side k bytes w new before before result
+writes_none may faults side new k bytes w before result same none told =
+    subst (λ (s : SideValue _ _). WritesFor may faults side k bytes w s before before result) (sym same)
+    (record { kept = kept_memory; step = λ sessions. lacks_memory; outcomes = none; told = refl; reply = told; fault = λ bad. absurd (cc) })

@@ -1,0 +1,6 @@
+use Rattle.gd_sessions.proofs.Opened.{opens_as}
+use Rattle.gd_sessions.proofs.running.Running.open.Goals as goal
+
+pub returns-in-Ok-clause-opened : goal.returns-in-Ok-clause-opened
+returns-in-Ok-clause-opened g c =
+    opens_as (g.D.Disk.content c.args.disk) (g.C.Clock.may c.args.clock) g.C.Clock.may c.in-Ok.side c.args.held.items (rw c.in-Ok.side-is at c.in-Ok.ensures.begins) c.requires.new

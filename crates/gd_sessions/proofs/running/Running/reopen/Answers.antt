@@ -1,0 +1,26 @@
+use Rattle.std.proofs.Common.{List, ℕ, inl, inr, refl}
+use Rattle.std.proofs.lemmas.Result.{IfOk-weaker}
+use Rattle.gd_runs.specs.Core as core
+use Rattle.gd_runs.specs.Core.{ReopenStep}
+use Rattle.gd_replay_laws.specs.Built.{Takes}
+use Rattle.gd_sessions.specs.Running.{core_state}
+use Rattle.gd_sessions.proofs.Left.{opens_same}
+use Rattle.gd_sessions.proofs.Taken.{answers_more, lacks_answers}
+use Rattle.gd_sessions.proofs.running.Running.reopen.Goals as goal
+
+pub returns-in-Ok-clause-takes : goal.returns-in-Ok-clause-takes
+returns-in-Ok-clause-takes g c = IfOk-weaker c.open_again.result _ _ (λ both given. λ tells members may bytes.
+    answers_more (λ line. ReopenStep (core_state c.args.self) c.args.line line (core_state both.0)) (λ line. Takes members may (core_state c.args.self) c.args.line bytes core.reopen line (core_state both.0)) both.1 (λ line step. inl step) (given tells))
+    c.open_again.ensures.step
+
+pub returns-in-Ok-clause-anew : goal.returns-in-Ok-clause-anew
+returns-in-Ok-clause-anew g c = IfOk-weaker c.open_again.result _ _ (λ both is. inl is) c.open_again.ensures.anew
+
+pub returns-in-Err-clause-takes : goal.returns-in-Err-clause-takes
+returns-in-Err-clause-takes g c = λ tells members may bytes.
+    lacks_answers (λ line. Takes members may (core_state c.args.self) c.args.line bytes core.reopen line (core_state c.args.self)) c.args.line c.memory_line-reply.result (inr (refl, refl)) c.memory_line-reply.ensures
+
+pub returns-in-Err-clause-disk : goal.returns-in-Err-clause-disk
+returns-in-Err-clause-disk g c =
+    let d = g.D.Disk in
+    opens_same d.content d.moment d.images d.images_since d.faults g.met.D.Disk.only_now c.args.self.side.log.disk

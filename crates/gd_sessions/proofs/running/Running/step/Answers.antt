@@ -1,0 +1,44 @@
+use Rattle.std.proofs.Common.{refl}
+use Rattle.gd_events.specs.Events.{event_view}
+use Rattle.gd_sessions.proofs.Goes.{goes_same}
+use Rattle.gd_sessions.proofs.running.Running.step.Goals as goal
+
+pub returns-in-Begin-clause-takes : goal.returns-in-Begin-clause-takes
+returns-in-Begin-clause-takes g c = rw c.in-Begin.is (λ members. c.begin.ensures.takes members (g.C.Clock.may c.args.self.now.side.clock) c.args.bytes)
+
+pub returns-in-Begin-clause-goes : goal.returns-in-Begin-clause-goes
+returns-in-Begin-clause-goes g c =
+    let d = g.D.Disk in
+    goes_same d.content d.moment d.images d.images_since d.faults g.C.Clock.may g.met.D.Disk.only_now c.args.self.now.side c.begin.new.self.side c.shown-shown.ensures.keeps c.begin.ensures.side
+
+pub returns-in-Slice-clause-takes : goal.returns-in-Slice-clause-takes
+returns-in-Slice-clause-takes g c = rw c.in-Slice.is (λ members. c.slice.ensures.takes members (g.C.Clock.may c.args.self.now.side.clock) c.args.bytes)
+
+pub returns-in-Slice-clause-goes : goal.returns-in-Slice-clause-goes
+returns-in-Slice-clause-goes g c =
+    let d = g.D.Disk in
+    goes_same d.content d.moment d.images d.images_since d.faults g.C.Clock.may g.met.D.Disk.only_now c.args.self.now.side c.slice.new.self.side c.shown-shown.ensures.keeps c.slice.ensures.side
+
+pub returns-in-Learn-clause-takes : goal.returns-in-Learn-clause-takes
+returns-in-Learn-clause-takes g c = rw c.in-Learn.is (λ members. c.learn.ensures.takes members (g.C.Clock.may c.args.self.now.side.clock) c.args.bytes)
+
+pub returns-in-Learn-clause-goes : goal.returns-in-Learn-clause-goes
+returns-in-Learn-clause-goes g c =
+    let d = g.D.Disk in
+    goes_same d.content d.moment d.images d.images_since d.faults g.C.Clock.may g.met.D.Disk.only_now c.args.self.now.side c.learn.new.self.side c.shown-shown.ensures.keeps c.learn.ensures.side
+
+pub returns-in-Freeze-clause-takes : goal.returns-in-Freeze-clause-takes
+returns-in-Freeze-clause-takes g c = λ members. c.refuse.ensures members (g.C.Clock.may c.args.self.now.side.clock) c.args.bytes (event_view c.args.event) (rw c.in-Freeze.is tt)
+
+pub returns-in-Freeze-clause-goes : goal.returns-in-Freeze-clause-goes
+returns-in-Freeze-clause-goes g c =
+    let d = g.D.Disk in
+    goes_same d.content d.moment d.images d.images_since d.faults g.C.Clock.may g.met.D.Disk.only_now c.args.self.now.side c.args.self.now.side c.shown-shown.ensures.keeps refl
+
+pub returns-in-Thaw-clause-takes : goal.returns-in-Thaw-clause-takes
+returns-in-Thaw-clause-takes g c = λ members. c.refuse-in-Thaw.ensures members (g.C.Clock.may c.args.self.now.side.clock) c.args.bytes (event_view c.args.event) (rw c.in-Thaw.is tt)
+
+pub returns-in-Thaw-clause-goes : goal.returns-in-Thaw-clause-goes
+returns-in-Thaw-clause-goes g c =
+    let d = g.D.Disk in
+    goes_same d.content d.moment d.images d.images_since d.faults g.C.Clock.may g.met.D.Disk.only_now c.args.self.now.side c.args.self.now.side c.shown-shown.ensures.keeps refl

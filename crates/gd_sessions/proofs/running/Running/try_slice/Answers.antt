@@ -1,0 +1,23 @@
+use Rattle.std.proofs.Common.{◌<◌, length, subst, arith, IfOk}
+use Rattle.std.specs.Prelude.{set}
+use Rattle.gd_mql.specs.Requests.{read_view}
+use Rattle.gd_runs.specs.Owed.{MembersOf}
+use Rattle.gd_runs.specs.Core.{BeginStep, SliceStep}
+use Rattle.gd_sessions.specs.Running.{RunningValue, core_state}
+use Rattle.gd_sessions.proofs.Ran.{begins_ok, slices_ok, slices_err}
+use Rattle.gd_sessions.proofs.running.Running.try_slice.Goals as goal
+
+pub returns-clause-step : goal.returns-clause-step
+returns-clause-step g c =
+    let hs = c.self.inside.held.items in
+    let lt : c.args.sid < length hs = let many = c.self.invariant.many in let small = c.requires.sid in omega (arith, many, small) in
+    subst (λ (r : RunningValue _ _). IfOk c.slice.result (λ reply. (members : MembersOf) → SliceStep members (core_state r) c.args.line c.args.sid reply.items (core_state (record { side = c.self.inside.side; held = set hs c.args.sid c.slice.new.self })))) c.self.view_is
+    (slices_ok c.self.inside.side hs c.args.sid c.index_mut-held.result.now c.slice.new.self lt c.index_mut-held.ensures.value c.store.result.now c.shown_of-shown.result c.args.line c.slice.result
+    c.store.ensures c.shown_of-shown.ensures.count c.slice.ensures.slices)
+
+pub returns-clause-err : goal.returns-clause-err
+returns-clause-err g c =
+    let hs = c.self.inside.held.items in
+    let lt : c.args.sid < length hs = let many = c.self.invariant.many in let small = c.requires.sid in omega (arith, many, small) in
+    rw (← c.self.view_is)
+    (slices_err c.self.inside.side hs c.args.sid c.index_mut-held.result.now c.slice.new.self lt c.index_mut-held.ensures.value c.shown_of-shown.result c.slice.result c.shown_of-shown.ensures.count c.slice.ensures.err)

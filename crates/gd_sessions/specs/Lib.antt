@@ -1,0 +1,5 @@
+pub mod Sessions
+pub mod Held
+pub mod Writes
+pub mod Running
+pub mod Opened

@@ -1,0 +1,56 @@
+-- What contracts see of a core that is open, and what it keeps.
+use Rattle.std.specs.Prelude.{◌≡◌, ℕ, ◌<◌, ◌≤◌, List, [], length, Option, Result, Ok, Err, MatchResult, IfOk}
+use Rattle.std.specs.List.{AllByRecursion}
+use Rattle.std.specs.Global.{Vec}
+use Rattle.gd_base.specs.declared.memory.Memory.{Memory}
+use Rattle.gd_runs.specs.Legal.{Entry, History, batches}
+use Rattle.gd_runs.specs.Explained.{memory_line}
+use Rattle.gd_runs.specs.Core.{State, Event, begin, slice, write, learn, freeze, thaw, reopen}
+use Rattle.gd_bytes.specs.File.{MayStandFor}
+use Rattle.gd_runs.specs.Side.{IsFresh, doubt_groups}
+use Rattle.gd_writer.specs.Side.{SideValue, state_of}
+use Rattle.gd_sessions.specs.declared.held.Held.{Held}
+use Rattle.gd_sessions.specs.Held.{sessions_of, HoldsGoing}
+
+-- the write side, and the sessions in the order of their numbers
+pub record RunningValue (D C : Type 0) : Type 0 where
+  pub side : SideValue D C
+  pub held : List Held
+
+-- the state of the core that it is in
+abbrev pub core_state : {D C : Type 0} → RunningValue D C → State
+core_state r = state_of r.side (sessions_of r.held)
+
+-- the bytes of a file stand for the history of a state, with all or none of the group in doubt
+abbrev pub StandsForState : State → List ℕ → Type 0
+StandsForState s file = MayStandFor (batches s.history) (doubt_groups s.doubt) file
+
+-- what it keeps between events: there are 64 sessions, the reading of each goes on, and nothing is kept of write lines
+pub record IsRunning {D C : Type 0} (side : SideValue D C) (held : List Held) : Type 0 where
+  pub many : length held ≡ 64
+  pub outcomes : side.outcomes ≡ []
+  pub going : AllByRecursion (HoldsGoing (batches side.history) (length side.shown)) held
+
+-- a reply that is so, or no memory for one that is due
+abbrev pub Answers : (List ℕ → Type 0) → Result (Vec ℕ) Memory → Type 0
+Answers P result = MatchResult result (λ reply. P reply.items) (λ _. (reply : List ℕ) × P reply)
+
+-- the reply, or where there was no memory for it the line that says so
+abbrev pub OrMemory : ℕ → Result (Vec ℕ) Memory → Result (Vec ℕ) Memory → Type 0
+OrMemory k (Ok bytes) result = result ≡ Ok bytes
+OrMemory k (Err none) result = IfOk result (λ line. line.items ≡ memory_line k)
+
+-- an event that may be carried out: it is of one of 64 sessions, with a budget that there may be, and a write is of a line that is fresh
+abbrev pub MayTake : History → Option Entry → ℕ → Event → Type 0
+MayTake h doubt k (begin i request) = i < 64
+MayTake h doubt k (slice i budget) = (i < 64) × (0 < budget) × (budget ≤ 1_000_000)
+MayTake h doubt k (write i w) = (i < 64) × IsFresh h doubt k
+MayTake h doubt k (learn i m) = i < 64
+MayTake h doubt k (freeze i) = i < 64
+MayTake h doubt k (thaw i request text) = i < 64
+MayTake h doubt k reopen = Unit {0}
+
+-- the store is not opened again
+abbrev pub GoesBy : Event → Type 0
+GoesBy reopen = ⊥
+GoesBy _ = Unit {0}

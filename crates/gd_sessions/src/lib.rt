@@ -1,0 +1,7 @@
+//! Sessions that read in slices and write, on one thread.
+#![tactic(auto)]
+
+mod held;
+mod lines;
+pub mod running;
+mod writing;
