@@ -1,10 +1,10 @@
 -- Lists with which a list begins, and what a reading owes over them.
-use Rattle.std.proofs.Common.{◌≡◌, ℕ, ◌≤◌, ◌+◌, List, [], ◌++◌, take, length, refl, sym, ap, ◌∙◌, arith, append_assoc, length-append}
+use Rattle.std.proofs.Common.{◌≡◌, ℕ, ◌≤◌, List, ◌++◌, take, length, sym, ap, ◌∙◌, arith, append_assoc, length-append}
 use Rattle.std.proofs.lemmas.List.{take-take, take-append-le}
 use mathlib.Core.List.{IsPrefix}
 use Rattle.gd_prim.specs.declared.Batch.{Batch}
 use Rattle.gd_prim.specs.declared.Primitive.{Primitive}
-use Rattle.gd_prim.specs.History.{prims_of, prims_at}
+use Rattle.gd_prim.specs.History.{prims_of}
 use Rattle.gd_defs.specs.Reply.{reply}
 use Rattle.gd_runs.specs.Request.{asks_page}
 use Rattle.gd_runs.specs.Core.{Reading, owed_reply}

@@ -1,6 +1,5 @@
 -- Seats later on.
-use Rattle.std.proofs.Common.{◌≡◌, ℕ, ◌≤◌, ◌+◌, ◌-◌, ◌^◌, List, [], length, Result, Ok, Err, refl, sym, ap, subst, ◌∙◌, arith, append-nil}
-use Rattle.std.specs.Prelude.{max, min}
+use Rattle.std.proofs.Common.{◌≡◌, ℕ, List, [], Result, Ok, Err, refl, sym, subst, ◌∙◌, arith, append-nil}
 use mathlib.Core.List.{IsPrefix}
 use Rattle.gd_base.specs.Counts.{Rose}
 use Rattle.gd_prim.specs.declared.Batch.{Batch}
@@ -10,7 +9,7 @@ use Rattle.gd_suspended.specs.declared.reading.Progress.{Progress}
 use Rattle.gd_suspended.specs.declared.reading.Progress.TheVariants.{Reply, Unfinished}
 use Rattle.gd_seats.specs.declared.fault.SessionFault.{SessionFault}
 use Rattle.gd_seats.specs.declared.fault.SessionFault.TheVariants.{Read, Shut}
-use Rattle.gd_seats.specs.Session.{SessionValue, seen_of}
+use Rattle.gd_seats.specs.Session.{SessionValue}
 use Rattle.gd_seats.specs.Calls.{IsLater, HasEntered, WasTurnedAway, BeginsAs, SlicesAs, MeetsAs}
 use Rattle.gd_seats.proofs.Fronts.{begins_shorter}
 
@@ -39,22 +38,22 @@ later_entered old new e =
 -- so is one that was turned away
 pub later_turned : (old new : SessionValue) → WasTurnedAway old new → IsLater old.seat new.seat
 later_turned old new w = rw w.counted record {
-      table = refl;
-      entered = begins_same old.seat.entered old.seat.entered refl;
-      told = begins_same old.seat.told old.seat.told refl;
-      seen = omega arith;
-      turned_away = omega arith;
-    }
+  table = refl;
+  entered = begins_same old.seat.entered old.seat.entered refl;
+  told = begins_same old.seat.told old.seat.told refl;
+  seen = omega arith;
+  turned_away = omega arith;
+}
 
 -- and one that was told of a longer list
 pub later_told : (old new : SeatValue) (told : List Batch) → new ≡ record old { told = told } → IsPrefix old.told told → IsLater old new
 later_told old new told is begins = rw is record {
-      table = refl;
-      entered = begins_same old.entered old.entered refl;
-      told = begins;
-      seen = omega (arith, begins_shorter old.told told begins);
-      turned_away = omega arith;
-    }
+  table = refl;
+  entered = begins_same old.entered old.entered refl;
+  told = begins;
+  seen = omega (arith, begins_shorter old.told told begins);
+  turned_away = omega arith;
+}
 
 pub later_met : {A : Type 0} (old new : SessionValue) (result : Result A SessionFault) → MeetsAs old new result → IsLater old.seat new.seat
 later_met old new (Ok a) met = later_entered old.seat new.seat met.0

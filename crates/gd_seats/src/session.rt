@@ -1,10 +1,10 @@
 //! A session over a seat. No call waits.
-ghost use Rattle.std.specs.Prelude.{◌≡◌, ◌≢◌, ◌+◌, ◌-◌, ◌<◌, ◌≤◌, ◌^◌, true, None, length, max, min, option_map, IfOk, IfSome, MatchBool};
+ghost use Rattle.std.specs.Prelude.{◌≡◌, ◌≢◌, ◌+◌, ◌-◌, ◌<◌, ◌≤◌, ◌^◌, true, None, Some, length, max, min, option_map, IfOk, IfSome, MatchBool};
 ghost use mathlib.Core.List.{IsPrefix};
 ghost use Rattle.gd_mql.specs.Requests.{read_view};
 ghost use Rattle.gd_shared.specs.Shared.{longer};
 ghost use Rattle.gd_suspended.specs.Reading.{is_unfinished};
-ghost use Rattle.gd_seats.specs.Session.{reads, seen_of};
+ghost use Rattle.gd_seats.specs.Session.{reads, seen_of, GoesOn};
 ghost use Rattle.gd_seats.specs.Calls.{IsLater, BeginsAs, SlicesAs, MeetsAs};
 
 use crate::fault::SessionFault;
@@ -57,6 +57,27 @@ struct Slicing<L> {
     steps: Steps<L>,
 }
 
+impl Session {
+    /// A session of this seat, which holds this reading.
+    fn holding(seat: Seat, reading: Reading) -> Session
+        requires { GoesOn seat.entered reading }
+        ensures { result ≡ record { seat = seat; held = Some reading } }
+    {
+        Session {
+            seat,
+            reading: Some(reading),
+        }
+    }
+
+    /// A session of this seat, whose reading has ended.
+    fn ended(seat: Seat, reading: Reading) -> Session
+        ensures { result ≡ record { seat = seat; held = None } }
+    {
+        drop(reading);
+        Session::new(seat)
+    }
+}
+
 /// Enters and leaves. What the session reads stays.
 fn meet_in(session: Session, _nothing: ()) -> (Session, Result<(), SessionFault>)
     ensures { MeetsAs session result.0 result.1 }
@@ -81,6 +102,7 @@ fn begin_in<L>(
     ensures steps { beginning.steps ≤ result.1.0 }
 {
     let Session { seat, reading } = session;
+    drop(reading);
     let Beginning {
         alloc,
         request,
@@ -88,30 +110,19 @@ fn begin_in<L>(
     } = beginning;
     match seat.enter() {
         Ok(entered) => {
-            drop(reading);
             let begun = begin_over(alloc, entered.store(), request, &mut steps);
             let seat = entered.leave();
             match begun {
                 Ok(begun) => {
                     let dateline = begun.dateline();
-                    let session = Session {
-                        seat,
-                        reading: Some(begun),
-                    };
-                    (session, (steps, Ok(dateline)))
+                    (Session::holding(seat, begun), (steps, Ok(dateline)))
                 }
-                Err(fault) => {
-                    let session = Session {
-                        seat,
-                        reading: None,
-                    };
-                    (session, (steps, Err(SessionFault::Read(fault))))
-                }
+                Err(fault) => (Session::new(seat), (steps, Err(SessionFault::Read(fault)))),
             }
         }
         Err(seat) => {
             drop(request);
-            (Session { seat, reading }, (steps, Err(SessionFault::Shut)))
+            (Session::new(seat), (steps, Err(SessionFault::Shut)))
         }
     }
 }
@@ -150,28 +161,16 @@ fn slice_in<L>(
             let seat = entered.leave();
             match sliced {
                 Ok(Progress::Unfinished) => {
-                    let session = Session {
-                        seat,
-                        reading: Some(reading),
-                    };
+                    let session = Session::holding(seat, reading);
                     (session, (steps, Ok(Progress::Unfinished)))
                 }
                 Ok(Progress::Reply(bytes)) => {
-                    drop(reading);
-                    let session = Session {
-                        seat,
-                        reading: None,
-                    };
+                    let session = Session::ended(seat, reading);
                     (session, (steps, Ok(Progress::Reply(bytes))))
                 }
                 Err(refused) => {
-                    drop(reading);
-                    let session = Session {
-                        seat,
-                        reading: None,
-                    };
-                    let fault = ReadFault::from(refused);
-                    (session, (steps, Err(SessionFault::Read(fault))))
+                    let fault = SessionFault::Read(ReadFault::from(refused));
+                    (Session::ended(seat, reading), (steps, Err(fault)))
                 }
             }
         }
