@@ -69,12 +69,12 @@ impl Session {
         }
     }
 
-    /// A session of this seat, whose reading has ended.
-    fn ended(seat: Seat, reading: Reading) -> Session
-        ensures { result ≡ record { seat = seat; held = None } }
+    /// A session of a seat that was left, whose reading has ended.
+    fn ended(left: Seat, reading: Reading) -> Session
+        ensures { result ≡ record { seat = left; held = None } }
     {
         drop(reading);
-        Session::new(seat)
+        Session::new(left)
     }
 }
 
@@ -101,8 +101,11 @@ fn begin_in<L>(
     ensures begins { BeginsAs session result.0 (read_view beginning.request) result.1.1 }
     ensures steps { beginning.steps ≤ result.1.0 }
 {
-    let Session { seat, reading } = session;
-    drop(reading);
+    let Session {
+        seat,
+        reading: held,
+    } = session;
+    drop(held);
     let Beginning {
         alloc,
         request,
