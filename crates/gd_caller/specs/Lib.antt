@@ -1,0 +1,3 @@
+pub mod Some
+pub mod Told
+pub mod Served
