@@ -1,2 +1,5 @@
 //! What the caller of a round does: it answers the lines of a round that nobody has answered yet.
 #![tactic(auto)]
+
+pub mod replies;
+pub mod work;
