@@ -2,6 +2,7 @@
 use Rattle.std.proofs.Common.{◌≡◌, refl, ℕ, zero, suc, ◌+◌, ◌<◌, ◌≤◌, inl, inr, ⊎_elim, Bool, true, false, cond, List, [], ◌∷◌, ◌++◌, length, map, take, count_by, Option, Some, None, Result, Ok, Err, OnOk, OnErr, IsTrue, slice_get, sym, subst, ap, ◌∙◌, arith, take_all, get_or}
 use Rattle.std.proofs.lemmas.List.{map-append}
 use Rattle.std.proofs.lemmas.Grind.{fold-append}
+use Rattle.std.proofs.lemmas.Option.{slice_get-get_or}
 use Rattle.std.specs.Option.{is_some}
 use Rattle.gd_base.specs.Counts.{Rose}
 use Rattle.gd_base.specs.declared.memory.Memory.{Memory}
@@ -144,3 +145,7 @@ pub written_at : (ws : List Written) (i : ℕ) (w : Written) → slice_get ws i 
 written_at [] i w at = no_some at
 written_at (x ∷ ws) zero w at = ap (λ (y : Written). Some (write_of y)) (some_same at)
 written_at (x ∷ ws) (suc i) w at = written_at ws i w at
+
+-- the element that a loop is at
+pub item_at : (ws : List Written) (i : ℕ) (w : Written) → i < length ws → w ≡ get_or ws i w → slice_get ws i ≡ Some w
+item_at ws i w within is = slice_get-get_or ws i w within ∙ ap Some (sym is)

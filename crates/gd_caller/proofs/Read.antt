@@ -38,6 +38,14 @@ all_at P [] i x all at = no_some at
 all_at P (y ∷ xs) zero x (one, rest) at = subst P (some_same at) one
 all_at P (y ∷ xs) (suc i) x (one, rest) at = all_at P xs i x rest at
 
+pub all_front : {X : Type 0} (P : X → Type 0) (xs ys : List X) → AllByRecursion P (xs ++ ys) → AllByRecursion P xs
+all_front P [] ys all = tt
+all_front P (x ∷ xs) ys (one, rest) = (one, all_front P xs ys rest)
+
+pub all_last : {X : Type 0} (P : X → Type 0) (xs : List X) (y : X) → AllByRecursion P (xs ++ y ∷ []) → P y
+all_last P [] y (one, rest) = one
+all_last P (x ∷ xs) y (one, rest) = all_last P xs y rest
+
 -- ---- one line
 
 pub takes_read : (k : ℕ) (bytes : List ℕ) (old new : Works) (r : ReadLine) → IsReadOf k bytes r → Pushes old new (r ∷ []) [] (memory_line r.line) → TakesLine k bytes old new
@@ -102,6 +110,7 @@ within_more first k old new reads writes reply above reads_at writes_at p w =
           (all_weaker (λ (x : WriteLine). (x.line ≡ k) × (x.bytes ≤ 262_144)) (IsWriteWithin first (k + 1)) writes (λ x is. let at = is.0 in (omega (arith, at, above), omega (arith, at), is.1)) writes_at));
       numbers = omega (arith, long, many, was);
       replies = omega (arith, texts, count, before, after, had);
+      none = subst (AllByRecursion (λ (n : Option ℕ). n ≡ None)) (sym p.numbers) (all_append (λ (n : Option ℕ). n ≡ None) old.numbers.items (None ∷ []) w.none (refl, tt));
     }
 
 -- ---- all lines
@@ -160,6 +169,7 @@ none_within first works reads writes numbers replies =
       writes = subst (AllByRecursion (IsWriteWithin first first)) (sym writes) tt;
       numbers = omega (arith, no_numbers);
       replies = omega (arith, no_replies);
+      none = subst (AllByRecursion (λ (n : Option ℕ). n ≡ None)) (sym numbers) tt;
     }
 
 write_lines-append : (k : ℕ) (xs ys : List Numbered) → write_lines k (xs ++ ys) ≡ write_lines k xs ++ write_lines (k + length xs) ys

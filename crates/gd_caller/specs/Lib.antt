@@ -3,4 +3,7 @@ pub mod Told
 pub mod Served
 pub mod Replies
 pub mod Works
+pub mod Reads
 pub mod Writes
+pub mod Tells
+pub mod Round

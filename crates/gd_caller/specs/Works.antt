@@ -78,6 +78,7 @@ pub record AreWithin (first end : ℕ) (works : Works) : Type 0 where
   pub writes : AllByRecursion (IsWriteWithin first end) works.writes.items
   pub numbers : first + length works.numbers.items ≡ end
   pub replies : first + length works.replies.items ≡ end
+  pub none : AllByRecursion (λ n. n ≡ None) works.numbers.items
 
 -- a read is one of the lines
 pub record IsReadAmong (first : ℕ) (given : List Numbered) (r : ReadLine) : Type 0 where

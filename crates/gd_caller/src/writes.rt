@@ -1,6 +1,6 @@
 //! The writes that are left to the caller.
 ghost use Rattle.std.specs.Prelude.{◌≡◌, ◌≤◌, ◌<◌, ◌^◌, ◌∷◌, [], map};
-ghost use Rattle.std.specs.List.{All};
+ghost use Rattle.std.specs.List.{AllByRecursion};
 ghost use Rattle.std.specs.Option.{is_some};
 ghost use Rattle.gd_runs.specs.Side.{IsLeft, IsFresh};
 ghost use Rattle.gd_core_laws.specs.Bounds.{kept_of};
@@ -47,7 +47,7 @@ pub fn write_left<D: Disk, C: Clock, R: Wait>(
     side: &mut WriteSide<D, C>,
     writes: &[WriteLine],
 )
-    requires may { All MayBeWritten writes.now }
+    requires may { AllByRecursion MayBeWritten writes.now }
     requires fresh { LeftAreFresh (map write_of writes.now) side.old.history side.old.doubt side.old.outcomes }
     ensures { WritesLeft D.content D.moment D.images D.images_since D.faults C.may side.old side.new (map write_of writes.now) }
 {
