@@ -101,8 +101,20 @@ fn answer_read<L>(
 {
     let number = standing.least_later(&read);
     let line = read.line;
-    match reply_at(alloc, standing.store, number, line, read.request, budget, steps) {
-        Ok(bytes) => put(replies, (line - standing.first) as usize, RoundReply::Line(bytes)),
+    match reply_at(
+        alloc,
+        standing.store,
+        number,
+        line,
+        read.request,
+        budget,
+        steps,
+    ) {
+        Ok(bytes) => put(
+            replies,
+            (line - standing.first) as usize,
+            RoundReply::Line(bytes),
+        ),
         Err(_) => (),
     }
 }

@@ -106,7 +106,15 @@ pub fn answer_round<D: Disk, C: Clock, R: Wait, L>(
     // A side says here what it keeps.
     let _stored = side.stored();
     match read_lines(alloc, first, lines) {
-        Ok(works) => Replies::Made(answer_works(rt, alloc, side, first, works, budget.get(), steps)),
+        Ok(works) => Replies::Made(answer_works(
+            rt,
+            alloc,
+            side,
+            first,
+            works,
+            budget.get(),
+            steps,
+        )),
         Err(_) => Replies::NoMemory {
             first,
             end: first + lines.len() as u64,
