@@ -1,0 +1,9 @@
+pub mod Some
+pub mod Told
+pub mod Served
+pub mod Replies
+pub mod Works
+pub mod Reads
+pub mod Writes
+pub mod Tells
+pub mod Round

@@ -1,0 +1,203 @@
+//! The lines of a round, once read.
+ghost use Rattle.std.specs.Prelude.{◌≡◌, ◌≢◌, ◌≤◌, ◌<◌, ◌+◌, ◌++◌, ◌∷◌, ◌^◌, ℕ, List, [], None, length, map, IfOk, OnOk, IsErr};
+ghost use Rattle.std.specs.List.{All};
+ghost use Rattle.gd_runs.specs.Input.{input_fault_line, line_too_long};
+ghost use Rattle.gd_runs.specs.Explained.{Numbered, memory_line};
+ghost use Rattle.gd_input.specs.Line.{IsKept, IsShort};
+ghost use Rattle.gd_input.specs.Rounds.{AreKept};
+ghost use Rattle.gd_mql.specs.Line.{fault_view};
+ghost use Rattle.gd_caller.specs.Replies.{round_text, made_text};
+ghost use Rattle.gd_caller.specs.Works.{IsAsked, IsAskedAt, Pushes, TakesLine, AreRead, AreWithin, texts_of};
+
+use crate::replies::RoundReply;
+use gd_base::memory::Memory;
+use gd_input::line::RoundLine;
+use gd_mql::fault::LineFault;
+use gd_mql::line::line_from;
+use gd_mql::request::{Line, ReadRequest, WriteRequest};
+use gd_reply::lines::err_line_plain;
+use gd_reply::refusal::Refusal;
+use gd_reply::reply::Failure;
+use std::alloc::Global;
+
+/// A read line of a round: its number, its session and what it asks.
+#[derive(Drop)]
+pub struct ReadLine {
+    pub line: u64,
+    pub session: u32,
+    pub request: ReadRequest,
+}
+
+/// A write line of a round: its number, its session, what it asks, and its length.
+#[derive(Drop)]
+pub struct WriteLine {
+    pub line: u64,
+    pub session: u32,
+    pub request: WriteRequest,
+    pub bytes: u64,
+}
+
+/// What a line asks, or its reply where it asks nothing or there was no memory to read it.
+#[derive(Drop)]
+enum Asked {
+    Read(ReadLine),
+    Write(WriteLine),
+    Told(RoundReply),
+}
+
+/// The lines of a round, once read: the reads and the writes among them, and a first reply to each line. It says why the
+/// line is none, or that there was no memory, and stays where nothing else is told. The number of each line is that of its
+/// write, if it is one that has a number, and none at first.
+#[derive(Drop)]
+pub struct Works {
+    pub reads: Vec<ReadLine>,
+    pub writes: Vec<WriteLine>,
+    pub numbers: Vec<Option<u32>>,
+    pub replies: Vec<RoundReply>,
+}
+
+/// A line that was made as the reply to a line, or that there was no memory for it.
+fn told(line: u64, made: Result<Vec<u8>, Memory>) -> RoundReply
+    ensures { round_text result ≡ made_text line made }
+{
+    match made {
+        Ok(bytes) => RoundReply::Line(bytes),
+        Err(_) => no_memory(line),
+    }
+}
+
+/// The reply that says that there was no memory.
+fn no_memory(line: u64) -> RoundReply
+    ensures { round_text result ≡ memory_line line }
+{
+    RoundReply::Failed {
+        failure: Failure::NoMemory,
+        line,
+    }
+}
+
+/// The reply to a line that has too many bytes.
+fn too_long_reply(alloc: Global, line: u64) -> Result<Vec<u8>, Memory>
+    requires { line < 2 ^ 63 }
+    ensures { IfOk result (λ reply. reply.items ≡ input_fault_line line line_too_long) }
+{
+    err_line_plain(alloc, line, &Refusal::LineTooLong)
+}
+
+/// The reply to a line that is refused by its form.
+fn fault_reply(alloc: Global, line: u64, fault: LineFault) -> Result<Vec<u8>, Memory>
+    requires { line < 2 ^ 63 }
+    ensures refusal { fault ≢ LineFault.Memory
+        → IfOk result (λ reply. reply.items ≡ input_fault_line line (fault_view fault)) }
+    ensures memory { fault ≡ LineFault.Memory → IsErr result }
+{
+    match fault {
+        LineFault::Json(fault) => err_line_plain(alloc, line, &Refusal::Json(fault)),
+        LineFault::BadLine => err_line_plain(alloc, line, &Refusal::BadLine),
+        LineFault::BadQuery { code, path } => {
+            err_line_plain(alloc, line, &Refusal::BadQuery { code, path })
+        }
+        LineFault::Memory => Err(Memory),
+    }
+}
+
+/// What a line asks, or its reply.
+fn read_line(alloc: Global, line: u64, text: &RoundLine) -> Asked
+    requires line { line < 2 ^ 63 }
+    requires short { IsShort text.now }
+    ensures asked { (bytes : List ℕ) → IsKept 262_144 text.now bytes → IsAsked line bytes result }
+    ensures within { IsAskedAt line result }
+{
+    let bytes = match text {
+        RoundLine::TooLong => return Asked::Told(told(line, too_long_reply(alloc, line))),
+        RoundLine::Bytes(bytes) => bytes.as_slice(),
+    };
+    match line_from(alloc, bytes) {
+        Ok(Line::Read { sid, request }) => Asked::Read(ReadLine {
+            line,
+            session: sid,
+            request,
+        }),
+        Ok(Line::Write { sid, request }) => Asked::Write(WriteLine {
+            line,
+            session: sid,
+            request,
+            bytes: bytes.len() as u64,
+        }),
+        Err(fault) => Asked::Told(told(line, fault_reply(alloc, line, fault))),
+    }
+}
+
+impl Works {
+    /// No line yet.
+    fn new(alloc: Global) -> Works
+        ensures reads { result.reads.items ≡ [] }
+        ensures writes { result.writes.items ≡ [] }
+        ensures numbers { result.numbers.items ≡ [] }
+        ensures replies { result.replies.items ≡ [] }
+    {
+        Works {
+            reads: Vec::new(alloc),
+            writes: Vec::new(alloc),
+            numbers: Vec::new(alloc),
+            replies: Vec::new(alloc),
+        }
+    }
+
+    /// Appends a line by its first reply alone. `Memory`: an allocation was refused.
+    fn push_reply(&mut self, reply: RoundReply) -> Result<(), Memory>
+        ensures { OnOk result (Pushes self.old self.new [] [] (round_text reply)) }
+    {
+        self.numbers.push(None)?;
+        self.replies.push(reply)?;
+        Ok(())
+    }
+
+    /// Appends a line that is a read. `Memory`: an allocation was refused.
+    fn push_read(&mut self, read: ReadLine) -> Result<(), Memory>
+        ensures { OnOk result (Pushes self.old self.new (read ∷ []) [] (memory_line read.line)) }
+    {
+        let line = read.line;
+        self.reads.push(read)?;
+        self.push_reply(no_memory(line))?;
+        Ok(())
+    }
+
+    /// Appends a line that is a write. `Memory`: an allocation was refused.
+    fn push_write(&mut self, write: WriteLine) -> Result<(), Memory>
+        ensures { OnOk result (Pushes self.old self.new [] (write ∷ []) (memory_line write.line)) }
+    {
+        let line = write.line;
+        self.writes.push(write)?;
+        self.push_reply(no_memory(line))?;
+        Ok(())
+    }
+
+    /// Appends a line by what it asks. `Memory`: an allocation was refused.
+    fn push(&mut self, asked: Asked) -> Result<(), Memory>
+        ensures takes { OnOk result ((line : ℕ) (bytes : List ℕ) → IsAskedAt line asked → IsAsked line bytes asked → TakesLine line bytes self.old self.new) }
+        ensures within { OnOk result ((first line : ℕ) → first ≤ line → IsAskedAt line asked → AreWithin first line self.old → AreWithin first (line + 1) self.new) }
+    {
+        match asked {
+            Asked::Read(read) => self.push_read(read),
+            Asked::Write(write) => self.push_write(write),
+            Asked::Told(reply) => self.push_reply(reply),
+        }
+    }
+}
+
+/// The lines of a round, once read, the first of them line `first`. `Memory`: an allocation was refused.
+pub fn read_lines(alloc: Global, first: u64, lines: &[RoundLine]) -> Result<Works, Memory>
+    requires lines { first + length lines.now < 2 ^ 63 }
+    requires short { All IsShort lines.now }
+    ensures read { IfOk result (λ works. (given : List Numbered) → AreKept lines.now (texts_of given) → AreRead first given works) }
+    ensures within { IfOk result (λ works. AreWithin first (first + length lines.now) works) }
+{
+    let mut works = Works::new(alloc);
+    let mut line = first;
+    for text in lines {
+        works.push(read_line(alloc, line, text))?;
+        line += 1;
+    }
+    Ok(works)
+}
