@@ -1,0 +1,308 @@
+//! A session over a seat. No call waits.
+ghost use Rattle.std.specs.Prelude.{◌≡◌, ◌≢◌, ◌+◌, ◌-◌, ◌<◌, ◌≤◌, ◌^◌, true, None, Some, length, max, min, option_map, IfOk, IfSome, MatchBool};
+ghost use mathlib.Core.List.{IsPrefix};
+ghost use Rattle.gd_mql.specs.Requests.{read_view};
+ghost use Rattle.gd_shared.specs.Shared.{longer};
+ghost use Rattle.gd_suspended.specs.Reading.{is_unfinished};
+ghost use Rattle.gd_seats.specs.Session.{reads, seen_of, GoesOn};
+ghost use Rattle.gd_seats.specs.Calls.{IsLater, BeginsAs, SlicesAs, MeetsAs};
+
+use crate::fault::SessionFault;
+use crate::over::{begin_over, slice_over};
+use core::mem::{replace, replace_with};
+use gd_base::steps::Steps;
+use gd_mql::request::ReadRequest;
+use gd_shared::{Receipt, Seat};
+use gd_suspended::fault::ReadFault;
+use gd_suspended::reading::{Progress, Reading};
+use std::alloc::Global;
+use std::marker::Model;
+
+/// What a worker holds of a session: a seat of the published store, and the reading with which the session goes on. Contracts
+/// see both; `reads` is the reading as the definitions have it.
+#[derive(Drop)]
+pub struct Session {
+    seat: Seat,
+    reading: Option<Reading>,
+}
+
+impl Model for Session {
+    ghost use Rattle.std.specs.Coded.{codes};
+    ghost use Rattle.gd_suspended.specs.contracts.reading.Reading as reading_row;
+    ghost use Rattle.gd_seats.specs.Session.{SessionValue, HoldsGoing};
+
+    ghost Value = { SessionValue };
+
+    ghost coded = { Prim.hlevel (codes, reading_row.the_row.coded) };
+
+    ghost view = { λ session. record { seat = session.seat; held = session.reading } };
+
+    ghost invariant = { λ session. HoldsGoing session.seat.entered session.reading };
+}
+
+/// What is to be read, by a session that is let in, and the steps that were taken.
+#[derive(Drop)]
+struct Beginning<L> {
+    alloc: Global,
+    request: ReadRequest,
+    steps: Steps<L>,
+}
+
+/// How far a session that is let in is to go on, for which line, and the steps that were taken.
+#[derive(Drop)]
+struct Slicing<L> {
+    alloc: Global,
+    budget: u64,
+    line: u64,
+    steps: Steps<L>,
+}
+
+impl Session {
+    /// A session of this seat, which holds this reading.
+    fn holding(seat: Seat, reading: Reading) -> Session
+        requires { GoesOn seat.entered reading }
+        ensures { result ≡ record { seat = seat; held = Some reading } }
+    {
+        Session {
+            seat,
+            reading: Some(reading),
+        }
+    }
+
+    /// A session of this seat, whose reading has ended.
+    fn ended(seat: Seat, reading: Reading) -> Session
+        ensures { result ≡ record { seat = seat; held = None } }
+    {
+        drop(reading);
+        Session::new(seat)
+    }
+}
+
+/// Enters and leaves. What the session reads stays.
+fn meet_in(session: Session, _nothing: ()) -> (Session, Result<(), SessionFault>)
+    ensures { MeetsAs session result.0 result.1 }
+{
+    let Session { seat, reading } = session;
+    match seat.enter() {
+        Ok(entered) => {
+            let seat = entered.leave();
+            (Session { seat, reading }, Ok(()))
+        }
+        Err(seat) => (Session { seat, reading }, Err(SessionFault::Shut)),
+    }
+}
+
+/// Enters, begins a reading over the store that is there, and leaves.
+fn begin_in<L>(
+    session: Session,
+    beginning: Beginning<L>,
+) -> (Session, (Steps<L>, Result<u32, SessionFault>))
+    requires none { reads session ≡ None }
+    ensures begins { BeginsAs session result.0 (read_view beginning.request) result.1.1 }
+    ensures steps { beginning.steps ≤ result.1.0 }
+{
+    let Session { seat, reading } = session;
+    drop(reading);
+    let Beginning {
+        alloc,
+        request,
+        mut steps,
+    } = beginning;
+    match seat.enter() {
+        Ok(entered) => {
+            let begun = begin_over(alloc, entered.store(), request, &mut steps);
+            let seat = entered.leave();
+            match begun {
+                Ok(begun) => {
+                    let dateline = begun.dateline();
+                    (Session::holding(seat, begun), (steps, Ok(dateline)))
+                }
+                Err(fault) => (Session::new(seat), (steps, Err(SessionFault::Read(fault)))),
+            }
+        }
+        Err(seat) => {
+            drop(request);
+            (Session::new(seat), (steps, Err(SessionFault::Shut)))
+        }
+    }
+}
+
+/// Enters, goes on with the reading that is held over the store that is there, and leaves.
+fn slice_in<L>(
+    session: Session,
+    slicing: Slicing<L>,
+) -> (Session, (Steps<L>, Result<Progress, SessionFault>))
+    requires held { reads session ≢ None }
+    requires budget { 0 < slicing.budget }
+    requires line { slicing.line < 2 ^ 63 }
+    ensures slices { SlicesAs session result.0 slicing.line result.1.1 }
+    ensures reached { IfOk result.1.1 (λ progress. is_unfinished progress ≡ true → min (slicing.steps + slicing.budget) (2 ^ 64 - 1) ≤ result.1.0) }
+    ensures work { result.1.0 ≤ slicing.steps + slicing.budget + 1024 }
+    ensures steps { slicing.steps ≤ result.1.0 }
+{
+    let Session { seat, reading } = session;
+    let Slicing {
+        alloc,
+        budget,
+        line,
+        mut steps,
+    } = slicing;
+    match seat.enter() {
+        Ok(entered) => {
+            let mut reading = reading.unwrap();
+            let sliced = slice_over(
+                alloc,
+                entered.store(),
+                &mut reading,
+                budget,
+                line,
+                &mut steps,
+            );
+            let seat = entered.leave();
+            match sliced {
+                Ok(Progress::Unfinished) => {
+                    let session = Session::holding(seat, reading);
+                    (session, (steps, Ok(Progress::Unfinished)))
+                }
+                Ok(Progress::Reply(bytes)) => {
+                    let session = Session::ended(seat, reading);
+                    (session, (steps, Ok(Progress::Reply(bytes))))
+                }
+                Err(refused) => {
+                    let fault = SessionFault::Read(ReadFault::from(refused));
+                    (Session::ended(seat, reading), (steps, Err(fault)))
+                }
+            }
+        }
+        Err(seat) => (Session { seat, reading }, (steps, Err(SessionFault::Shut))),
+    }
+}
+
+impl Session {
+    /// A session of this seat, which holds no reading.
+    pub fn new(seat: Seat) -> Session
+        ensures { result ≡ record { seat = seat; held = None } }
+    {
+        Session {
+            seat,
+            reading: None,
+        }
+    }
+
+    /// The number of requests of the longest list that it entered or was told of.
+    pub fn seen(&self) -> u32
+        ensures { result ≡ seen_of self.now.seat }
+    {
+        self.seat.seen()
+    }
+
+    /// How often it was not let in.
+    pub fn turned_away(&self) -> u64
+        ensures { result ≡ self.now.seat.turned_away }
+    {
+        self.seat.turned_away()
+    }
+
+    /// The dateline of the reading that it holds, if it holds one. The session has entered it.
+    pub fn dateline(&self) -> Option<u32>
+        ensures at { result ≡ option_map (λ r. r.dateline) (reads self.now) }
+        ensures below { IfSome (reads self.now) (λ r. r.dateline ≤ length self.now.seat.entered) }
+    {
+        match &self.reading {
+            Some(reading) => Some(reading.dateline()),
+            None => None,
+        }
+    }
+
+    /// Whether the list of a receipt begins with all that it has seen. If not, it is shorter than that. The receipt is of the
+    /// table of its seat.
+    pub fn has_only(&self, receipt: &Receipt) -> bool
+        requires table { receipt.now.history ≡ self.now.seat.history }
+        ensures { MatchBool result (IsPrefix self.now.seat.entered receipt.now.list × IsPrefix self.now.seat.told receipt.now.list)
+            (length receipt.now.list < seen_of self.now.seat) }
+    {
+        self.seat.has_only(receipt)
+    }
+
+    /// Learns that a list was published: what it enters from now on begins with that. The receipt is of the table of its seat.
+    pub fn learn(&mut self, receipt: Receipt)
+        requires table { receipt.history ≡ self.old.seat.history }
+        ensures told { self.new ≡ record self.old { seat = record self.old.seat { told = longer self.old.seat.told receipt.list } } }
+        ensures begun { IsPrefix receipt.list self.new.seat.told }
+        ensures later { IsLater self.old.seat self.new.seat }
+    {
+        self.seat.learn(receipt);
+    }
+
+    /// Drops the reading that it holds, if it holds one.
+    pub fn end(&mut self)
+        ensures { self.new ≡ record self.old { held = None } }
+    {
+        self.reading = None;
+    }
+
+    /// Enters the published store and leaves it; the reading that is held stays. `Shut`: the session was not let in, and is as
+    /// it was, but for the count of that.
+    pub fn meet(&mut self) -> Result<(), SessionFault>
+        ensures meets { MeetsAs self.old self.new result }
+        ensures later { IsLater self.old.seat self.new.seat }
+    {
+        replace_with(self, (), meet_in)
+    }
+
+    /// Begins a read over the published store as it is now, or for a further page as it was at the dateline of the cursor, and
+    /// says at which dateline. Its words are looked up here, which is not cut in slices. `Read`: the session has entered, but
+    /// the reading is refused as the definitions say or there was no memory, and none is held. `Shut`: the session was not
+    /// let in, and is as it was, but for the count of that.
+    pub fn begin<L>(
+        &mut self,
+        alloc: Global,
+        request: ReadRequest,
+        steps: &mut Steps<L>,
+    ) -> Result<u32, SessionFault>
+        requires none { reads self.old ≡ None }
+        ensures begins { BeginsAs self.old self.new (read_view request) result }
+        ensures later { IsLater self.old.seat self.new.seat }
+        ensures steps { steps.old ≤ steps.new }
+    {
+        let beginning = Beginning {
+            alloc,
+            request,
+            steps: replace(steps, Steps::new()),
+        };
+        let (taken, answer) = replace_with(self, beginning, begin_in::<L>);
+        *steps = taken;
+        answer
+    }
+
+    /// Goes on with the reading that is held, until the budget of steps is reached or the reply line is there: the page at the
+    /// dateline of the reading, whatever was written since, or the refusal in its place. `line` is the number of the line that
+    /// the reply tells. It takes at most 1,024 steps more than the budget. A reply ends the reading. `Read`: there was no
+    /// memory, and that ends it too. `Shut`: the session was not let in, and is as it was, but for the count of that.
+    pub fn slice<L>(
+        &mut self,
+        alloc: Global,
+        budget: u64,
+        line: u64,
+        steps: &mut Steps<L>,
+    ) -> Result<Progress, SessionFault>
+        requires held { reads self.old ≢ None }
+        requires budget { 0 < budget }
+        requires line { line < 2 ^ 63 }
+        ensures slices { SlicesAs self.old self.new line result }
+        ensures reached { IfOk result (λ progress. is_unfinished progress ≡ true → min (steps.old + budget) (2 ^ 64 - 1) ≤ steps.new) }
+        ensures work { steps.new ≤ steps.old + budget + 1024 }
+        ensures later { IsLater self.old.seat self.new.seat }
+        ensures steps { steps.old ≤ steps.new }
+    {
+        let slicing = Slicing {
+            alloc,
+            budget,
+            line,
+            steps: replace(steps, Steps::new()),
+        };
+        let (taken, answer) = replace_with(self, slicing, slice_in::<L>);
+        *steps = taken;
+        answer
+    }
+}
