@@ -13,12 +13,12 @@ apart q = cc
 -- where none is kept of a line, the line is left
 pub is_left : (outcomes : List Told) (k : ℕ) → kept_of outcomes k ≡ None → IsLeft outcomes k
 is_left [] k none i t at line = no_some at
-is_left (u ∷ us) k none i t at line = by (u.line == k) refl none i at
+is_left (u ∷ us) k none i t at line = by (u.line == k) refl none i at (λ none' j there. is_left us k none' j t there line)
   where
-    by : (b : Bool) → (u.line == k) ≡ b → (if b then Some u.kept else kept_of us k) ≡ None → (j : ℕ) → slice_get (u ∷ us) j ≡ Some t → ⊥
-    by true same found j there = no_some (sym found)
-    by false other found zero there = apart (sym (same_number k) ∙ ap (λ (n : ℕ). n == k) (sym line ∙ ap (λ (v : Told). v.line) (sym (some_same there))) ∙ other)
-    by false other found (suc j) there = is_left us k found j t there line
+    by : (b : Bool) → (u.line == k) ≡ b → (if b then Some u.kept else kept_of us k) ≡ None → (j : ℕ) → slice_get (u ∷ us) j ≡ Some t → (kept_of us k ≡ None → (j : ℕ) → slice_get us j ≡ Some t → ⊥) → ⊥
+    by true same found j there rest = no_some (sym found)
+    by false other found zero there rest = apart (sym (same_number k) ∙ ap (λ (n : ℕ). n == k) (sym line ∙ ap (λ (v : Told). v.line) (sym (some_same there))) ∙ other)
+    by false other found (suc j) there rest = rest found j there
 
 -- where something is kept of a line, the line has an outcome
 pub has_kept : (outcomes : List Told) (k : ℕ) (kept : Kept) → kept_of outcomes k ≡ Some kept → HasOutcome outcomes k
@@ -31,9 +31,9 @@ has_kept (u ∷ us) k kept is = by (u.line == k) refl is (has_kept us k kept)
 
 -- what was looked up is there, or is not
 pub found_none : {X : Type 0} (view : X → Kept) (found : Option X) (outcomes : List Told) (k : ℕ) → option_map view found ≡ kept_of outcomes k → is_some found ≡ false → IsLeft outcomes k
-found_none view None outcomes k is no = is_left outcomes k (sym is)
-found_none view (Some x) outcomes k is no = absurd (apart no)
+found_none view None outcomes k is missing = is_left outcomes k (sym is)
+found_none view (Some x) outcomes k is missing = absurd (apart missing)
 
 pub found_some : {X : Type 0} (view : X → Kept) (found : Option X) (outcomes : List Told) (k : ℕ) → option_map view found ≡ kept_of outcomes k → is_some found ≡ true → HasOutcome outcomes k
-found_some view (Some x) outcomes k is yes = has_kept outcomes k (view x) (sym is)
-found_some view None outcomes k is yes = absurd (apart (sym yes))
+found_some view (Some x) outcomes k is there = has_kept outcomes k (view x) (sym is)
+found_some view None outcomes k is there = absurd (apart (sym there))

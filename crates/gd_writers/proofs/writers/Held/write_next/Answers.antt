@@ -22,4 +22,4 @@ invariant_of-self-2 g c =
     wrote g.D.Disk.faults g.C.Clock.may g.L.Round.named c.self.inside.side c.self.invariant c.args.line c.args.bytes c.args.before (write_view c.args.request.now) c.requires.of_round
     (subst (λ (s : SideValue _ _). IsLeft s.outcomes c.args.line) (sym c.self.view_is) c.requires.left)
     c.write.new.self keeps.history keeps.shows (subst (λ (s : SideValue _ _). IfSome c.args.before (λ m. HasOutcome s.outcomes m)) (sym c.self.view_is) c.requires.next)
-    goes.table goes.clock goes.later c.write.ensures.ok
+    goes.table goes.clock goes.later c.in_ok-write.ensures.ok
