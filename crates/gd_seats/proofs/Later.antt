@@ -1,10 +1,9 @@
 -- Seats later on.
-use Rattle.std.proofs.Common.{◌≡◌, ℕ, List, [], Result, Ok, Err, refl, sym, subst, ◌∙◌, arith, append-nil}
+use Rattle.std.proofs.Common.{◌≡◌, ℕ, List, [], Result, Ok, Err, refl, sym, subst, arith, append-nil}
 use mathlib.Core.List.{IsPrefix}
-use Rattle.gd_base.specs.Counts.{Rose}
 use Rattle.gd_prim.specs.declared.Batch.{Batch}
 use Rattle.gd_runs.specs.Request.{ReadRequest}
-use Rattle.gd_shared.specs.Shared.{SeatValue, EnteredValue, one_more}
+use Rattle.gd_shared.specs.Shared.{SeatValue, EnteredValue}
 use Rattle.gd_suspended.specs.declared.reading.Progress.{Progress}
 use Rattle.gd_suspended.specs.declared.reading.Progress.TheVariants.{Reply, Unfinished}
 use Rattle.gd_seats.specs.declared.fault.SessionFault.{SessionFault}
@@ -13,16 +12,20 @@ use Rattle.gd_seats.specs.Session.{SessionValue}
 use Rattle.gd_seats.specs.Calls.{IsLater, HasEntered, WasTurnedAway, BeginsAs, SlicesAs, MeetsAs}
 use Rattle.gd_seats.proofs.Fronts.{begins_shorter}
 
-pub rises : (n : ℕ) → Rose n (one_more n)
-rises n = omega arith
-
-begins_same : (xs ys : List Batch) → ys ≡ xs → IsPrefix xs ys
-begins_same xs ys same = ([], append-nil xs ∙ sym same)
+begins_itself : (xs : List Batch) → IsPrefix xs xs
+begins_itself xs = ([], append-nil xs)
 
 -- a seat that has entered and left
 pub has_entered : (old new : SeatValue) (e : EnteredValue) → ((e.history ≡ old.history) × (e.turned_away ≡ old.turned_away) × IsPrefix old.entered e.list × IsPrefix old.told e.list)
     → new ≡ record { history = e.history; entered = e.list; told = e.list; turned_away = e.turned_away } → HasEntered old new
-has_entered old new e goes is = rw is record { table = goes.0; entered = goes.2; told = goes.3; all = refl; turned_away = goes.1 }
+has_entered old new e goes is = rw is record {
+  table = goes.0;
+  entered = goes.2;
+  told = goes.3;
+  enough = omega (arith, begins_shorter old.entered e.list goes.2, begins_shorter old.told e.list goes.3);
+  all = refl;
+  turned_away = goes.1;
+}
 
 -- is later
 pub later_entered : (old new : SeatValue) → HasEntered old new → IsLater old new
@@ -31,7 +34,7 @@ later_entered old new e =
       table = e.table;
       entered = e.entered;
       told = told;
-      seen = omega (arith, begins_shorter old.entered new.entered e.entered, begins_shorter old.told new.told told);
+      seen = omega (arith, e.enough);
       turned_away = omega (arith, e.turned_away);
     }
 
@@ -39,22 +42,13 @@ later_entered old new e =
 pub later_turned : (old new : SessionValue) → WasTurnedAway old new → IsLater old.seat new.seat
 later_turned old new w = rw w.counted record {
   table = refl;
-  entered = begins_same old.seat.entered old.seat.entered refl;
-  told = begins_same old.seat.told old.seat.told refl;
+  entered = begins_itself old.seat.entered;
+  told = begins_itself old.seat.told;
   seen = omega arith;
   turned_away = omega arith;
 }
 
--- and one that was told of a longer list
-pub later_told : (old new : SeatValue) (told : List Batch) → new ≡ record old { told = told } → IsPrefix old.told told → IsLater old new
-later_told old new told is begins = rw is record {
-  table = refl;
-  entered = begins_same old.entered old.entered refl;
-  told = begins;
-  seen = omega (arith, begins_shorter old.told told begins);
-  turned_away = omega arith;
-}
-
+-- and a session is later that met, began a read or went on with one
 pub later_met : {A : Type 0} (old new : SessionValue) (result : Result A SessionFault) → MeetsAs old new result → IsLater old.seat new.seat
 later_met old new (Ok a) met = later_entered old.seat new.seat met.0
 later_met old new (Err (Read f)) met = absurd met

@@ -24,11 +24,12 @@ pub record IsLater (old new : SeatValue) : Type 0 where
   pub seen : seen_of old ≤ seen_of new
   pub turned_away : old.turned_away ≤ new.turned_away
 
--- a seat has entered a list that begins with all that it had seen, and has seen just that list
+-- a seat has entered a list that begins with all that it had seen, and is no shorter, and has seen just that list
 pub record HasEntered (old new : SeatValue) : Type 0 where
   pub table : new.history ≡ old.history
   pub entered : IsPrefix old.entered new.entered
   pub told : IsPrefix old.told new.entered
+  pub enough : seen_of old ≤ length new.entered
   pub all : new.told ≡ new.entered
   pub turned_away : new.turned_away ≡ old.turned_away
 

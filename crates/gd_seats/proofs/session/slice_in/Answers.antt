@@ -1,10 +1,11 @@
 use Rattle.std.proofs.Common.{Some, refl, sym, ap, subst, ◌∙◌, option_map}
+use mathlib.Core.List.{IsPrefix}
 use Rattle.gd_runs.specs.Core as core
 use Rattle.gd_suspended.specs.Reading.{reading_view, Replies}
 use Rattle.gd_seats.specs.Session.{reads, GoesOn, HoldsGoing}
 use Rattle.gd_seats.specs.Calls.{HasEntered}
 use Rattle.gd_seats.proofs.Later.{has_entered}
-use Rattle.gd_seats.proofs.Readings.{has_replied}
+use Rattle.gd_seats.proofs.Readings.{goes_later, has_replied}
 use Rattle.gd_seats.proofs.session.slice_in.Goals as goal
 
 pub returns-in-Ok-Unfinished-clause-slices : goal.returns-in-Ok-Unfinished-clause-slices
@@ -36,3 +37,10 @@ returns-in-Err-sliced-clause-slices g c =
       refl,
       c.from.ensures,
     )
+
+pub slice_over-sliced-requires-clause-going : goal.slice_over-sliced-requires-clause-going
+slice_over-sliced-requires-clause-going g c =
+    let old = c.session.inside.seat.entered in
+    let reading = c.unwrap-reading.result in
+    let going : GoesOn old reading = subst (λ held. HoldsGoing old held) c.unwrap-reading.ensures c.session.invariant in
+    goes_later reading old c.store.result.now (subst (λ l. IsPrefix old l) (sym c.store.ensures) c.in-Ok.ensures.2) going
