@@ -1,0 +1,5 @@
+pub mod Before
+pub mod Grown
+pub mod Passes
+pub mod Turned
+pub mod Turns

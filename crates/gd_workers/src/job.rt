@@ -1,0 +1,35 @@
+//! What a worker has to do, and what it did.
+use gd_mql::request::Line;
+
+/// A read or a write line of a round, with its length.
+#[derive(Drop)]
+pub struct Job {
+    pub line: u64,
+    pub bytes: u64,
+    pub work: Line,
+}
+
+/// The reply line that is kept of a read line, with its snapshot: the number of requests over which it is. None stands for
+/// want of memory, and says nothing of the snapshot.
+#[derive(Drop)]
+pub struct ReadReply {
+    pub line: u64,
+    pub at: u32,
+    pub reply: Option<Vec<u8>>,
+}
+
+/// Why a session stopped.
+#[derive(Clone, Copy, Debug, PartialEq, Eq)]
+pub enum StopCause {
+    /// The seat of the session was turned away, at a read line.
+    Shut,
+    /// There was no memory to keep the outcome of a write line.
+    Memory,
+}
+
+/// Where a session stopped: the first of its lines that is left to the caller.
+#[derive(Clone, Copy, Debug, PartialEq, Eq)]
+pub struct Stop {
+    pub line: u64,
+    pub cause: StopCause,
+}

@@ -1,0 +1,138 @@
+-- What the lock of a round keeps: when it begins, and after a write.
+use Rattle.std.proofs.Common.{◌≡◌, refl, ℕ, zero, suc, ◌+◌, ◌-◌, ◌^◌, ◌≤◌, ◌<◌, ◌⊎◌, inl, inr, ⊎_elim, Bool, true, false, cond, List, [], ◌∷◌, ◌++◌, length, take, nat_lt, ltb-true, Option, Some, None, slice_get, sym, subst, ap, ◌∙◌, arith}
+use Rattle.std.specs.Prelude.{IfSome, min}
+use Rattle.std.proofs.Math.Nat.{min-eq_left, min-eq_right, min-le_left, min-le_right}
+use Rattle.std.proofs.lemmas.Bool.{ltb-false}
+use Rattle.std.proofs.lemmas.List.{length-take}
+use Rattle.gd_base.specs.Counts.{Rose}
+use Rattle.gd_prim.specs.declared.Batch.{Batch}
+use Rattle.gd_defs.specs.Write.{WriteRequest}
+use Rattle.gd_runs.specs.Legal.{Entry, History, batches, size}
+use Rattle.gd_runs.specs.Explained.{entry_at}
+use Rattle.gd_runs.specs.Side.{Kept, Told, WriteLine, Begun, is_fault, session_lines, IsLeft, IsFresh, KeepsHistory, KeepsRound, told_of}
+use Rattle.gd_runs.proofs.Rounds.{entry_cases, length_batches}
+use Rattle.gd_core_laws.specs.Lock.{HasOutcome, FaultsMore, LockKeeps}
+use Rattle.gd_core_laws.specs.Writes.{AreNew}
+use Rattle.gd_core_laws.proofs.Laws.{locked_writes_keep}
+use Rattle.gd_core_laws.proofs.LockRun.{lock_begins}
+use Rattle.gd_shared.specs.History.{FrontValue}
+use Rattle.gd_writer.specs.Side.{SideValue, state_of, Writes, KeepsAll}
+use Rattle.gd_writer.proofs.Told.{no_sessions}
+use Rattle.gd_writers.specs.Round.{Named, begun, most, BeginsRound, IsLocked, IsOfRound, IsToldLocked}
+
+-- ---- the disk's count
+
+-- a number is at its most, or below it
+counts : (n : ℕ) → (min n most ≡ most) ⊎ ((n < most) × (min n most ≡ n))
+counts n = by (nat_lt n most) refl
+  where
+    by : (t : Bool) → nat_lt n most ≡ t → (min n most ≡ most) ⊎ ((n < most) × (min n most ≡ n))
+    by true is = let less = ltb-true n most is in inr (less, min-eq_left (omega (arith, less)))
+    by false is = let more = ltb-false n most is in inl (min-eq_right (omega (arith, more)))
+
+-- it rises in a write that tells a fault, and does not fall
+faults_rise : (before now : ℕ) → Rose before now → (min before most + 1 ≤ min now most) ⊎ (min now most ≡ most)
+faults_rise before now rose =
+    ⊎_elim (λ full. inr full)
+    (λ (less, is). inl (rw is (let low = min-le_left before most in
+    ⊎_elim (λ (full : min (before + 1) most ≡ most). absurd (omega (arith, full, rose, less))) (λ (below, same). omega (arith, low, same, rose)) (counts (before + 1)))))
+    (counts now)
+
+faults_stay : (before now : ℕ) → before ≤ now → min before most ≤ min now most
+faults_stay before now later =
+    ⊎_elim (λ full. let high = min-le_right before most in omega (arith, full, high)) (λ (less, is). let low = min-le_left before most in omega (arith, is, low, later)) (counts now)
+
+faults_more : (kept : Kept) (before now : ℕ) → before ≤ now → (is_fault kept ≡ true → Rose before now) → FaultsMore kept (min before most) (min now most) most
+faults_more kept before now later rose = record {
+  rises = by (is_fault kept) refl;
+  stays = λ full. let stay = faults_stay before now later in let high = min-le_right now most in omega (arith, full, stay, high);
+}
+  where
+    by : (t : Bool) → is_fault kept ≡ t → (min before most + cond t 1 0 ≤ min now most) ⊎ (min now most ≡ most)
+    by true is = faults_rise before now (rose is)
+    by false is = let stay = faults_stay before now later in inl (omega (arith, stay))
+
+-- ---- when a round begins
+
+first_lock : (l : Named) → AreNew (begun l) → KeepsRound (begun l) l.history l.shown l.doubt (min l.faults most) most [] []
+first_lock l fresh = let b = lock_begins l.history l.shown l.doubt l.faults most l.first l.given fresh in record {
+  grown = b.grown;
+  fresh = b.fresh;
+  fresh_doubt = b.fresh_doubt;
+  entries = b.entries;
+  in_doubt = b.in_doubt;
+  outcomes_of = b.outcomes_of;
+  least = b.least;
+  waits = b.waits;
+  shows = b.shows;
+  shows_stored = b.shows_stored;
+  firsts = b.firsts;
+  failed = ⊎_elim (λ full. inr full) (λ (less, is). inl (omega (arith, is))) (counts l.faults);
+}
+
+pub begins : {D C : Type 0} (faults : D → ℕ) (may : C → ℕ → Bool) (l : Named) (side : SideValue D C) → BeginsRound faults may l side → IsLocked faults may l side
+begins faults may l side b = record {
+  table = b.table;
+  clock = b.clock;
+  new = [];
+  lock = subst (λ (h : History). KeepsRound (begun l) h (length side.shown) side.doubt (min (faults side.log.disk) most) most side.outcomes []) (sym b.history)
+      (subst (λ (n : ℕ). KeepsRound (begun l) l.history n side.doubt (min (faults side.log.disk) most) most side.outcomes []) (sym b.shown)
+      (subst (λ (d : Option Entry). KeepsRound (begun l) l.history l.shown d (min (faults side.log.disk) most) most side.outcomes []) (sym b.doubt)
+      (subst (λ (n : ℕ). KeepsRound (begun l) l.history l.shown l.doubt (min n most) most side.outcomes []) (sym b.count)
+      (subst (λ (ts : List Told). KeepsRound (begun l) l.history l.shown l.doubt (min l.faults most) most ts []) (sym b.outcomes) (first_lock l b.fresh)))));
+}
+
+-- ---- a write
+
+-- no more is shown than there is
+shows_within : (h : History) (shown : List Batch) → shown ≡ take (length shown) (batches h) → length shown ≤ size h
+shows_within h shown is =
+    let long = ap length is ∙ length-take (length shown) (batches h) in let high = min-le_right (length shown) (length (batches h)) in let count = length_batches h in omega (arith, long, high, count)
+
+module _ {D C : Type 0} (faults : D → ℕ) (may : C → ℕ → Bool) (l : Named) (side : SideValue D C) (locked : IsLocked faults may l side)
+    (line bytes : ℕ) (before : Option ℕ) (request : WriteRequest) (of_round : IsOfRound (begun l) line before request bytes) (left : IsLeft side.outcomes line) where
+  -- the line is that of no entry, and of no group in doubt
+  pub is_fresh : IsFresh side.history side.doubt line
+  is_fresh = record {
+    entries = λ e x at is. ⊎_elim
+        (λ old. locked.lock.fresh of_round.place e its_line x of_round.there old (sym is))
+        (λ (i, place, there). ⊎_elim
+        (λ (zero_is, was). locked.lock.fresh_doubt of_round.place its_line x of_round.there was (sym is))
+        (λ (i', b, at_b, line_is, request_is, len, (j, t, out, told, stands)). left j t out (told ∙ is))
+        (locked.lock.entries i x there))
+        (entry_cases l.history locked.new e x (subst (λ (h : History). entry_at h e ≡ Some x) locked.lock.grown at));
+    doubted = λ x doubt is. ⊎_elim
+        (λ was. locked.lock.fresh_doubt of_round.place its_line x of_round.there was (sym is))
+        (λ (i', b, at_b, line_is, request_is, len, (j, t, out, told, stands)). left j t out (told ∙ is))
+        (locked.lock.in_doubt x doubt);
+  }
+    where
+      its_line : WriteLine
+      its_line = record { line = line; session = of_round.session; request = request; bytes = bytes }
+
+  -- the line before it of its session has an outcome
+  comes_next : IfSome before (λ m. HasOutcome side.outcomes m) → (q m : ℕ) → slice_get (session_lines (begun l) of_round.session) (q + 1) ≡ Some line → slice_get (session_lines (begun l) of_round.session) q ≡ Some m
+      → HasOutcome side.outcomes m
+  comes_next has q m at at_m = subst (λ (o : Option ℕ). IfSome o (λ n. HasOutcome side.outcomes n)) (of_round.before_is.later q at ∙ at_m) has
+
+  -- what the lock keeps it keeps
+  pub wrote : (new : SideValue D C) → KeepsHistory (may side.clock) side.history side.doubt side.outcomes → side.shown ≡ take (length side.shown) (batches side.history) → IfSome before (λ m. HasOutcome side.outcomes m)
+      → new.table ≡ side.table → may new.clock ≡ may side.clock → faults side.log.disk ≤ faults new.log.disk → Writes (may side.clock) faults side line bytes request new → IsLocked faults may l new
+  wrote new history shows has table clock later writes =
+      let keeps = locked_writes_keep (may side.clock) (begun l) l.first l.given (state_of side no_sessions) (min (faults side.log.disk) most) most side.outcomes locked.new of_round.place
+      (record { line = line; session = of_round.session; request = request; bytes = bytes }) writes.kept (state_of new no_sessions) (min (faults new.log.disk) most)
+      refl history locked.lock (shows_within side.history side.shown shows) of_round.there left (comes_next has) (writes.step no_sessions) (faults_more writes.kept (faults side.log.disk) (faults new.log.disk) later writes.fault) in
+      record {
+        table = table ∙ locked.table;
+        clock = clock ∙ locked.clock;
+        new = keeps.entries;
+        lock = subst (λ (ts : List Told). KeepsRound (begun l) new.history (length new.shown) new.doubt (min (faults new.log.disk) most) most ts keeps.entries) (sym writes.outcomes) keeps.lock;
+      }
+
+-- ---- a receipt
+
+-- what a side under the lock tells is told so
+pub told_locked : {D C : Type 0} (faults : D → ℕ) (may : C → ℕ → Bool) (l : Named) (side : SideValue D C) → IsLocked faults may l side → (found : Option FrontValue) → IfSome found (λ r. r ≡ record { history = side.table; list = side.shown })
+    → IfSome found (λ r. IsToldLocked faults may l r)
+told_locked faults may l side locked None is = tt
+told_locked faults may l side locked (Some r) is = record { side = side; locked = locked; told = is }
