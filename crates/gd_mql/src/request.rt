@@ -52,6 +52,21 @@ pub enum Line {
     Write { sid: u32, request: WriteRequest },
 }
 
+impl CursorAsk {
+    ghost use Rattle.gd_mql.specs.Requests.{cursor_view};
+
+    /// The same page again.
+    fn copy(&self) -> Result<CursorAsk, Memory>
+        ensures { IfOk result (λ copied. cursor_view copied ≡ cursor_view self.now) }
+    {
+        match self {
+            CursorAsk::Absent => Ok(CursorAsk::Absent),
+            CursorAsk::First => Ok(CursorAsk::First),
+            CursorAsk::After(text) => Ok(CursorAsk::After(text.copy()?)),
+        }
+    }
+}
+
 impl ReadRequest {
     ghost use Rattle.gd_form_laws.specs.Spelled.{spelled_query, forms_depth};
     ghost use Rattle.gd_mql.specs.Requests.{cursor_view, read_view, query_view};
@@ -63,6 +78,17 @@ impl ReadRequest {
         ensures { read_view result ≡ record { cursor = cursor_view cursor; query = spelled_query (view query) } }
     {
         ReadRequest { cursor, query }
+    }
+
+    /// The same read again.
+    pub fn copy(&self) -> Result<ReadRequest, Memory>
+        ensures { IfOk result (λ request. read_view request ≡ read_view self.now) }
+    {
+        let cursor = self.cursor.copy()?;
+        Ok(ReadRequest {
+            cursor,
+            query: self.query.copy()?,
+        })
     }
 
     /// The query. At most 14 forms `{..}` lie one within another in it, the root among them.
