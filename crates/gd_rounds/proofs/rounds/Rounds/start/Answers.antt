@@ -3,5 +3,5 @@ use Rattle.gd_replay_laws.specs.Runs.{AreBelow}
 use Rattle.gd_replay_laws.proofs.Below.{opened_below}
 use Rattle.gd_rounds.proofs.rounds.Rounds.start.Goals as goal
 
-pub invariant_of-in-Ok : goal.invariant_of-in-Ok
-invariant_of-in-Ok g c = subst (AreBelow 0) (sym c.in-Ok.ensures.opened) (opened_below 0 c.in-Ok.core.side.history.loaded)
+pub invariant_of-result : goal.invariant_of-result
+invariant_of-result g c = subst (AreBelow 0) (sym c.in-Ok.ensures.opened) (opened_below 0 c.in-Ok.core.side.history.loaded)
