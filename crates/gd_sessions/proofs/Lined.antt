@@ -42,13 +42,13 @@ refused_tells k n f (Err e) text is told = inr is
 -- what is kept is a step of the core, and the reply tells it
 pub tells_step : (may : ℕ → Bool) (s : State) (k bytes i : ℕ) (w : WriteRequest) (kept : Kept) (t : State) (text : List ℕ) → WriteKeeps may s k bytes w kept t → TellsKept k kept text
     → WriteStep may s k bytes i w text (after_kept i kept t)
-tells_step may s k bytes i w _ _ text (side.stores t e can) tells = subst (λ (line : List ℕ). WriteStep may s k bytes i w line _) (sym tells) (core.stores t e can)
-tells_step may s k bytes i w _ _ text (side.stores_late t e can) tells = subst (λ (line : List ℕ). WriteStep may s k bytes i w line _) (sym tells) (core.stores_late t e can)
+tells_step may s k bytes i w _ _ text (side.stores t e can) tells = subst (λ (line : List ℕ). WriteStep may s k bytes i w line (core.learnt (record (core.after_entry t e) { shown = size t.history + 1 }) i (size t.history + 1))) (sym tells) (core.stores t e can)
+tells_step may s k bytes i w _ _ text (side.stores_late t e can) tells = subst (λ (line : List ℕ). WriteStep may s k bytes i w line (core.after_entry t e)) (sym tells) (core.stores_late t e can)
 tells_step may s k bytes i w _ _ text (side.refuses t moment f ends does) tells = ⊎_elim
     (λ is. subst (λ (line : List ℕ). WriteStep may s k bytes i w line t) (sym is) (core.refuses t moment f ends does))
     (λ is. subst (λ (line : List ℕ). WriteStep may s k bytes i w line t) (sym is) (core.lacks_memory_settled t ends))
     tells
-tells_step may s k bytes i w _ _ text (side.doubts t e can) tells = subst (λ (line : List ℕ). WriteStep may s k bytes i w line _) (sym tells) (core.doubts t e can)
+tells_step may s k bytes i w _ _ text (side.doubts t e can) tells = subst (λ (line : List ℕ). WriteStep may s k bytes i w line (record t { doubt = Some e })) (sym tells) (core.doubts t e can)
 tells_step may s k bytes i w _ _ text (side.leaves_doubt e is) tells = subst (λ (line : List ℕ). WriteStep may s k bytes i w line s) (sym tells) (core.leaves_doubt e is)
 tells_step may s k bytes i w _ _ text side.lacks_memory tells = subst (λ (line : List ℕ). WriteStep may s k bytes i w line s) (sym tells) core.lacks_memory
 tells_step may s k bytes i w _ _ text (side.lacks_memory_settled t ends) tells = subst (λ (line : List ℕ). WriteStep may s k bytes i w line t) (sym tells) (core.lacks_memory_settled t ends)

@@ -2,7 +2,7 @@ use Rattle.std.proofs.Common.{◌<◌, length, arith}
 use Rattle.gd_mql.specs.Requests.{write_view}
 use Rattle.gd_sessions.specs.Served.{line_text}
 use Rattle.gd_sessions.proofs.Lined.{line_step, line_keeps, line_fault}
-use Rattle.gd_sessions.proofs.running.served.Running.write_line.Goals as goal
+use Rattle.gd_sessions.proofs.running.Running.write_line.Goals as goal
 
 pub invariant_of-self : goal.invariant_of-self
 invariant_of-self g c =

@@ -5,7 +5,7 @@ use Rattle.gd_runs.specs.Owed.{MembersOf}
 use Rattle.gd_core_laws.specs.Serve.{ReadServed}
 use Rattle.gd_sessions.specs.Running.{RunningValue, core_state}
 use Rattle.gd_sessions.proofs.Answered.{reads_served}
-use Rattle.gd_sessions.proofs.running.served.Running.read_line.Goals as goal
+use Rattle.gd_sessions.proofs.running.Running.read_line.Goals as goal
 
 pub returns-clause-served : goal.returns-clause-served
 returns-clause-served g c =
