@@ -65,8 +65,8 @@ CRATES = [
     ("gd_shared", "Published copies: what contracts see of a publisher and of seats.", ["Shared"], False),
     ("gd_log", "A log: payloads that are groups of batches, and what its disk holds.", ["Groups", "State"], False),
     ("gd_words", "The command line: which words give which command.", ["Options", "Words"], False),
-    ("gd_served_laws", "One thread: what a line comes to over the store, and runs that are served line by line.", ["Step", "Served"], False),
-    ("gd_serving", "What contracts see of a run over a log, and what a round comes to.", ["Running", "Rounds"], False),
+    ("gd_core_laws", "Lines that are served through the core, one after another on one thread.", ["Serve"], False),
+    ("gd_rounds", "What contracts see of a run that is served through the core, and what a round comes to.", ["Served", "Rounds"], False),
     ("gd_top", "The top call: which words it takes, what it finds in a file and leaves there, what it prints for its input, and how it ends.", ["Words", "Held", "Kept", "Serves", "Ends"], False),
 ]
 

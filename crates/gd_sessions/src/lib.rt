@@ -2,6 +2,8 @@
 #![tactic(auto)]
 
 mod held;
+pub mod line_reply;
 mod lines;
 pub mod running;
+mod serving;
 mod writing;

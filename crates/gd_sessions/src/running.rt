@@ -21,6 +21,8 @@ ghost use Rattle.gd_replay_laws.specs.Built.{Takes, IsUnbuilt};
 ghost use Rattle.gd_sessions.specs.Held.{session_view, sessions_of};
 ghost use Rattle.gd_sessions.specs.Running.{core_state, StandsForState, Answers, OrMemory, MayTake, GoesBy};
 
+mod served;
+
 use crate::held::Held;
 use crate::lines::{memory_line, said, unbuilt_line};
 use crate::writing;
@@ -37,7 +39,7 @@ use std::marker::Model;
 use std::sync::Wait;
 
 /// How many sessions there are, counted from 0.
-const SESSIONS: u32 = 64;
+pub(crate) const SESSIONS: u32 = 64;
 
 /// A core that is open, on one thread: what is stored, how much of it is shown, the write in doubt, and what each session
 /// has seen and reads. It is ended by `close` alone. Contracts see its write side and its sessions, and by `core_state` the

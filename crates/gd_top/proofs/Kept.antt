@@ -1,17 +1,17 @@
 -- What is kept of a file.
-use Rattle.std.proofs.Common.{◌≡◌, ℕ, List, [], ◌∷◌, ◌++◌, Option, Some, None, refl, sym, subst, ap, ◌∙◌, inl, inr, ⊎_elim, append-nil, append_assoc}
+use Rattle.std.proofs.Common.{◌≡◌, ℕ, List, [], ◌∷◌, ◌++◌, map, Option, Some, None, refl, sym, subst, ap, ◌∙◌, inl, inr, ⊎_elim, append-nil, append_assoc}
 use Rattle.std.specs.Prelude.{IsSome}
-use Rattle.std.specs.Option.{ForSome}
+use Rattle.std.specs.Option.{ForSome, is_some}
 use Rattle.gd_prim.specs.declared.Batch.{Batch}
 use Rattle.gd_bytes.specs.Disk.{HoldsSame}
 use Rattle.gd_bytes.specs.File.{Meaning, not_store, damaged, groups, meaning, StandsFor}
 use Rattle.gd_runs.proofs.Rounds.{some_same}
-use Rattle.gd_served_laws.specs.Served.{Progress, Doubt, Grows}
-use Rattle.gd_serving.specs.Running.{Running, StandsForRun, IsBacked}
-use Rattle.gd_journal.specs.State.{Journaled}
-use Rattle.gd_log.specs.State.{IsHeld}
+use Rattle.gd_runs.specs.Legal.{Entry, batches}
+use Rattle.gd_runs.specs.Core.{State}
 use Rattle.gd_log.specs.Opening.{IsReadSame, IsKept}
-use Rattle.gd_top.proofs.Settled.{backed, backed_first, told}
+use Rattle.gd_writer.specs.Parts.{Tells}
+use Rattle.gd_sessions.specs.Running.{StandsForState}
+use Rattle.gd_top.proofs.Settled.{told_on, some_tells}
 use Rattle.gd_top.specs.Kept.{IsLeft, Keeps}
 
 some_told : (now : Option (List ℕ)) (file : List ℕ) → now ≡ Some file → IsSome now
@@ -37,39 +37,39 @@ no_store gs e = cc
 no_damage : (at : ℕ) (gs : List (List Batch)) → damaged at ≡ groups gs → ⊥
 no_damage at gs e = cc
 
--- what stands for a run that has grown from the batches of a file is left of it
-left_of_run : (file : List ℕ) (bs : List Batch) (p : Progress) → StandsFor file bs → Grows bs p.batches → (c : List ℕ) → StandsForRun p c → IsLeft file c
-left_of_run file bs p stands (more, grown) c now = by p.doubt now
+-- what stands for a core that began with the batches of a file is left of it
+left_of_core : (file : List ℕ) (bs : List Batch) (s : State) → StandsFor file bs → s.history.loaded ≡ bs → (c : List ℕ) → StandsForState s c → IsLeft file c
+left_of_core file bs s stands is c now = by s.doubt now
   where
-    by : (d : Option Doubt) → StandsForRun (record { batches = p.batches; lines = p.lines; kept = p.kept; doubt = d }) c → IsLeft file c
-    by None now = inr (bs, more, stands, subst (StandsFor c) grown now)
-    by (Some d) now = ⊎_elim
-        (λ old. inr (bs, more, stands, subst (StandsFor c) grown old))
-        (λ new. inr (bs, more ++ d.batch ∷ [], stands, subst (StandsFor c) (ap (λ (l : List Batch). l ++ d.batch ∷ []) grown ∙ append_assoc bs more (d.batch ∷ [])) new)) now
+    more : List Batch
+    more = map (λ (e : Entry). e.batch) s.history.entries
 
--- where it was opened
-keeps_opened : {D : Type 0} (content : D → Option (List ℕ)) (images : D → List ℕ → Type 0) → ((disk : D) (file : List ℕ) → content disk ≡ Some file → images disk file)
-    → (old new : D) (bs : List Batch) (p : Progress) → ForSome (content old) (λ file. StandsFor file bs) → Grows bs p.batches → ForSome (content old) (λ file. IsSome (content new) × ((c : List ℕ) → images new c → StandsForRun p c))
-    → Keeps (content old) (content new) (images old) (images new)
-keeps_opened content images reads old new bs p stands grown backed file is = record {
-  told = (backed file is).0;
-  read = λ later now. left_of_run file bs p (stands file is) grown later ((backed file is).1 later (reads new later now));
-  images = λ c now. (file, reads old file is, left_of_run file bs p (stands file is) grown c ((backed file is).1 c now));
-  not_store = λ means. absurd (sound file bs not_store (stands file is) means no_store);
-  damaged = λ at means. absurd (sound file bs (damaged at) (stands file is) means (no_damage at));
-}
+    grown : batches s.history ≡ bs ++ more
+    grown = ap (λ (l : List Batch). l ++ more) is
+
+    by : (d : Option Entry) → StandsForState (record s { doubt = d }) c → IsLeft file c
+    by None now = inr (bs, more, stands, subst (StandsFor c) grown now)
+    by (Some e) now = ⊎_elim
+        (λ old. inr (bs, more, stands, subst (StandsFor c) grown old))
+        (λ new. inr (bs, more ++ e.batch ∷ [], stands, subst (StandsFor c) (ap (λ (l : List Batch). l ++ e.batch ∷ []) grown ∙ append_assoc bs more (e.batch ∷ [])) new)) now
+
+told_is : (told : Option (List ℕ)) (file : List ℕ) → told ≡ Some file → Tells told
+told_is told file is = rw is refl
 
 -- a run over a store that was just opened, at its end
 pub keeps_run : {D : Type 0} (content : D → Option (List ℕ)) (images : D → List ℕ → Type 0) → ((disk : D) (file : List ℕ) → content disk ≡ Some file → images disk file)
-    → (first last : D) (log : Journaled D) (store : List Batch) (old new : Running D) → old.log ≡ log → old.progress ≡ record { batches = store; lines = 0; kept = 0; doubt = None } → log.doubt ≡ None
-    → ForSome (content first) (λ file. StandsFor file store) → ForSome (content first) (λ file. IsHeld (content log.disk) (images log.disk) log.gate store)
-    → (IsBacked content images old → IsBacked content images new) → Grows old.progress.batches new.progress.batches → last ≡ new.log.disk → Keeps (content first) (content last) (images first) (images last)
-keeps_run {D} content images reads first last log store old new log_is progress_is sure stands held keeps grown same =
-    keeps_opened content images reads first last store new.progress stands (subst (λ (p : Progress). Grows p.batches new.progress.batches) progress_is grown)
-    (λ file is. let now = keeps (backed_first content images old log store log_is progress_is sure (held file is)) in (
-      subst (λ (d : D). IsSome (content d)) (sym same) (told content images new now),
-      λ c left. backed content images new now c (subst (λ (d : D). images d c) same left),
-    ))
+    → (first last : D) (loaded : List Batch) (s : State) → ForSome (content first) (λ file. StandsFor file loaded) → s.history.loaded ≡ loaded → is_some (content last) ≡ is_some (content first)
+    → (Tells (content last) → (c : List ℕ) → images last c → StandsForState s c) → Keeps (content first) (content last) (images first) (images last)
+keeps_run content images reads first last loaded s means begun same holds file is =
+    let tells : Tells (content last) = told_on (content first) (content last) same (told_is (content first) file is) in
+    let stands : StandsFor file loaded = means file is in
+    record {
+      told = some_tells (content last) tells;
+      read = λ later now. left_of_core file loaded s stands begun later (holds tells later (reads last later now));
+      images = λ c now. (file, reads first file is, left_of_core file loaded s stands begun c (holds tells c now));
+      not_store = λ none. absurd (sound file loaded not_store stands none no_store);
+      damaged = λ at none. absurd (sound file loaded (damaged at) stands none (no_damage at));
+    }
 
 -- what reads the same is left
 left_of_same : (before after : List ℕ) → IsReadSame before after → IsLeft before after

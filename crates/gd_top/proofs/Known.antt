@@ -8,7 +8,11 @@ use Rattle.gd_input.specs.declared.round.Round.{Round}
 use Rattle.gd_input.specs.Held.{Held, IsBounded}
 use Rattle.gd_input.specs.Pieces.{Known, Advances}
 use Rattle.gd_input.specs.Rounds.{AreKept, TakesRound}
-use Rattle.gd_served_laws.specs.Served.{Progress}
+use Rattle.gd_prim.specs.Builtin.{builtin}
+use Rattle.gd_prim.specs.WellFormed.{all_follow}
+use Rattle.gd_runs.specs.Core.{State, opened}
+use Rattle.gd_sessions.specs.Running.{core_state}
+use Rattle.gd_rounds.specs.Served.{RoundsValue}
 use Rattle.gd_input.specs.declared.fault.InputFault.{InputFault}
 use Rattle.gd_input.specs.declared.fault.InputFault.TheVariants as input
 use Rattle.gd_top.specs.declared.stop.Stop.{Stop}
@@ -18,53 +22,53 @@ use Rattle.gd_top.specs.Held.{HoldsAs, IsAtStart, RoseBy}
 use Rattle.gd_top.specs.Serves.{Serves, ServesFront, ServesRounds, Answers, AnswersFront, ServedUpto}
 use Rattle.gd_top.proofs.Served.{served_none, served_more, served_all, served_rounds, front_of_rounds, front_in_round}
 
-module _ (loaded : List Batch) (may now : ℕ → Bool) (same : now ≡ may) (old mid new : Option (List ℕ)) (a b c : ℕ) (p q : Progress) where
-  moved : (taken : Round) (lines : List RoundLine) → lines ≡ taken.lines.items → ((texts : List (List ℕ)) → AreKept lines texts → Answers now p q texts mid new b c)
-      → (texts : List (List ℕ)) → AreKept taken.lines.items texts → Answers may p q texts mid new b c
-  moved taken lines is answers texts kept = subst (λ (m : ℕ → Bool). Answers m p q texts mid new b c) same (answers texts (subst (λ (ls : List RoundLine). AreKept ls texts) (sym is) kept))
+module _ (loaded : List Batch) (may now : ℕ → Bool) (follow : all_follow builtin 0 loaded ≡ true) (same : now ≡ may) (old mid new : Option (List ℕ)) (a b c : ℕ) (s : State) (k : ℕ) (t : State) (n : ℕ) where
+  moved : (taken : Round) (lines : List RoundLine) → lines ≡ taken.lines.items → ((texts : List (List ℕ)) → AreKept lines texts → Answers now s k t n texts mid new b c)
+      → (texts : List (List ℕ)) → AreKept taken.lines.items texts → Answers may s k t n texts mid new b c
+  moved taken lines is answers texts kept = subst (λ (m : ℕ → Bool). Answers m s k t n texts mid new b c) same (answers texts (subst (λ (ls : List RoundLine). AreKept ls texts) (sym is) kept))
 
   -- one round more
-  pub more_known : (x y z : Option (List ℕ)) (taken : Round) (lines : List RoundLine) → lines ≡ taken.lines.items → Known x y (ServedUpto loaded may old mid a b p) → Known y z (TakesRound taken)
-      → ((texts : List (List ℕ)) → AreKept lines texts → Answers now p q texts mid new b c) → Known x z (ServedUpto loaded may old new a c q)
+  pub more_known : (x y z : Option (List ℕ)) (taken : Round) (lines : List RoundLine) → lines ≡ taken.lines.items → Known x y (ServedUpto loaded may old mid a b s k) → Known y z (TakesRound taken)
+      → ((texts : List (List ℕ)) → AreKept lines texts → Answers now s k t n texts mid new b c) → Known x z (ServedUpto loaded may old new a c t n)
   more_known None y z taken lines is upto takes answers = tt
   more_known (Some x) None z taken lines is upto takes answers = absurd upto
   more_known (Some x) (Some y) None taken lines is upto takes answers = absurd takes
-  more_known (Some x) (Some y) (Some z) taken lines is upto takes answers = served_more loaded may old mid new a b c p q x y z taken upto takes (moved taken lines is answers)
+  more_known (Some x) (Some y) (Some z) taken lines is upto takes answers = served_more loaded may old mid new a b c s k t n x y z taken upto takes (moved taken lines is answers)
 
   -- the last one
-  pub done_known : (x y z : Option (List ℕ)) (taken : Round) (lines : List RoundLine) → lines ≡ taken.lines.items → Known x y (ServedUpto loaded may old mid a b p) → Known y z (TakesRound taken)
-      → ((texts : List (List ℕ)) → AreKept lines texts → Answers now p q texts mid new b c) → taken.ended ≡ true → IfSome x (Serves may (λ l. l ≡ loaded) (HoldsAs may q) (RoseBy a c) old new)
+  pub done_known : (x y z : Option (List ℕ)) (taken : Round) (lines : List RoundLine) → lines ≡ taken.lines.items → Known x y (ServedUpto loaded may old mid a b s k) → Known y z (TakesRound taken)
+      → ((texts : List (List ℕ)) → AreKept lines texts → Answers now s k t n texts mid new b c) → taken.ended ≡ true → IfSome x (Serves may (λ l. l ≡ loaded) (HoldsAs may t) (RoseBy a c) old new)
   done_known None y z taken lines is upto takes answers ended = tt
   done_known (Some x) None z taken lines is upto takes answers ended = absurd upto
   done_known (Some x) (Some y) None taken lines is upto takes answers ended = absurd takes
   done_known (Some x) (Some y) (Some z) taken lines is upto takes answers ended =
-      served_all loaded may old new a c q x z (served_more loaded may old mid new a b c p q x y z taken upto takes (moved taken lines is answers)) (takes.ended ended)
+      served_all loaded may follow old new a c t n x z (served_more loaded may old mid new a b c s k t n x y z taken upto takes (moved taken lines is answers)) (takes.ended ended)
 
   -- a part of one
-  pub part_known : (x y z : Option (List ℕ)) (taken : Round) (lines : List RoundLine) → lines ≡ taken.lines.items → Known x y (ServedUpto loaded may old mid a b p) → Known y z (TakesRound taken)
-      → ((texts : List (List ℕ)) → AreKept lines texts → AnswersFront now p q texts mid new b c) → IfSome x (ServesFront may (λ l. l ≡ loaded) (HoldsAs may q) (RoseBy a c) old new)
+  pub part_known : (x y z : Option (List ℕ)) (taken : Round) (lines : List RoundLine) → lines ≡ taken.lines.items → Known x y (ServedUpto loaded may old mid a b s k) → Known y z (TakesRound taken)
+      → ((texts : List (List ℕ)) → AreKept lines texts → AnswersFront now s k t texts mid new b c) → IfSome x (ServesFront may (λ l. l ≡ loaded) (HoldsAs may t) (RoseBy a c) old new)
   part_known None y z taken lines is upto takes fronts = tt
   part_known (Some x) None z taken lines is upto takes fronts = absurd upto
   part_known (Some x) (Some y) None taken lines is upto takes fronts = absurd takes
-  part_known (Some x) (Some y) (Some z) taken lines is upto takes fronts = front_in_round loaded may old mid new a b c p q x y z taken upto takes
-      (λ texts kept. subst (λ (m : ℕ → Bool). AnswersFront m p q texts mid new b c) same (fronts texts (subst (λ (ls : List RoundLine). AreKept ls texts) (sym is) kept)))
+  part_known (Some x) (Some y) (Some z) taken lines is upto takes fronts = front_in_round loaded may follow old mid new a b c s k t x y z taken upto takes
+      (λ texts kept. subst (λ (m : ℕ → Bool). AnswersFront m s k t texts mid new b c) same (fronts texts (subst (λ (ls : List RoundLine). AreKept ls texts) (sym is) kept)))
 
-module _ (loaded : List Batch) (may : ℕ → Bool) (old new : Option (List ℕ)) (a b : ℕ) (p : Progress) where
+module _ (loaded : List Batch) (may : ℕ → Bool) (follow : all_follow builtin 0 loaded ≡ true) (old new : Option (List ℕ)) (a b : ℕ) (s : State) (k : ℕ) where
   -- whole rounds
-  pub rounds_known : (x y : Option (List ℕ)) → Known x y (ServedUpto loaded may old new a b p) → IfSome x (ServesRounds may (λ l. l ≡ loaded) (HoldsAs may p) (RoseBy a b) old new)
+  pub rounds_known : (x y : Option (List ℕ)) → Known x y (ServedUpto loaded may old new a b s k) → IfSome x (ServesRounds may (λ l. l ≡ loaded) (HoldsAs may s) (RoseBy a b) old new)
   rounds_known None y upto = tt
   rounds_known (Some x) None upto = absurd upto
-  rounds_known (Some x) (Some y) upto = served_rounds loaded may old new a b p x y upto
+  rounds_known (Some x) (Some y) upto = served_rounds loaded may follow old new a b s k x y upto
 
-  pub front_known : (x y : Option (List ℕ)) → Known x y (ServedUpto loaded may old new a b p) → IfSome x (ServesFront may (λ l. l ≡ loaded) (HoldsAs may p) (RoseBy a b) old new)
+  pub front_known : (x y : Option (List ℕ)) → Known x y (ServedUpto loaded may old new a b s k) → IfSome x (ServesFront may (λ l. l ≡ loaded) (HoldsAs may s) (RoseBy a b) old new)
   front_known None y upto = tt
   front_known (Some x) None upto = absurd upto
-  front_known (Some x) (Some y) upto = front_of_rounds loaded may old new a b p x y upto
+  front_known (Some x) (Some y) upto = front_of_rounds loaded may follow old new a b s k x y upto
 
 -- before the first round
-start_known : (may : ℕ → Bool) (held : Option (List ℕ)) (n : ℕ) (p : Progress) (x : Option (List ℕ)) → IsAtStart p → Known x (prepend_known [] x) (ServedUpto p.batches may held held n n p)
-start_known may held n p None start = tt
-start_known may held n p (Some x) start = served_none may held n p x start.none (start.served may)
+start_known : (loaded : List Batch) (may : ℕ → Bool) (held : Option (List ℕ)) (n : ℕ) (s : State) (k : ℕ) (x : Option (List ℕ)) → k ≡ 0 → s ≡ opened loaded → Known x (prepend_known [] x) (ServedUpto loaded may held held n n s k)
+start_known loaded may held n s k None none is = tt
+start_known loaded may held n s k (Some x) none is = served_none loaded may held n s k x none is
 
 -- nothing was taken yet
 pub advances_none : (a : Option (List ℕ)) → Advances a (prepend_known [] a) 0 0
@@ -90,15 +94,16 @@ too_much_is input.TooMuch why is same = refl
 too_much_is input.Memory why is same = cc
 
 -- the start of the loop
-pub record Begun (may : ℕ → Bool) (held : Option (List ℕ)) (n : ℕ) (p : Progress) (reader : Held) (a : Option (List ℕ)) : Type 0 where
-  pub upto : Known a (prepend_known reader.bytes a) (ServedUpto p.batches may held held n n p)
+pub record Begun (loaded : List Batch) (may : ℕ → Bool) (held : Option (List ℕ)) (n : ℕ) (s : State) (k : ℕ) (reader : Held) (a : Option (List ℕ)) : Type 0 where
+  pub upto : Known a (prepend_known reader.bytes a) (ServedUpto loaded may held held n n s k)
   pub advances : Advances a (prepend_known reader.bytes a) 0 reader.consumed
-  pub counted : p.lines ≤ 256 * reader.consumed
+  pub counted : k ≤ 256 * reader.consumed
   pub bounded : IsBounded reader
 
-pub begun : (may : ℕ → Bool) (held : Option (List ℕ)) (n : ℕ) (p : Progress) (reader : Held) (a : Option (List ℕ)) → reader ≡ record { bytes = []; consumed = 0 } → IsAtStart p → Begun may held n p reader a
-begun may held n p reader a new start = subst (λ (r : Held). Begun may held n p r a) (sym new) (record {
-  upto = start_known may held n p a start;
+pub begun : {D C : Type 0} (may : ℕ → Bool) (held : Option (List ℕ)) (n : ℕ) (r : RoundsValue D C) (reader : Held) (a : Option (List ℕ)) → reader ≡ record { bytes = []; consumed = 0 } → IsAtStart r
+    → Begun r.core.side.history.loaded may held n (core_state r.core) r.lines reader a
+begun may held n r reader a new start = subst (λ (h : Held). Begun r.core.side.history.loaded may held n (core_state r.core) r.lines h a) (sym new) (record {
+  upto = start_known r.core.side.history.loaded may held n (core_state r.core) r.lines a start.none start.opened;
   advances = advances_none a;
   counted = omega (arith, start.none);
   bounded = record { buffered = omega arith; taken = omega arith };

@@ -1,5 +1,4 @@
 pub mod Printed
-pub mod Counted
 pub mod Settled
 pub mod Kept
 pub mod Served

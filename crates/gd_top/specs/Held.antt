@@ -1,13 +1,17 @@
 -- What a run finds in the file of its store, and what it leaves there.
-use Rattle.std.specs.Prelude.{◌≡◌, ℕ, List, [], Bool, Option, None, Some, IsSome, IsSomeAnd, option_and_then}
+use Rattle.std.specs.Prelude.{◌≡◌, ℕ, List, [], Bool, true, Option, None, Some, IsSome, IsSomeAnd, option_and_then}
 use Rattle.std.specs.Option.{ForSome}
 use Rattle.gd_prim.specs.declared.Batch.{Batch}
 use Rattle.gd_bytes.specs.File.{Meaning, meaning, StandsFor}
+use Rattle.gd_prim.specs.Builtin.{builtin}
+use Rattle.gd_prim.specs.WellFormed.{all_follow}
+use Rattle.gd_runs.specs.Core as core
+use Rattle.gd_runs.specs.Core.{State}
 use Rattle.gd_runs.specs.Legal.{History}
 use Rattle.gd_runs.specs.Explained.{Run, Holds}
-use Rattle.gd_served_laws.specs.Served.{Progress, IsServed}
-use Rattle.gd_serving.specs.Running.{StandsForRun}
-pub use Rattle.gd_serving.specs.Rounds.{RoseBy}
+use Rattle.gd_sessions.specs.Running.{core_state, StandsForState}
+use Rattle.gd_rounds.specs.Served.{RoundsValue}
+pub use Rattle.gd_rounds.specs.Rounds.{RoseBy}
 
 -- ---- one file, whose content is told or not
 
@@ -55,16 +59,12 @@ IsSoundAt content (Some path) = IsSomeAnd (content path) (λ file. (bs : List Ba
 
 -- ---- on the way
 
--- what stands for the progress of a run stands for this history, with or without the one write that is in doubt
-abbrev pub HoldsAs : (ℕ → Bool) → Progress → History → List Run → Type 0
-HoldsAs may p h runs = Holds may h runs (StandsForRun p)
+-- what stands for a state of the core stands for this history, with or without the one write that is in doubt
+abbrev pub HoldsAs : (ℕ → Bool) → State → History → List Run → Type 0
+HoldsAs may s h runs = Holds may h runs (StandsForState s)
 
--- two progresses have the same batches, and the same write in doubt
-pub record SameStore (p q : Progress) : Type 0 where
-  pub stored : q.batches ≡ p.batches
-  pub doubted : q.doubt ≡ p.doubt
-
--- the run is before its first line
-pub record IsAtStart (p : Progress) : Type 0 where
-  pub none : p.lines ≡ 0
-  pub served : (may : ℕ → Bool) → IsServed p.batches may [] [] p
+-- the run is before its first line, over a store that was just opened, whose batches may follow one another
+pub record IsAtStart {D C : Type 0} (r : RoundsValue D C) : Type 0 where
+  pub none : r.lines ≡ 0
+  pub opened : core_state r.core ≡ core.opened r.core.side.history.loaded
+  pub follow : all_follow builtin 0 r.core.side.history.loaded ≡ true

@@ -1,6 +1,7 @@
 pub mod Ends
 pub mod Held
 pub mod Kept
+pub mod Late
 pub mod Lines
 pub mod Serves
 pub mod Stops

@@ -1,12 +1,14 @@
 -- What a run prints for its input.
-use Rattle.std.specs.Prelude.{◌≡◌, ℕ, ◌<◌, List, [], ◌++◌, length, Bool, Option, Some, slice_get}
+use Rattle.std.specs.Prelude.{◌≡◌, ℕ, ◌+◌, ◌<◌, List, [], ◌++◌, length, Bool, Option, Some, slice_get}
 use Rattle.std.specs.Io.KnownBytes.{Appends}
 use Rattle.gd_prim.specs.declared.Batch.{Batch}
 use Rattle.gd_runs.specs.Legal.{History}
 use Rattle.gd_runs.specs.Explained.{Numbered, Run, pieces, numbered, lines_of, lines_within, IsExplainedBy, fault_count, faults_told}
-use Rattle.gd_served_laws.specs.Served.{Progress, IsServed}
-pub use Rattle.gd_serving.specs.Rounds.{printed}
-use Rattle.gd_serving.specs.Rounds.{Answered}
+use Rattle.gd_runs.specs.Owed.{MembersOf}
+use Rattle.gd_runs.specs.Core.{State, opened}
+use Rattle.gd_core_laws.specs.Serve.{LinesServed}
+pub use Rattle.gd_rounds.specs.Rounds.{printed}
+use Rattle.gd_rounds.specs.Rounds.{Answered}
 use Rattle.gd_top.specs.Held.{RoseBy}
 
 -- One legal history explains this output for these lines. It begins with a list that the run may begin with, its moments are such as the clock may give, what it leaves in the file stands for it, and the count of faults rose by the lines that tell one.
@@ -48,26 +50,28 @@ pub record GainsFront (old new : Option (List ℕ)) (whole : List ℕ) : Type 0 
   pub parts : piece ++ rest ≡ whole
   pub gained : Appends old new piece
 
--- The run went on with these lines of a round, and the sink gained what is printed for them.
-pub record Answers (may : ℕ → Bool) (p q : Progress) (texts : List (List ℕ)) (old new : Option (List ℕ)) (before after : ℕ) : Type 0 where
+-- The core went through these lines of a round, the first of them line k, from one state to another, the next line is line n, and the sink gained what is printed for them.
+pub record Answers (may : ℕ → Bool) (s : State) (k : ℕ) (t : State) (n : ℕ) (texts : List (List ℕ)) (old new : Option (List ℕ)) (before after : ℕ) : Type 0 where
   pub replies : List (List ℕ)
-  pub answered : Answered may p q texts replies before after
+  pub answered : Answered may s k t texts replies before after
+  pub next : n ≡ k + length replies
   pub gained : Appends old new (printed replies)
 
--- The run went on with these lines of a round, and the sink gained a front of what is printed for them.
-pub record AnswersFront (may : ℕ → Bool) (p q : Progress) (texts : List (List ℕ)) (old new : Option (List ℕ)) (before after : ℕ) : Type 0 where
+-- The core went through these lines of a round, and the sink gained a front of what is printed for them.
+pub record AnswersFront (may : ℕ → Bool) (s : State) (k : ℕ) (t : State) (texts : List (List ℕ)) (old new : Option (List ℕ)) (before after : ℕ) : Type 0 where
   pub replies : List (List ℕ)
-  pub answered : Answered may p q texts replies before after
+  pub answered : Answered may s k t texts replies before after
   pub front : GainsFront old new (printed replies)
 
--- Before what is left of the input stand whole rounds: the run was served with their lines, the sink gained what was printed for them, and the faults that it tells were counted.
-pub record ServedUpto (loaded : List Batch) (may : ℕ → Bool) (old new : Option (List ℕ)) (before after : ℕ) (p : Progress) (input left : List ℕ) : Type 0 where
+-- Before what is left of the input stand whole rounds: the core was opened and has gone through their lines, the next of which is line k, the sink gained what was printed for them, and the faults that it tells were counted.
+pub record ServedUpto (loaded : List Batch) (may : ℕ → Bool) (old new : Option (List ℕ)) (before after : ℕ) (s : State) (k : ℕ) (input left : List ℕ) : Type 0 where
   pub round : ℕ
   pub given : List Numbered
   pub replies : List (List ℕ)
   pub lines : lines_of input ≡ given ++ numbered round 0 (pieces [] left)
-  pub earlier : (k : ℕ) (l : Numbered) → slice_get given k ≡ Some l → l.round < round
-  pub served : IsServed loaded may given (printed replies) p
-  pub many : p.lines ≡ length replies
+  pub earlier : (i : ℕ) (l : Numbered) → slice_get given i ≡ Some l → l.round < round
+  pub served : (members : MembersOf) → LinesServed members may (opened loaded) 0 given (printed replies) s
+  pub many : k ≡ length replies
+  pub each : length replies ≡ length given
   pub gained : Appends old new (printed replies)
   pub rose : RoseBy before after (fault_count 0 replies)

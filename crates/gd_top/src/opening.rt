@@ -1,10 +1,10 @@
 //! The store is opened, and a run is served over it.
 ghost use Rattle.std.specs.Prelude.{◌≡◌, ◌≢◌, ◌≤◌, ◌^◌, ℕ, List, false, [], length, IfSome};
+ghost use Rattle.std.specs.Option.{is_some};
 ghost use Rattle.gd_base.specs.Counts.{Rose};
 ghost use Rattle.gd_bytes.specs.Disk.{HoldsSame};
 ghost use Rattle.gd_top.specs.Ends.{IsIdle, Prints, Causes};
-ghost use Rattle.gd_served_laws.specs.Served.{Grows};
-ghost use Rattle.gd_serving.specs.Running.{IsBacked};
+ghost use Rattle.gd_sessions.specs.Running.{core_state};
 ghost use Rattle.gd_top.specs.Kept.{Keeps};
 ghost use Rattle.gd_top.specs.Held.{Loads, Leaves, MayMean, DoesMean, RoseBy, HoldsAs, IsAtStart};
 
@@ -14,35 +14,35 @@ use crate::steady::SteadyDisk;
 use gd_base::text::Text;
 use gd_disk::disk::Disk;
 use gd_disk::shelf::Shelf;
-use gd_log::opening::open_log;
 use gd_outside::clock::Clock;
 use gd_outside::sink::Sink;
 use gd_outside::source::Source;
-use gd_serving::serving::Serving;
+use gd_rounds::rounds::Rounds;
 use std::alloc::Global;
 use std::num::NonZeroU64;
+use std::sync::Wait;
 
 /// Serves the whole input, and says how that ended.
-fn serve_all<D: Disk, S: Source, K: Sink, C: Clock>(
+fn serve_all<R: Wait, D: Disk, S: Source, K: Sink, C: Clock>(
+    rt: &R,
     alloc: Global,
-    serving: &mut Serving<D>,
+    rounds: &mut Rounds<D, C>,
     source: &mut S,
     sink: &mut K,
-    clock: &mut C,
 ) -> Status
-    requires { IsAtStart serving.old.progress }
-    ensures prints { Prints result (C.may clock.old) (λ loaded. loaded ≡ serving.old.progress.batches)
-        (HoldsAs (C.may clock.old) serving.new.progress) (RoseBy (D.faults serving.old.log.disk) (D.faults serving.new.log.disk)) ⊥
+    requires { IsAtStart rounds.old }
+    ensures prints { Prints result (C.may rounds.old.core.side.clock) (λ loaded. loaded ≡ rounds.old.core.side.history.loaded)
+        (HoldsAs (C.may rounds.old.core.side.clock) (core_state rounds.new.core)) (RoseBy (D.faults rounds.old.core.side.log.disk) (D.faults rounds.new.core.side.log.disk)) ⊥
         (S.left source.old) (S.left source.new) (K.held sink.old) (K.held sink.new) }
     ensures causes { Causes result (Rose (S.faults source.old) (S.faults source.new))
         (Rose (K.faults sink.old) (K.faults sink.new)) ⊥
         (IfSome (S.left source.old) (λ input. 2 ^ 40 ≤ length input)) (λ _. ⊥) (λ _. ⊥) }
     ensures used { result ≢ Status.Usage }
-    ensures grows { Grows serving.old.progress.batches serving.new.progress.batches }
-    ensures backed { IsBacked D.content D.images serving.old → IsBacked D.content D.images serving.new }
-    ensures later { D.faults serving.old.log.disk ≤ D.faults serving.new.log.disk }
+    ensures loaded { rounds.new.core.side.history.loaded ≡ rounds.old.core.side.history.loaded }
+    ensures told { is_some (D.content rounds.new.core.side.log.disk) ≡ is_some (D.content rounds.old.core.side.log.disk) }
+    ensures later { D.faults rounds.old.core.side.log.disk ≤ D.faults rounds.new.core.side.log.disk }
 {
-    match serve_rounds(alloc, serving, source, sink, clock) {
+    match serve_rounds(rt, alloc, rounds, source, sink) {
         Ok(()) => Status::Done,
         Err(stop) => Status::of_stop(stop),
     }
@@ -50,15 +50,16 @@ fn serve_all<D: Disk, S: Source, K: Sink, C: Clock>(
 
 /// Opens the store that a disk holds, before the first line is read, and serves the whole input over it, its reads in
 /// slices of a budget of steps. The disk is handed back, however it ends.
-fn serve_over<D: Disk, S: Source, K: Sink, C: Clock>(
+fn serve_over<R: Wait, D: Disk, S: Source, K: Sink, C: Clock + Drop>(
+    rt: &R,
     alloc: Global,
     disk: D,
     budget: NonZeroU64,
     source: &mut S,
     sink: &mut K,
-    clock: &mut C,
+    clock: C,
 ) -> (Status, D)
-    ensures prints { Prints result.0 (C.may clock.old) (Loads (D.content disk)) (Leaves (C.may clock.old) (D.content disk) (D.images result.1))
+    ensures prints { Prints result.0 (C.may clock) (Loads (D.content disk)) (Leaves (C.may clock) (D.content disk) (D.images result.1))
         (RoseBy (D.faults disk) (D.faults result.1)) (IsIdle source.old source.new sink.old sink.new)
         (S.left source.old) (S.left source.new) (K.held sink.old) (K.held sink.new) }
     ensures causes { Causes result.0 (Rose (S.faults source.old) (S.faults source.new))
@@ -68,30 +69,31 @@ fn serve_over<D: Disk, S: Source, K: Sink, C: Clock>(
     ensures kept { Keeps (D.content disk) (D.content result.1) (D.images disk) (D.images result.1) }
     ensures later { D.faults disk ≤ D.faults result.1 }
 {
-    match open_log(alloc, disk) {
-        Ok((log, store)) => {
-            let mut serving = Serving::new(log, store, budget);
-            let status = serve_all(alloc, &mut serving, source, sink, clock);
-            (status, serving.into_disk())
+    match Rounds::start(rt, alloc, disk, clock, budget) {
+        Ok(mut rounds) => {
+            let status = serve_all(rt, alloc, &mut rounds, source, sink);
+            let (disk, _clock) = rounds.close(rt);
+            (status, disk)
         }
-        Err((fault, disk)) => (Status::of_store(fault), disk),
+        Err((fault, disk, _clock)) => (Status::of_store(fault), disk),
     }
 }
 
 /// Serves the whole input over the store that a path of a shelf holds. The device is put back, however it ends.
-pub fn serve_in_file<S: Source, K: Sink, F: Shelf, C: Clock>(
+pub fn serve_in_file<R: Wait, S: Source, K: Sink, F: Shelf, C: Clock + Drop>(
+    rt: &R,
     alloc: Global,
     path: &Text,
     budget: NonZeroU64,
     source: &mut S,
     sink: &mut K,
     shelf: &mut F,
-    clock: &mut C,
+    clock: C,
 ) -> Status
     requires { (other : List ℕ) → F.is_out shelf.old other ≡ false }
     ensures back { (other : List ℕ) → F.is_out shelf.new other ≡ false }
-    ensures prints { Prints result (C.may clock.old) (Loads (F.content shelf.old path.now))
-        (Leaves (C.may clock.old) (F.content shelf.old path.now) (F.images shelf.new path.now))
+    ensures prints { Prints result (C.may clock) (Loads (F.content shelf.old path.now))
+        (Leaves (C.may clock) (F.content shelf.old path.now) (F.images shelf.new path.now))
         (RoseBy (F.faults shelf.old) (F.faults shelf.new)) (IsIdle source.old source.new sink.old sink.new)
         (S.left source.old) (S.left source.new) (K.held sink.old) (K.held sink.new) }
     ensures causes { Causes result (Rose (S.faults source.old) (S.faults source.new))
@@ -106,7 +108,7 @@ pub fn serve_in_file<S: Source, K: Sink, F: Shelf, C: Clock>(
 {
     match shelf.open_at(path) {
         Ok(device) => {
-            let (status, device) = serve_over(alloc, device, budget, source, sink, clock);
+            let (status, device) = serve_over(rt, alloc, device, budget, source, sink, clock);
             shelf.put_back(path, device);
             status
         }
@@ -115,14 +117,15 @@ pub fn serve_in_file<S: Source, K: Sink, F: Shelf, C: Clock>(
 }
 
 /// Serves the whole input over an empty store that is kept in memory alone.
-pub fn serve_in_memory<S: Source, K: Sink, C: Clock>(
+pub fn serve_in_memory<R: Wait, S: Source, K: Sink, C: Clock + Drop>(
+    rt: &R,
     alloc: Global,
     budget: NonZeroU64,
     source: &mut S,
     sink: &mut K,
-    clock: &mut C,
+    clock: C,
 ) -> Status
-    ensures prints { Prints result (C.may clock.old) (λ loaded. loaded ≡ []) (λ _ _. Unit {0}) (RoseBy 0 0)
+    ensures prints { Prints result (C.may clock) (λ loaded. loaded ≡ []) (λ _ _. Unit {0}) (RoseBy 0 0)
         (IsIdle source.old source.new sink.old sink.new)
         (S.left source.old) (S.left source.new) (K.held sink.old) (K.held sink.new) }
     ensures causes { Causes result (Rose (S.faults source.old) (S.faults source.new))
@@ -132,7 +135,7 @@ pub fn serve_in_memory<S: Source, K: Sink, C: Clock>(
 {
     match SteadyDisk::new(alloc) {
         Ok(disk) => {
-            let (status, _disk) = serve_over(alloc, disk, budget, source, sink, clock);
+            let (status, _disk) = serve_over(rt, alloc, disk, budget, source, sink, clock);
             status
         }
         Err(_refused) => Status::Memory,

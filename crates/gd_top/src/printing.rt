@@ -2,14 +2,18 @@
 ghost use Rattle.std.specs.Prelude.{◌≡◌, ◌≤◌, ◌-◌, ◌∷◌, ◌++◌, [], ℕ, take, map, codes, decimal, OnOk, OnErr};
 ghost use Rattle.std.specs.Io.KnownBytes.{Appends};
 ghost use Rattle.gd_base.specs.Counts.{Rose};
-ghost use Rattle.gd_reply.specs.Replies.{failure_line, reply_text};
-ghost use Rattle.gd_serving.specs.Rounds.{printed, no_memory, reply_texts};
+ghost use Rattle.gd_reply.specs.Replies.{failure_line};
+ghost use Rattle.gd_runs.specs.Explained.{late_line};
+ghost use Rattle.gd_sessions.specs.Served.{line_text};
+ghost use Rattle.gd_rounds.specs.Rounds.{printed, no_memory, reply_texts};
+ghost use Rattle.gd_top.specs.Late.{late_front};
 ghost use Rattle.gd_top.specs.Serves.{GainsFront};
 
 use gd_outside::Failed;
 use gd_outside::sink::Sink;
-use gd_reply::reply::{Failure, Reply};
-use gd_serving::replies::Replies;
+use gd_reply::reply::Failure;
+use gd_rounds::replies::Replies;
+use gd_sessions::line_reply::LineReply;
 use itoa::Buffer;
 
 /// Writes all bytes.
@@ -66,23 +70,63 @@ fn print_failure<K: Sink>(sink: &mut K, failure: Failure, line: u64) -> Result<(
     Ok(())
 }
 
+/// Prints the number of an entry, and what stands between it and the number of its line.
+fn print_entry<K: Sink>(sink: &mut K, entry: u32) -> Result<(), Failed>
+    ensures all { OnOk result (Appends (K.held sink.old) (K.held sink.new) (decimal entry ++ codes "},\"line\":")) }
+    ensures front { OnErr result (GainsFront (K.held sink.old) (K.held sink.new) (decimal entry ++ codes "},\"line\":")) }
+    ensures failed { OnErr result (Rose (K.faults sink.old) (K.faults sink.new)) }
+    ensures later { K.faults sink.old ≤ K.faults sink.new }
+{
+    write_all(sink, Buffer::new().format(entry).as_bytes())?;
+    write_all(sink, b"},\"line\":")?;
+    Ok(())
+}
+
+/// Prints what stands before the number of the line where a write is stored and not shown yet.
+fn print_late_front<K: Sink>(sink: &mut K, entry: u32) -> Result<(), Failed>
+    ensures all { OnOk result (Appends (K.held sink.old) (K.held sink.new) (late_front entry)) }
+    ensures front { OnErr result (GainsFront (K.held sink.old) (K.held sink.new) (late_front entry)) }
+    ensures failed { OnErr result (Rose (K.faults sink.old) (K.faults sink.new)) }
+    ensures later { K.faults sink.old ≤ K.faults sink.new }
+{
+    write_all(
+        sink,
+        b"{\"code\":\"/api/status/error\",\"error\":\"MemoryLate\",\"info\":{\"entry\":",
+    )?;
+    print_entry(sink, entry)?;
+    Ok(())
+}
+
+/// Prints the line that tells that a write is this entry and not shown yet, and its newline. It takes no memory.
+fn print_late<K: Sink>(sink: &mut K, line: u64, entry: u32) -> Result<(), Failed>
+    ensures all { OnOk result (Appends (K.held sink.old) (K.held sink.new) (late_line line entry ++ 10 ∷ [])) }
+    ensures front { OnErr result (GainsFront (K.held sink.old) (K.held sink.new) (late_line line entry ++ 10 ∷ [])) }
+    ensures failed { OnErr result (Rose (K.faults sink.old) (K.faults sink.new)) }
+    ensures later { K.faults sink.old ≤ K.faults sink.new }
+{
+    print_late_front(sink, entry)?;
+    print_last_number(sink, line)?;
+    Ok(())
+}
+
 /// Prints a reply and its newline.
-fn print_reply<K: Sink>(sink: &mut K, reply: &Reply) -> Result<(), Failed>
-    ensures all { OnOk result (Appends (K.held sink.old) (K.held sink.new) (reply_text reply.now ++ 10 ∷ [])) }
-    ensures front { OnErr result (GainsFront (K.held sink.old) (K.held sink.new) (reply_text reply.now ++ 10 ∷ [])) }
+fn print_reply<K: Sink>(sink: &mut K, reply: &LineReply) -> Result<(), Failed>
+    ensures all { OnOk result (Appends (K.held sink.old) (K.held sink.new) (line_text reply.now ++ 10 ∷ [])) }
+    ensures front { OnErr result (GainsFront (K.held sink.old) (K.held sink.new) (line_text reply.now ++ 10 ∷ [])) }
     ensures failed { OnErr result (Rose (K.faults sink.old) (K.faults sink.new)) }
     ensures later { K.faults sink.old ≤ K.faults sink.new }
 {
     match reply {
-        Reply::Line(line) => print_line(sink, line),
-        Reply::Failed { failure, line } => print_failure(sink, *failure, *line),
+        LineReply::Line(line) => print_line(sink, line),
+        LineReply::Failed { failure, line } => print_failure(sink, *failure, *line),
+        LineReply::Late { line, entry } => print_late(sink, *line, *entry),
     }
 }
 
 /// Prints replies that were made, each with its newline.
-fn print_made<K: Sink>(sink: &mut K, replies: &[Reply]) -> Result<(), Failed>
-    ensures all { OnOk result (Appends (K.held sink.old) (K.held sink.new) (printed (map reply_text replies.now))) }
-    ensures front { OnErr result (GainsFront (K.held sink.old) (K.held sink.new) (printed (map reply_text replies.now))) }
+fn print_made<K: Sink>(sink: &mut K, replies: &[LineReply]) -> Result<(), Failed>
+    ensures all { OnOk result (Appends (K.held sink.old) (K.held sink.new) (printed (map line_text replies.now))) }
+    ensures front { OnErr result (GainsFront (K.held sink.old) (K.held sink.new) (printed (map line_text replies.now))) }
     ensures failed { OnErr result (Rose (K.faults sink.old) (K.faults sink.new)) }
     ensures later { K.faults sink.old ≤ K.faults sink.new }
 {

@@ -23,6 +23,7 @@ use gd_words::reader::command;
 use gd_words::verbs::Command;
 use std::alloc::Global;
 use std::num::NonZeroU64;
+use std::sync::Wait;
 
 /// How many steps a slice of a read may take: as many as the words say, and 1 where they said 0.
 fn slice_budget(steps: u32) -> NonZeroU64
@@ -36,20 +37,21 @@ fn slice_budget(steps: u32) -> NonZeroU64
 
 /// Serves the whole input over the store of a file, or, without one, over an empty store in memory. Reads go on in slices
 /// of a budget of steps.
-fn serve<S: Source, K: Sink, F: Shelf, C: Clock>(
+fn serve<R: Wait, S: Source, K: Sink, F: Shelf, C: Clock + Drop>(
+    rt: &R,
     alloc: Global,
     file: Option<&Text>,
     budget: NonZeroU64,
     source: &mut S,
     sink: &mut K,
     shelf: &mut F,
-    clock: &mut C,
+    clock: C,
 ) -> Status
     requires { (path : List ℕ) → F.is_out shelf.old path ≡ false }
     ensures back { (path : List ℕ) → F.is_out shelf.new path ≡ false }
     ensures prints { let path = option_map (λ t. t.now) file.entry in
-        Prints result (C.may clock.old) (BeginsWith (F.content shelf.old) path)
-        (EndsWith (C.may clock.old) (F.content shelf.old) (F.images shelf.new) path)
+        Prints result (C.may clock) (BeginsWith (F.content shelf.old) path)
+        (EndsWith (C.may clock) (F.content shelf.old) (F.images shelf.new) path)
         (RoseBy (F.faults shelf.old) (F.faults shelf.new)) (IsIdle source.old source.new sink.old sink.new)
         (S.left source.old) (S.left source.new) (K.held sink.old) (K.held sink.new) }
     ensures causes { let path = option_map (λ t. t.now) file.entry in
@@ -65,8 +67,8 @@ fn serve<S: Source, K: Sink, F: Shelf, C: Clock>(
         (F.images shelf.old other) (F.images shelf.new other) }
 {
     match file {
-        Some(path) => serve_in_file(alloc, path, budget, source, sink, shelf, clock),
-        None => serve_in_memory(alloc, budget, source, sink, clock),
+        Some(path) => serve_in_file(rt, alloc, path, budget, source, sink, shelf, clock),
+        None => serve_in_memory(rt, alloc, budget, source, sink, clock),
     }
 }
 
@@ -76,7 +78,8 @@ fn serve<S: Source, K: Sink, F: Shelf, C: Clock>(
 /// refusal. Where no memory is left for a reply, the reply line that says so is printed in its place; where the disk
 /// fails at a write, the line that says so. The sink is flushed at the end of each round. The status says how the run
 /// ended. The device of the file is put back on the shelf, however it ended.
-pub fn graphd<S: Source, K: Sink, F: Shelf, C: Clock + Drop>(
+pub fn graphd<R: Wait, S: Source, K: Sink, F: Shelf, C: Clock + Drop>(
+    rt: &R,
     alloc: Global,
     words: &[Text],
     source: &mut S,
@@ -154,16 +157,16 @@ pub fn graphd<S: Source, K: Sink, F: Shelf, C: Clock + Drop>(
         → IsSomeAnd (S.left source.old) (λ input. length input < 2 ^ 40)
         → (result ≡ Status.Done) ⊎ (result ≡ Status.Memory) }
 {
-    let mut clock = clock;
     match command(alloc, words) {
         Ok(Some(Command::Serve(settings))) => serve(
+            rt,
             alloc,
             settings.file.as_ref(),
             slice_budget(settings.budget),
             source,
             sink,
             shelf,
-            &mut clock,
+            clock,
         ),
         Ok(None) => Status::Usage,
         Err(_refused) => Status::Memory,

@@ -12,7 +12,7 @@ returns-in-Ok-clause-prints g c =
     let left = g.F.Shelf.images c.put_back.new.self c.args.path.now in
     let old = g.F.Shelf.faults c.args.shelf.now in
     let new = g.F.Shelf.faults c.put_back.new.self in
-    let may = g.C.Clock.may c.args.clock.now in
+    let may = g.C.Clock.may c.args.clock in
     prints_weaker may (Loads told) (Loads kept) (Leaves may told (g.F.Device.Disk.images c.serve_over-status.result.1)) (Leaves may kept left) (RoseBy before after) (RoseBy old new)
     (loads_same kept told c.in-Ok.ensures.holds.content)
     (leaves_same may kept told (g.F.Device.Disk.images c.serve_over-status.result.1) left c.in-Ok.ensures.holds.content c.put_back.ensures.holds.fewer)

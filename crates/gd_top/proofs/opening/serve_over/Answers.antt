@@ -1,29 +1,40 @@
-use Rattle.std.proofs.Common.{◌≡◌, ◌≤◌, subst, sym, ap, arith}
-use Rattle.gd_journal.specs.State.{Journaled}
+use Rattle.std.proofs.Common.{◌≡◌, ◌≤◌, ◌∙◌, ℕ, Bool, List, subst, sym, ap, arith}
+use Rattle.std.specs.Option.{is_some}
+use Rattle.gd_sessions.specs.Running.{core_state}
+use Rattle.gd_top.specs.Ends.{Prints}
 use Rattle.gd_top.specs.Held.{HoldsAs, Leaves, Loads, RoseBy}
 use Rattle.gd_top.proofs.Kept.{keeps_run, keeps_refused}
 use Rattle.gd_top.proofs.Settled.{loads, leaves}
 use Rattle.gd_top.proofs.Weaker.{prints_weaker, rose_within}
 use Rattle.gd_top.proofs.opening.serve_over.Goals as goal
 
+pub serve_all-status-requires : goal.serve_all-status-requires
+serve_all-status-requires g c = record { none = c.in-Ok.ensures.none; opened = c.in-Ok.ensures.opened; follow = c.in-Ok.ensures.follow }
+
 pub returns-in-Ok-clause-prints : goal.returns-in-Ok-clause-prints
 returns-in-Ok-clause-prints g c =
-    let told = g.D.Disk.content c.args.disk in
-    let last = c.serve_all-status.new.serving in
-    let may = g.C.Clock.may c.args.clock.now in
-    prints_weaker may (λ loaded. loaded ≡ c.new-serving.result.progress.batches) (Loads told) (HoldsAs may last.progress) (Leaves may told (g.D.Disk.images c.into_disk.result))
-    (RoseBy (g.D.Disk.faults c.new-serving.result.log.disk) (g.D.Disk.faults last.log.disk)) (RoseBy (g.D.Disk.faults c.args.disk) (g.D.Disk.faults c.into_disk.result))
-    (loads told c.in-Ok.store c.new-serving.result.progress c.new-serving.ensures.progress c.in-Ok.ensures.means)
-    (leaves may g.D.Disk.content g.D.Disk.images told c.in-Ok.log c.in-Ok.store c.new-serving.result last c.into_disk.result c.new-serving.ensures.log c.new-serving.ensures.progress c.in-Ok.ensures.no_doubt c.in-Ok.ensures.held
-    c.serve_all-status.ensures.backed c.into_disk.ensures)
-    (λ n. rose_within (g.D.Disk.faults c.new-serving.result.log.disk) (g.D.Disk.faults last.log.disk) (g.D.Disk.faults c.args.disk) (g.D.Disk.faults c.into_disk.result) n
-    (subst (λ (log : Journaled _). g.D.Disk.faults c.args.disk ≤ g.D.Disk.faults log.disk) (sym c.new-serving.ensures.log) c.in-Ok.ensures.later) (omega (arith, ap g.D.Disk.faults c.into_disk.ensures)))
-    c.serve_all-status.result ⊥ _ _ _ _ _ (λ e. absurd e) c.serve_all-status.ensures.prints
+    let d = g.D.Disk in
+    let first = c.in-Ok.rounds in
+    let last = c.serve_all-status.new.rounds in
+    let told = d.content c.args.disk in
+    let may = g.C.Clock.may c.args.clock in
+    let loaded = first.core.side.history.loaded in
+    let before = d.faults first.core.side.log.disk in
+    let after = d.faults last.core.side.log.disk in
+    prints_weaker may (λ l. l ≡ loaded) (Loads told) (HoldsAs may (core_state last.core)) (Leaves may told (d.images c.close-disk.result.0)) (RoseBy before after) (RoseBy (d.faults c.args.disk) (d.faults c.close-disk.result.0))
+    (loads told loaded c.in-Ok.ensures.begins.means)
+    (leaves may told (d.content c.close-disk.result.0) (d.images c.close-disk.result.0) (core_state last.core)
+    (ap (λ (pair : _ × _). is_some (d.content pair.0)) c.close-disk.ensures.parts ∙ (c.serve_all-status.ensures.told ∙ c.in-Ok.ensures.disk.told)) c.close-disk.ensures.holds)
+    (λ n. rose_within before after (d.faults c.args.disk) (d.faults c.close-disk.result.0) n c.in-Ok.ensures.disk.later (omega (arith, ap (λ (pair : _ × _). d.faults pair.0) c.close-disk.ensures.parts)))
+    c.serve_all-status.result ⊥ _ _ _ _ _ (λ e. absurd e)
+    (subst (λ (m : ℕ → Bool). Prints c.serve_all-status.result m (λ l. l ≡ loaded) (HoldsAs m (core_state last.core)) (RoseBy before after) ⊥ (g.S.Source.left c.args.source.now) (g.S.Source.left c.serve_all-status.new.source) (g.K.Sink.held c.args.sink.now) (g.K.Sink.held c.serve_all-status.new.sink)) c.in-Ok.ensures.begins.clock c.serve_all-status.ensures.prints)
 
 pub returns-in-Ok-clause-kept : goal.returns-in-Ok-clause-kept
 returns-in-Ok-clause-kept g c =
-    keeps_run g.D.Disk.content g.D.Disk.images g.met.D.Disk.reads_one c.args.disk c.into_disk.result c.in-Ok.log c.in-Ok.store c.new-serving.result c.serve_all-status.new.serving c.new-serving.ensures.log c.new-serving.ensures.progress
-    c.in-Ok.ensures.no_doubt c.in-Ok.ensures.means c.in-Ok.ensures.held c.serve_all-status.ensures.backed c.serve_all-status.ensures.grows c.into_disk.ensures
+    let d = g.D.Disk in
+    let last = c.serve_all-status.new.rounds in
+    keeps_run d.content d.images g.met.D.Disk.reads_one c.args.disk c.close-disk.result.0 c.in-Ok.rounds.core.side.history.loaded (core_state last.core) c.in-Ok.ensures.begins.means c.serve_all-status.ensures.loaded
+    (ap (λ (pair : _ × _). is_some (d.content pair.0)) c.close-disk.ensures.parts ∙ (c.serve_all-status.ensures.told ∙ c.in-Ok.ensures.disk.told)) c.close-disk.ensures.holds
 
 pub returns-in-Err-clause-kept : goal.returns-in-Err-clause-kept
-returns-in-Err-clause-kept g c = let d = g.D.Disk in keeps_refused d.content d.moment d.images d.images_since c.args.disk c.in-Err.disk c.in-Err.ensures.kept
+returns-in-Err-clause-kept g c = let d = g.D.Disk in keeps_refused d.content d.moment d.images d.images_since c.args.disk c.in-Err.disk c.in-Err.ensures.disk.kept

@@ -1,19 +1,19 @@
 use Rattle.std.proofs.Common.{◌^◌, ◌∙◌, refl, arith}
 use Rattle.std.specs.Io.KnownBytes.{prepend_known}
-use Rattle.gd_served_laws.proofs.Growing.{grows_none, grows_then}
+use Rattle.gd_sessions.specs.Running.{core_state}
 use Rattle.gd_top.proofs.Printed.{at_err}
 use Rattle.gd_top.proofs.Known.{more_known, done_known, part_known, rounds_known, front_known, taken_known, counted_on, input_too_much, begun}
 use Rattle.gd_top.proofs.rounds.serve_rounds.Goals as goal
 
 pub loop-round-init : goal.loop-round-init
 loop-round-init g c =
-    let start = begun (g.C.Clock.may c.args.clock.now) (g.K.Sink.held c.args.sink.now) (g.D.Disk.faults c.args.serving.now.log.disk) c.args.serving.now.progress c.new-reader.result (g.S.Source.left c.args.source.now) c.new-reader.ensures c.requires in
+    let start = begun (g.C.Clock.may c.args.rounds.now.core.side.clock) (g.K.Sink.held c.args.sink.now) (g.D.Disk.faults c.args.rounds.now.core.side.log.disk) c.args.rounds.now c.new-reader.result (g.S.Source.left c.args.source.now) c.new-reader.ensures c.requires in
     record {
       upto = start.upto;
       advances = start.advances;
       counted = start.counted;
-      grows = grows_none c.args.serving.now.progress.batches;
-      backed = λ held. held;
+      loaded = refl;
+      told = refl;
       clock = refl;
       bounded = start.bounded;
       source_later = omega arith;
@@ -23,20 +23,20 @@ loop-round-init g c =
 
 pub returns-in_err-round-clause-rounds : goal.returns-in_err-round-clause-rounds
 returns-in_err-round-clause-rounds g c is =
-    rounds_known c.args.serving.now.progress.batches (g.C.Clock.may c.args.clock.now) (g.K.Sink.held c.args.sink.now) (g.K.Sink.held c.loop-round.sink)
-    (g.D.Disk.faults c.args.serving.now.log.disk) (g.D.Disk.faults c.loop-round.serving.log.disk) c.loop-round.serving.progress (g.S.Source.left c.args.source.now)
+    rounds_known c.args.rounds.now.core.side.history.loaded (g.C.Clock.may c.args.rounds.now.core.side.clock) c.requires.follow (g.K.Sink.held c.args.sink.now) (g.K.Sink.held c.loop-round.sink)
+    (g.D.Disk.faults c.args.rounds.now.core.side.log.disk) (g.D.Disk.faults c.loop-round.rounds.core.side.log.disk) (core_state c.loop-round.rounds.core) c.loop-round.rounds.lines (g.S.Source.left c.args.source.now)
     (prepend_known c.loop-round.reader.bytes (g.S.Source.left c.loop-round.source)) c.loop-round.invariant.upto
 
 pub returns-in_err-round-clause-rounds_taken : goal.returns-in_err-round-clause-rounds_taken
 returns-in_err-round-clause-rounds_taken g c is =
-    rounds_known c.args.serving.now.progress.batches (g.C.Clock.may c.args.clock.now) (g.K.Sink.held c.args.sink.now) (g.K.Sink.held c.loop-round.sink)
-    (g.D.Disk.faults c.args.serving.now.log.disk) (g.D.Disk.faults c.loop-round.serving.log.disk) c.loop-round.serving.progress (g.S.Source.left c.args.source.now)
+    rounds_known c.args.rounds.now.core.side.history.loaded (g.C.Clock.may c.args.rounds.now.core.side.clock) c.requires.follow (g.K.Sink.held c.args.sink.now) (g.K.Sink.held c.loop-round.sink)
+    (g.D.Disk.faults c.args.rounds.now.core.side.log.disk) (g.D.Disk.faults c.loop-round.rounds.core.side.log.disk) (core_state c.loop-round.rounds.core) c.loop-round.rounds.lines (g.S.Source.left c.args.source.now)
     (prepend_known c.loop-round.reader.bytes (g.S.Source.left c.loop-round.source)) c.loop-round.invariant.upto
 
 pub returns-in_err-round-clause-front : goal.returns-in_err-round-clause-front
 returns-in_err-round-clause-front g c = at_err c.from_residual.result
-    (front_known c.args.serving.now.progress.batches (g.C.Clock.may c.args.clock.now) (g.K.Sink.held c.args.sink.now) (g.K.Sink.held c.loop-round.sink)
-    (g.D.Disk.faults c.args.serving.now.log.disk) (g.D.Disk.faults c.loop-round.serving.log.disk) c.loop-round.serving.progress (g.S.Source.left c.args.source.now)
+    (front_known c.args.rounds.now.core.side.history.loaded (g.C.Clock.may c.args.rounds.now.core.side.clock) c.requires.follow (g.K.Sink.held c.args.sink.now) (g.K.Sink.held c.loop-round.sink)
+    (g.D.Disk.faults c.args.rounds.now.core.side.log.disk) (g.D.Disk.faults c.loop-round.rounds.core.side.log.disk) (core_state c.loop-round.rounds.core) c.loop-round.rounds.lines (g.S.Source.left c.args.source.now)
     (prepend_known c.loop-round.reader.bytes (g.S.Source.left c.loop-round.source)) c.loop-round.invariant.upto)
 
 pub returns-in_err-round-clause-too_much : goal.returns-in_err-round-clause-too_much
@@ -47,37 +47,43 @@ returns-in_err-round-clause-too_much g c is =
 
 pub returns-in_err-answer_round-clause-front : goal.returns-in_err-answer_round-clause-front
 returns-in_err-answer_round-clause-front g c = at_err c.from_residual-in_err-answer_round.result
-    (part_known c.args.serving.now.progress.batches (g.C.Clock.may c.args.clock.now) (g.C.Clock.may c.loop-round.clock) c.loop-round.invariant.clock (g.K.Sink.held c.args.sink.now) (g.K.Sink.held c.loop-round.sink) (g.K.Sink.held c.answer_round.new.sink)
-    (g.D.Disk.faults c.args.serving.now.log.disk) (g.D.Disk.faults c.loop-round.serving.log.disk) (g.D.Disk.faults c.answer_round.new.serving.log.disk)
-    c.loop-round.serving.progress c.answer_round.new.serving.progress (g.S.Source.left c.args.source.now)
+    (part_known c.args.rounds.now.core.side.history.loaded (g.C.Clock.may c.args.rounds.now.core.side.clock) (g.C.Clock.may c.loop-round.rounds.core.side.clock) c.requires.follow c.loop-round.invariant.clock (g.K.Sink.held c.args.sink.now) (g.K.Sink.held c.loop-round.sink) (g.K.Sink.held c.answer_round.new.sink)
+    (g.D.Disk.faults c.args.rounds.now.core.side.log.disk) (g.D.Disk.faults c.loop-round.rounds.core.side.log.disk) (g.D.Disk.faults c.answer_round.new.rounds.core.side.log.disk)
+    (core_state c.loop-round.rounds.core) c.loop-round.rounds.lines (core_state c.answer_round.new.rounds.core) c.answer_round.new.rounds.lines (g.S.Source.left c.args.source.now)
     (prepend_known c.loop-round.reader.bytes (g.S.Source.left c.loop-round.source)) (prepend_known c.read_round.new.self.bytes (g.S.Source.left c.read_round.new.source))
     c.in_ok-round.round c.deref.result.now c.deref.ensures.value c.loop-round.invariant.upto c.in_ok-round.ensures.round c.in_err-answer_round.ensures.front)
 
 pub returns-then-round-clause-done : goal.returns-then-round-clause-done
 returns-then-round-clause-done g c =
-    done_known c.args.serving.now.progress.batches (g.C.Clock.may c.args.clock.now) (g.C.Clock.may c.loop-round.clock) c.loop-round.invariant.clock (g.K.Sink.held c.args.sink.now) (g.K.Sink.held c.loop-round.sink) (g.K.Sink.held c.answer_round.new.sink)
-    (g.D.Disk.faults c.args.serving.now.log.disk) (g.D.Disk.faults c.loop-round.serving.log.disk) (g.D.Disk.faults c.answer_round.new.serving.log.disk)
-    c.loop-round.serving.progress c.answer_round.new.serving.progress (g.S.Source.left c.args.source.now)
+    done_known c.args.rounds.now.core.side.history.loaded (g.C.Clock.may c.args.rounds.now.core.side.clock) (g.C.Clock.may c.loop-round.rounds.core.side.clock) c.requires.follow c.loop-round.invariant.clock (g.K.Sink.held c.args.sink.now) (g.K.Sink.held c.loop-round.sink) (g.K.Sink.held c.answer_round.new.sink)
+    (g.D.Disk.faults c.args.rounds.now.core.side.log.disk) (g.D.Disk.faults c.loop-round.rounds.core.side.log.disk) (g.D.Disk.faults c.answer_round.new.rounds.core.side.log.disk)
+    (core_state c.loop-round.rounds.core) c.loop-round.rounds.lines (core_state c.answer_round.new.rounds.core) c.answer_round.new.rounds.lines (g.S.Source.left c.args.source.now)
     (prepend_known c.loop-round.reader.bytes (g.S.Source.left c.loop-round.source)) (prepend_known c.read_round.new.self.bytes (g.S.Source.left c.read_round.new.source))
     c.in_ok-round.round c.deref.result.now c.deref.ensures.value c.loop-round.invariant.upto c.in_ok-round.ensures.round c.in_ok-answer_round.ensures.all c.if-round.true
 
-pub returns-in_err-answer_round-clause-grows : goal.returns-in_err-answer_round-clause-grows
-returns-in_err-answer_round-clause-grows g c = grows_then c.args.serving.now.progress.batches c.loop-round.serving.progress.batches c.answer_round.new.serving.progress.batches c.loop-round.invariant.grows c.answer_round.ensures.grows
+pub returns-in_err-answer_round-clause-loaded : goal.returns-in_err-answer_round-clause-loaded
+returns-in_err-answer_round-clause-loaded g c = c.answer_round.ensures.loaded ∙ c.loop-round.invariant.loaded
 
-pub returns-then-round-clause-grows : goal.returns-then-round-clause-grows
-returns-then-round-clause-grows g c = grows_then c.args.serving.now.progress.batches c.loop-round.serving.progress.batches c.answer_round.new.serving.progress.batches c.loop-round.invariant.grows c.answer_round.ensures.grows
+pub returns-in_err-answer_round-clause-told : goal.returns-in_err-answer_round-clause-told
+returns-in_err-answer_round-clause-told g c = c.answer_round.ensures.told ∙ c.loop-round.invariant.told
+
+pub returns-then-round-clause-loaded : goal.returns-then-round-clause-loaded
+returns-then-round-clause-loaded g c = c.answer_round.ensures.loaded ∙ c.loop-round.invariant.loaded
+
+pub returns-then-round-clause-told : goal.returns-then-round-clause-told
+returns-then-round-clause-told g c = c.answer_round.ensures.told ∙ c.loop-round.invariant.told
 
 pub loop-round-preserved : goal.loop-round-preserved
 loop-round-preserved g c = record {
-  upto = more_known c.args.serving.now.progress.batches (g.C.Clock.may c.args.clock.now) (g.C.Clock.may c.loop-round.clock) c.loop-round.invariant.clock (g.K.Sink.held c.args.sink.now) (g.K.Sink.held c.loop-round.sink) (g.K.Sink.held c.answer_round.new.sink)
-      (g.D.Disk.faults c.args.serving.now.log.disk) (g.D.Disk.faults c.loop-round.serving.log.disk) (g.D.Disk.faults c.answer_round.new.serving.log.disk)
-      c.loop-round.serving.progress c.answer_round.new.serving.progress (g.S.Source.left c.args.source.now)
+  upto = more_known c.args.rounds.now.core.side.history.loaded (g.C.Clock.may c.args.rounds.now.core.side.clock) (g.C.Clock.may c.loop-round.rounds.core.side.clock) c.requires.follow c.loop-round.invariant.clock (g.K.Sink.held c.args.sink.now) (g.K.Sink.held c.loop-round.sink) (g.K.Sink.held c.answer_round.new.sink)
+      (g.D.Disk.faults c.args.rounds.now.core.side.log.disk) (g.D.Disk.faults c.loop-round.rounds.core.side.log.disk) (g.D.Disk.faults c.answer_round.new.rounds.core.side.log.disk)
+      (core_state c.loop-round.rounds.core) c.loop-round.rounds.lines (core_state c.answer_round.new.rounds.core) c.answer_round.new.rounds.lines (g.S.Source.left c.args.source.now)
       (prepend_known c.loop-round.reader.bytes (g.S.Source.left c.loop-round.source)) (prepend_known c.read_round.new.self.bytes (g.S.Source.left c.read_round.new.source))
       c.in_ok-round.round c.deref.result.now c.deref.ensures.value c.loop-round.invariant.upto c.in_ok-round.ensures.round c.in_ok-answer_round.ensures.all;
   advances = c.read_round.ensures.since (g.S.Source.left c.args.source.now) 0 c.loop-round.invariant.advances;
-  counted = counted_on c.loop-round.serving.progress.lines _ _ c.loop-round.reader.consumed c.read_round.new.self.consumed c.loop-round.invariant.counted (omega (arith, c.deref.ensures.len, c.in_ok-round.ensures.few)) (c.in_ok-round.ensures.forward c.if-round.false) c.in_ok-answer_round.ensures.next;
-  grows = grows_then c.args.serving.now.progress.batches c.loop-round.serving.progress.batches c.answer_round.new.serving.progress.batches c.loop-round.invariant.grows c.answer_round.ensures.grows;
-  backed = λ held. c.answer_round.ensures.backed (c.loop-round.invariant.backed held);
+  counted = counted_on c.loop-round.rounds.lines _ _ c.loop-round.reader.consumed c.read_round.new.self.consumed c.loop-round.invariant.counted (omega (arith, c.deref.ensures.len, c.in_ok-round.ensures.few)) (c.in_ok-round.ensures.forward c.if-round.false) c.in_ok-answer_round.ensures.next;
+  loaded = c.answer_round.ensures.loaded ∙ c.loop-round.invariant.loaded;
+  told = c.answer_round.ensures.told ∙ c.loop-round.invariant.told;
   clock = c.answer_round.ensures.clock ∙ c.loop-round.invariant.clock;
   bounded = c.read_round.ensures.bounded;
   source_later = omega (arith, c.loop-round.invariant.source_later, c.read_round.ensures.later);

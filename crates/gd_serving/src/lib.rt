@@ -1,5 +1,0 @@
-//! A run that is served line by line, on one thread.
-#![tactic(auto)]
-
-pub mod replies;
-pub mod serving;

@@ -1,0 +1,28 @@
+use Rattle.std.proofs.Common.{◌<◌, length, arith}
+use Rattle.gd_mql.specs.Requests.{write_view}
+use Rattle.gd_sessions.specs.Served.{line_text}
+use Rattle.gd_sessions.proofs.Lined.{line_step, line_keeps, line_fault}
+use Rattle.gd_sessions.proofs.running.Running.write_line.Goals as goal
+
+pub invariant_of-self : goal.invariant_of-self
+invariant_of-self g c =
+    let hs = c.self.inside.held.items in
+    let lt : c.args.sid < length hs = let many = c.self.invariant.many in let small = c.requires.sid in omega (arith, many, small) in
+    line_keeps c.self.inside.side hs c.args.sid c.index_mut-held.result.now c.write.new.held lt c.index_mut-held.ensures.value c.write.new.side (g.C.Clock.may c.self.inside.side.clock) g.D.Disk.faults c.args.line c.args.bytes
+    (write_view c.args.request.now) (line_text c.write.result) c.write.ensures.writes c.shown_of-shown.ensures.within c.self.invariant
+
+pub returns-clause-step : goal.returns-clause-step
+returns-clause-step g c =
+    let hs = c.self.inside.held.items in
+    let lt : c.args.sid < length hs = let many = c.self.invariant.many in let small = c.requires.sid in omega (arith, many, small) in
+    rw (← c.self.view_is)
+    (line_step c.self.inside.side hs c.args.sid c.index_mut-held.result.now c.write.new.held lt c.index_mut-held.ensures.value c.write.new.side (g.C.Clock.may c.self.inside.side.clock) g.D.Disk.faults c.args.line c.args.bytes
+    (write_view c.args.request.now) (line_text c.write.result) c.write.ensures.writes)
+
+pub returns-clause-fault : goal.returns-clause-fault
+returns-clause-fault g c =
+    let hs = c.self.inside.held.items in
+    let lt : c.args.sid < length hs = let many = c.self.invariant.many in let small = c.requires.sid in omega (arith, many, small) in
+    rw (← c.self.view_is)
+    (line_fault c.self.inside.side hs c.args.sid c.index_mut-held.result.now c.write.new.held lt c.index_mut-held.ensures.value c.write.new.side (g.C.Clock.may c.self.inside.side.clock) g.D.Disk.faults c.args.line c.args.bytes
+    (write_view c.args.request.now) (line_text c.write.result) c.write.ensures.writes)
