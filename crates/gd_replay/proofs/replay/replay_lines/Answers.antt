@@ -1,0 +1,106 @@
+use Rattle.std.proofs.Common.{◌≡◌, ◌∙◌, ◌^◌, List, ℕ, sym, subst, arith}
+use Rattle.std.specs.Io.KnownBytes.{prepend_known}
+use Rattle.gd_base.specs.Counts.{Rose}
+use Rattle.gd_sessions.specs.Running.{core_state}
+use Rattle.gd_replay.specs.Stops.{Leaves}
+use Rattle.gd_replay.proofs.Begun.{begun_upto, begun_advances, begun_bounded, begun_below, prints_by, stops_by}
+use Rattle.gd_replay.proofs.Carried.{along_same, along_then, tells_on}
+use Rattle.gd_replay.proofs.Known.{more_known, done_known, stops_known, input_known, advances_then, taken_known, caused_ends, input_ends}
+use Rattle.gd_replay.proofs.Taken.{rose_since, caused_since}
+use Rattle.gd_replay.proofs.replay.replay_lines.Goals as goal
+
+pub loop-reader-init : goal.loop-reader-init
+loop-reader-init g c =
+    let left = g.S.Source.left c.args.source.now in
+    let new = c.new-reader.ensures in
+    record {
+      upto = λ tells members. begun_upto members (g.C.Clock.may c.args.running.side.clock) c.args.running.side.history.loaded (g.K.Sink.held c.args.sink.now) (core_state c.args.running) c.new-reader.result left new c.requires;
+      advances = begun_advances c.new-reader.result left new;
+      counted = omega arith;
+      below = begun_below (core_state c.args.running) c.args.running.side.history.loaded 0 c.requires;
+      along = along_same g.D.Disk.content g.D.Disk.faults g.C.Clock.may c.args.running.side;
+      bounded = begun_bounded c.new-reader.result new;
+      source_later = omega arith;
+      sink_later = omega arith;
+    }
+
+pub loop-reader-preserved : goal.loop-reader-preserved
+loop-reader-preserved g c =
+    let inv = c.loop-reader.invariant in
+    let loaded = c.args.running.side.history.loaded in
+    let given = g.C.Clock.may c.args.running.side.clock in
+    let may = g.C.Clock.may c.loop-reader.current.side.clock in
+    let old = g.K.Sink.held c.args.sink.now in
+    let mid = g.K.Sink.held c.loop-reader.sink in
+    let new = g.K.Sink.held c.take_piece.new.sink in
+    let k = c.loop-reader.line in
+    let s = core_state c.loop-reader.current in
+    let x = g.S.Source.left c.args.source.now in
+    let y = prepend_known c.loop-reader.reader.bytes (g.S.Source.left c.loop-reader.source) in
+    let z = prepend_known c.read_line.new.self.bytes (g.S.Source.left c.read_line.new.source) in
+    record {
+      upto = λ tells members. more_known members given loaded old mid new k s c.in-Ok-2.count (core_state c.in-Ok-2.next) x y z c.in-Ok.piece c.if-by_newline.true (inv.upto tells members) c.in-Ok.ensures.line
+          (λ bytes kept. prints_by members given may inv.along.clock s k bytes mid new (core_state c.in-Ok-2.next) c.in-Ok-2.count
+          (c.in-Ok-2.ensures.prints (tells_on g.D.Disk.content g.D.Disk.faults g.C.Clock.may c.args.running.side c.loop-reader.current.side inv.along tells) members bytes kept));
+      advances = advances_then x y z c.loop-reader.reader.consumed c.read_line.new.self.consumed inv.advances c.read_line.ensures.advances;
+      counted = (let forward = c.in-Ok.ensures.forward c.if-by_newline.true in let few = c.in-Ok-2.ensures.few in omega (arith, inv.counted, forward, few));
+      below = c.in-Ok-2.ensures.below;
+      along = along_then g.D.Disk.content g.D.Disk.faults g.C.Clock.may c.args.running.side c.loop-reader.current.side c.in-Ok-2.next.side inv.along c.in-Ok-2.ensures.along;
+      bounded = c.read_line.ensures.bounded;
+      source_later = omega (arith, inv.source_later, c.read_line.ensures.later);
+      sink_later = omega (arith, inv.sink_later, c.take_piece.ensures.later);
+    }
+
+pub returns-else-clause-ends : goal.returns-else-clause-ends
+returns-else-clause-ends g c = λ tells members.
+    let inv = c.loop-reader.invariant in
+    let loaded = c.args.running.side.history.loaded in
+    let given = g.C.Clock.may c.args.running.side.clock in
+    let may = g.C.Clock.may c.loop-reader.current.side.clock in
+    let old = g.K.Sink.held c.args.sink.now in
+    let mid = g.K.Sink.held c.loop-reader.sink in
+    let new = g.K.Sink.held c.take_piece.new.sink in
+    let k = c.loop-reader.line in
+    let s = core_state c.loop-reader.current in
+    let x = g.S.Source.left c.args.source.now in
+    let y = prepend_known c.loop-reader.reader.bytes (g.S.Source.left c.loop-reader.source) in
+    let z = prepend_known c.read_line.new.self.bytes (g.S.Source.left c.read_line.new.source) in
+    let now = tells_on g.D.Disk.content g.D.Disk.faults g.C.Clock.may c.args.running.side c.loop-reader.current.side inv.along tells in
+    let then = tells_on g.D.Disk.content g.D.Disk.faults g.C.Clock.may c.loop-reader.current.side c.in-Ok-2.next.side c.in-Ok-2.ensures.along now in
+    rw c.ended.ensures.parts
+    (done_known members given loaded old mid new k s (Leaves (g.D.Disk.images c.in-Ok-2.next.side.log.disk)) c.in-Ok-2.count (core_state c.in-Ok-2.next) x y z c.in-Ok.piece c.if-by_newline.false (inv.upto tells members) c.in-Ok.ensures.line
+    (λ bytes kept. prints_by members given may inv.along.clock s k bytes mid new (core_state c.in-Ok-2.next) c.in-Ok-2.count (c.in-Ok-2.ensures.prints now members bytes kept))
+    (c.ended.ensures.holds then))
+
+pub returns-in-Err-clause-ends : goal.returns-in-Err-clause-ends
+returns-in-Err-clause-ends g c = λ tells members.
+    let inv = c.loop-reader.invariant in
+    let loaded = c.args.running.side.history.loaded in
+    let given = g.C.Clock.may c.args.running.side.clock in
+    let may = g.C.Clock.may c.loop-reader.current.side.clock in
+    let old = g.K.Sink.held c.args.sink.now in
+    let mid = g.K.Sink.held c.loop-reader.sink in
+    let new = g.K.Sink.held c.take_piece.new.sink in
+    let k = c.loop-reader.line in
+    let s = core_state c.loop-reader.current in
+    let x = g.S.Source.left c.args.source.now in
+    let y = prepend_known c.loop-reader.reader.bytes (g.S.Source.left c.loop-reader.source) in
+    let z = prepend_known c.read_line.new.self.bytes (g.S.Source.left c.read_line.new.source) in
+    let now = tells_on g.D.Disk.content g.D.Disk.faults g.C.Clock.may c.args.running.side c.loop-reader.current.side inv.along tells in
+    stops_known members given loaded old mid new k s (Leaves (g.D.Disk.images c.in-Err.disk)) c.in-Err.stop _ _ c.in-Err.ensures.caused x y z c.in-Ok.piece (inv.upto tells members) c.in-Ok.ensures.line
+    (λ bytes kept. stops_by members given may inv.along.clock s k bytes mid new (Leaves (g.D.Disk.images c.in-Err.disk)) c.in-Err.stop (c.in-Err.ensures.stops now members bytes kept))
+
+pub returns-in-Err-clause-caused : goal.returns-in-Err-clause-caused
+returns-in-Err-clause-caused g c =
+    let inv = c.loop-reader.invariant in
+    caused_ends c.in-Err.stop _ _ _ _
+    (caused_since c.in-Err.stop (g.K.Sink.faults c.args.sink.now) (g.K.Sink.faults c.loop-reader.sink) (g.K.Sink.faults c.take_piece.new.sink)
+    (g.D.Disk.faults c.args.running.side.log.disk) (g.D.Disk.faults c.loop-reader.current.side.log.disk) (g.D.Disk.faults c.in-Err.disk) inv.sink_later inv.along.later c.in-Err.ensures.caused)
+
+pub returns-in-Err-2-clause-ends : goal.returns-in-Err-2-clause-ends
+returns-in-Err-2-clause-ends g c = λ tells members.
+    let inv = c.loop-reader.invariant in
+    rw c.stopped.ensures.parts
+    (input_known members (g.C.Clock.may c.args.running.side.clock) c.args.running.side.history.loaded (Leaves (g.D.Disk.images c.loop-reader.current.side.log.disk)) (g.K.Sink.held c.args.sink.now) (g.K.Sink.held c.loop-reader.sink) c.loop-reader.line (core_state c.loop-reader.current) c.in-Err-2.fault
+    (g.S.Source.left c.args.source.now) (prepend_known c.loop-reader.reader.bytes (g.S.Source.left c.loop-reader.source)) (inv.upto tells members)
+    (c.stopped.ensures.holds (tells_on g.D.Disk.content g.D.Disk.faults g.C.Clock.may c.args.running.side c.loop-reader.current.side inv.along tells)))
