@@ -7,3 +7,5 @@ pub mod Outcomes
 pub mod Taken
 pub mod Carried
 pub mod Begun
+pub mod Grown
+pub mod Kept

@@ -32,3 +32,11 @@ err_three (Err e) P Q R S says p q r = says e p q r
 pub on_err_more : {A E : Type 0} (result : Result A E) (P Q : Type 0) → (P → Q) → OnErr result P → OnErr result Q
 on_err_more (Ok a) P Q more p = tt
 on_err_more (Err e) P Q more p = more p
+
+pub ok_each : {A E : Type 0} (result : Result A E) (P Q R S : A → Type 0) (Y : E → Type 0) → ((a : A) → P a → Q a → R a → S a) → IfOk result P → IfOk result Q → MatchResult result R Y → IfOk result S
+ok_each (Ok a) P Q R S Y says p q r = says a p q r
+ok_each (Err e) P Q R S Y says p q r = tt
+
+pub err_each : {A E : Type 0} (result : Result A E) (X : A → Type 0) (P Q R S T : E → Type 0) → ((e : E) → P e → Q e → R e → S e → T e) → IfErr result P → IfErr result Q → IfErr result R → MatchResult result X S → IfErr result T
+err_each (Ok a) X P Q R S T says p q r s = tt
+err_each (Err e) X P Q R S T says p q r s = says e p q r s

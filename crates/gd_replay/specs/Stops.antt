@@ -7,12 +7,14 @@ use Rattle.gd_input.specs.declared.fault.InputFault.{InputFault}
 use Rattle.gd_input.specs.declared.fault.InputFault.TheVariants as input
 use Rattle.gd_journal.specs.declared.fault.JournalFault.{JournalFault}
 use Rattle.gd_journal.specs.declared.fault.JournalFault.TheVariants as journal
+use Rattle.gd_runs.specs.Legal.{batches}
 use Rattle.gd_runs.specs.Core.{State}
 use Rattle.gd_writer.specs.Parts.{Tells}
 use Rattle.gd_writer.specs.Side.{SideValue}
 use Rattle.gd_sessions.specs.Running.{StandsForState}
 use Rattle.gd_replay.specs.declared.stop.Stop.{Stop}
 use Rattle.gd_replay.specs.declared.stop.Stop.TheVariants as stop
+use Rattle.gd_replay.specs.Kept.{Grows, IsHindrance}
 
 -- what a fault of the input stops a run by
 abbrev pub stop_of : InputFault → Stop
@@ -24,16 +26,19 @@ stop_of input.Memory = stop.Memory
 abbrev pub Leaves : (List ℕ → Type 0) → State → Type 0
 Leaves images s = (file : List ℕ) → images file → StandsForState s file
 
--- The clock goes on to give the same moments, the disk goes on to tell its content, and its count does not fall.
+-- The clock goes on to give the same moments, the disk goes on to tell its content, its count does not fall, and a disk that tells its content keeps the batches that there were.
 pub record GoesAlong {D C : Type 0} (content : D → Option (List ℕ)) (faults : D → ℕ) (may : C → ℕ → Bool) (old new : SideValue D C) : Type 0 where
   pub clock : may new.clock ≡ may old.clock
   pub told : is_some (content new.log.disk) ≡ is_some (content old.log.disk)
   pub later : faults old.log.disk ≤ faults new.log.disk
+  pub grows : Tells (content old.log.disk) → Grows (batches old.history) (batches new.history)
 
--- A store was not opened again over its disk: it failed where its count rose, and a disk that tells its content holds what it held.
+-- A store was not opened again over its disk: it failed where its count rose, and a disk that tells its content goes on to tell it, holds what it held, and is lost by a hindrance alone.
 pub record IsLost {D : Type 0} (content : D → Option (List ℕ)) (images : D → List ℕ → Type 0) (faults : D → ℕ) (old : D) (s : State) (fault : JournalFault) (new : D) : Type 0 where
   pub cause : fault ≡ journal.DiskFault → Rose (faults old) (faults new)
   pub holds : Tells (content old) → Leaves (images new) s
+  pub told : is_some (content new) ≡ is_some (content old)
+  pub hindered : Tells (content old) → IsHindrance fault
   pub later : faults old ≤ faults new
 
 -- a reply stops a run where it is not printed, by a failure of the sink or for want of memory

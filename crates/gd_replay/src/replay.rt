@@ -1,12 +1,18 @@
 //! The whole run.
 ghost use Rattle.std.specs.Prelude.{◌≡◌, ◌≤◌, ◌^◌, ℕ, List, length, Ok, Err, OnOk, IfSome};
+ghost use Rattle.std.specs.Option.{ForSome};
 ghost use Rattle.std.specs.Io.KnownBytes.{IsAtEnd};
 ghost use Rattle.gd_base.specs.Counts.{Rose};
+ghost use Rattle.gd_prim.specs.declared.Batch.{Batch};
+ghost use Rattle.gd_bytes.specs.File.{StandsFor, meaning};
+ghost use Rattle.gd_log.specs.Opening.{IsKept, Refuses};
 ghost use Rattle.gd_runs.specs.Core as core;
+ghost use Rattle.gd_runs.specs.Legal.{batches};
 ghost use Rattle.gd_runs.specs.Owed.{MembersOf};
 ghost use Rattle.gd_writer.specs.Parts.{Tells};
 ghost use Rattle.gd_sessions.specs.Running.{core_state};
 ghost use Rattle.gd_replay.specs.Stops.{Leaves, EndsAs, EndsBy, EndsSent, stop_of};
+ghost use Rattle.gd_replay.specs.Kept.{HasBatches, KeepsAs};
 ghost use Rattle.gd_replay.specs.Runs.{Loads, Replays, ReplaysTaken, ReplaysFront};
 
 use crate::running::{halted, take_piece};
@@ -65,6 +71,7 @@ fn replay_lines<R: Wait, D: Disk, S: Source, K: Sink, C: Clock>(
     ensures at_end { OnOk result.0 (IsAtEnd (S.left source.new)) }
     ensures caused { EndsBy result.0 (Rose (S.faults source.old) (S.faults source.new)) (Rose (K.faults sink.old) (K.faults sink.new))
         (Rose (D.faults running.side.log.disk) (D.faults result.1)) (IfSome (S.left source.old) (λ input. 2 ^ 40 ≤ length input)) }
+    ensures kept { Tells (D.content running.side.log.disk) → KeepsAs result.0 (HasBatches (D.content result.1) (D.images result.1) (batches running.side.history)) (λ _. ⊥) }
     ensures disk { D.faults running.side.log.disk ≤ D.faults result.1 }
     ensures later { K.faults sink.old ≤ K.faults sink.new }
 {
@@ -130,6 +137,12 @@ pub fn replay<R: Wait, D: Disk, S: Source, K: Sink, C: Clock>(
     ensures caused { EndsBy result.0 (Rose (S.faults source.old) (S.faults source.new)) (Rose (K.faults sink.old) (K.faults sink.new))
         (Rose (D.faults disk) (D.faults result.1)) (IfSome (S.left source.old) (λ input. 2 ^ 40 ≤ length input)) }
     ensures disk { D.faults disk ≤ D.faults result.1 }
+
+    // Of a file that is told is kept what it stood for, with further batches behind it; where the store was not opened, a read
+    // and a stop give the same bytes, or what stands for the same batches, and what is said of the file is so.
+    ensures kept { ForSome (D.content disk) (λ file. KeepsAs result.0
+        ((bs : List Batch) × StandsFor file bs × HasBatches (D.content result.1) (D.images result.1) bs)
+        (λ fault. IsKept D.content D.moment D.images D.images_since file disk result.1 × Refuses fault (meaning file))) }
 {
     match Running::start(rt, alloc, disk, clock) {
         Ok(running) => {

@@ -1,13 +1,15 @@
 //! The lines of an input are read, answered and printed, one after another.
-ghost use Rattle.std.specs.Prelude.{◌≡◌, ◌≤◌, ◌<◌, ◌+◌, ◌++◌, ◌∷◌, ◌^◌, ℕ, List, [], IfOk, IfErr, MatchResult};
+ghost use Rattle.std.specs.Prelude.{◌≡◌, ◌≤◌, ◌<◌, ◌+◌, ◌++◌, ◌∷◌, ◌^◌, ℕ, List, [], Err, IfOk, IfErr, MatchResult};
 ghost use Rattle.std.specs.Io.KnownBytes.{Appends};
 ghost use Rattle.gd_base.specs.Counts.{Rose};
+ghost use Rattle.gd_runs.specs.Legal.{batches};
 ghost use Rattle.gd_runs.specs.Owed.{MembersOf};
 ghost use Rattle.gd_input.specs.Line.{IsKept, IsShort};
 ghost use Rattle.gd_writer.specs.Parts.{Tells};
 ghost use Rattle.gd_replay_laws.specs.Runs.{AreBelow};
 ghost use Rattle.gd_sessions.specs.Running.{core_state};
 ghost use Rattle.gd_replay.specs.Stops.{Leaves, GoesAlong, IsHalt, IsCaused};
+ghost use Rattle.gd_replay.specs.Kept.{HasBatches, KeepsAs};
 ghost use Rattle.gd_replay.specs.Runs.{IsDue, GainsFront, LinePrints, LineStops, PiecePrints, PieceStops};
 
 use crate::answering::answer;
@@ -80,6 +82,8 @@ fn take_line<R: Wait, D: Disk, K: Sink, C: Clock, L>(
     ensures stops { IfErr result (λ halt. Tells (D.content running.side.log.disk) → (members : MembersOf) (bytes : List ℕ) → IsKept 262_144 text bytes
         → LineStops members (C.may running.side.clock) (core_state running) line bytes (Leaves (D.images halt.1)) halt.0 (K.held sink.old) (K.held sink.new)) }
     ensures caused { IfErr result (λ halt. IsCaused halt.0 (Rose (K.faults sink.old) (K.faults sink.new)) (Rose (D.faults running.side.log.disk) (D.faults halt.1))) }
+    ensures kept { IfErr result (λ halt. Tells (D.content running.side.log.disk)
+        → KeepsAs (Err halt.0) (HasBatches (D.content halt.1) (D.images halt.1) (batches running.side.history)) (λ _. ⊥)) }
     ensures disk { IfErr result (λ halt. D.faults running.side.log.disk ≤ D.faults halt.1) }
     ensures later { K.faults sink.old ≤ K.faults sink.new }
 {
@@ -111,6 +115,8 @@ pub(crate) fn take_piece<R: Wait, D: Disk, K: Sink, C: Clock, L>(
     ensures stops { IfErr result (λ halt. Tells (D.content running.side.log.disk) → (members : MembersOf) (bytes : List ℕ) → IsKept 262_144 piece bytes
         → PieceStops members (C.may running.side.clock) (core_state running) line bytes (Leaves (D.images halt.1)) halt.0 (K.held sink.old) (K.held sink.new)) }
     ensures caused { IfErr result (λ halt. IsCaused halt.0 (Rose (K.faults sink.old) (K.faults sink.new)) (Rose (D.faults running.side.log.disk) (D.faults halt.1))) }
+    ensures kept { IfErr result (λ halt. Tells (D.content running.side.log.disk)
+        → KeepsAs (Err halt.0) (HasBatches (D.content halt.1) (D.images halt.1) (batches running.side.history)) (λ _. ⊥)) }
     ensures disk { IfErr result (λ halt. D.faults running.side.log.disk ≤ D.faults halt.1) }
     ensures later { K.faults sink.old ≤ K.faults sink.new }
 {

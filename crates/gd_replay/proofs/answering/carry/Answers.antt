@@ -3,8 +3,9 @@ use Rattle.gd_runs.specs.Core as core
 use Rattle.gd_replay_laws.specs.Built.{Takes}
 use Rattle.gd_events.specs.Events.{event_view}
 use Rattle.gd_sessions.specs.Running.{core_state, Answers}
-use Rattle.gd_replay.proofs.Carried.{anew_below, taken_below, along_opened, lost_opened}
-use Rattle.gd_replay.proofs.Outcomes.{ok_more, ok_all, err_all}
+use Rattle.gd_replay.proofs.Carried.{anew_below, taken_below, taken_grows, along_opened, along_stepped, lost_opened}
+use Rattle.gd_replay.proofs.Kept.{hindered}
+use Rattle.gd_replay.proofs.Outcomes.{ok_more, ok_each, err_each}
 use Rattle.gd_replay.proofs.answering.carry.Goals as goal
 
 pub returns-then-opens_again-clause-takes : goal.returns-then-opens_again-clause-takes
@@ -20,11 +21,19 @@ pub returns-then-opens_again-clause-below : goal.returns-then-opens_again-clause
 returns-then-opens_again-clause-below g c = ok_more c.reopen.result _ _ (λ both anew. anew_below c.args.line (core_state c.args.running) (core_state both.0) both.0.side.history.loaded c.requires.below anew) c.reopen.ensures.anew
 
 pub returns-then-opens_again-clause-along : goal.returns-then-opens_again-clause-along
-returns-then-opens_again-clause-along g c = ok_all c.reopen.result _ _ _ _
-    (λ both clock opens. along_opened g.D.Disk.content g.D.Disk.faults g.C.Clock.may g.D.Disk.moment g.D.Disk.images g.D.Disk.images_since c.args.running.side both.0.side clock opens)
-    c.reopen.ensures.clock c.reopen.ensures.disk
+returns-then-opens_again-clause-along g c =
+    let may = g.C.Clock.may c.args.running.side.clock in
+    ok_each c.reopen.result _ _ _ _ _
+    (λ both takes clock opens. along_opened g.D.Disk.content g.D.Disk.faults g.C.Clock.may g.D.Disk.moment g.D.Disk.images g.D.Disk.images_since c.args.running.side both.0.side clock opens
+    (λ tells. taken_grows may (core_state c.args.running) c.args.line 0 core.reopen (core_state both.0) both.1 (λ members. takes tells members may 0)))
+    c.reopen.ensures.takes c.reopen.ensures.clock c.reopen.ensures.disk
 
 pub returns-then-opens_again-clause-lost : goal.returns-then-opens_again-clause-lost
-returns-then-opens_again-clause-lost g c = err_all c.reopen.result _ _ _ _ _
-    (λ lost cause holds opens. lost_opened g.D.Disk.content g.D.Disk.faults g.C.Clock.may g.D.Disk.moment g.D.Disk.images g.D.Disk.images_since c.args.running.side.log.disk lost.1 (core_state c.args.running) lost.0 cause holds opens)
-    c.reopen.ensures.cause c.reopen.ensures.holds c.reopen.ensures.disk
+returns-then-opens_again-clause-lost g c = err_each c.reopen.result _ _ _ _ _ _
+    (λ lost cause refused holds opens. lost_opened g.D.Disk.content g.D.Disk.faults g.C.Clock.may g.D.Disk.moment g.D.Disk.images g.D.Disk.images_since c.args.running.side.log.disk lost.1 (core_state c.args.running) lost.0 cause holds opens
+    (hindered g.D.Disk.content g.D.Disk.moment g.D.Disk.images g.D.Disk.images_since g.D.Disk.faults g.met.D.Disk.reads_one c.args.running.side.log.disk lost.1 (core_state c.args.running) lost.0 refused holds opens))
+    c.reopen.ensures.cause c.reopen.ensures.refused c.reopen.ensures.holds c.reopen.ensures.disk
+
+pub returns-clause-along : goal.returns-clause-along
+returns-clause-along g c = along_stepped g.D.Disk.content g.D.Disk.faults g.C.Clock.may g.D.Disk.moment g.D.Disk.images g.D.Disk.images_since c.args.running.side c.step-reply.new.self.side c.step-reply.ensures.goes
+    (taken_grows (g.C.Clock.may c.args.running.side.clock) (core_state c.args.running) c.args.line c.args.bytes (event_view c.args.event) (core_state c.step-reply.new.self) c.step-reply.result c.step-reply.ensures.takes)

@@ -10,8 +10,8 @@ use Rattle.gd_replay.specs.Stops.{GoesAlong}
 use Rattle.gd_replay.specs.Runs.{RunUpto}
 use Rattle.gd_replay.proofs.replay.replay_lines.Given as goal
 
-abbrev pub invariant-loop-reader : goal.invariant-loop-reader
-invariant-loop-reader g l = record {
+abbrev pub invariant-loop-piece : goal.invariant-loop-piece
+invariant-loop-piece g l = record {
   upto : Tells (g.D.Disk.content l.fn.running.side.log.disk) → (members : MembersOf) → Known (g.S.Source.left l.fn.source) (prepend_known l.reader.bytes (g.S.Source.left l.source))
       (RunUpto members (g.C.Clock.may l.fn.running.side.clock) l.fn.running.side.history.loaded (g.K.Sink.held l.fn.sink) (g.K.Sink.held l.sink) l.line (core_state l.current));
   advances : Advances (g.S.Source.left l.fn.source) (prepend_known l.reader.bytes (g.S.Source.left l.source)) 0 l.reader.consumed;
@@ -23,5 +23,5 @@ invariant-loop-reader g l = record {
   sink_later : g.K.Sink.faults l.fn.sink ≤ g.K.Sink.faults l.sink;
 }
 
-abbrev pub decreases-loop-reader : goal.decreases-loop-reader
-decreases-loop-reader g l = 2 ^ 40 + 4096 - l.reader.consumed
+abbrev pub decreases-loop-piece : goal.decreases-loop-piece
+decreases-loop-piece g l = 2 ^ 40 + 4096 - l.reader.consumed

@@ -1,11 +1,15 @@
-use Rattle.std.proofs.Common.{◌≡◌, ◌≤◌, List, ℕ, sym, subst, arith}
+use Rattle.std.proofs.Common.{◌≡◌, ◌≤◌, ◌+◌, List, ℕ, Bool, IsTrue, sym, subst, arith}
 use Rattle.std.proofs.KnownBytes.{Keeps-refl}
 use Rattle.gd_base.specs.Counts.{Rose}
+use Rattle.gd_runs.specs.Legal.{batches}
+use Rattle.gd_writer.specs.Parts.{Tells}
 use Rattle.gd_replay_laws.specs.Runs.{AreBelow}
 use Rattle.gd_sessions.specs.Running.{RunningValue, core_state}
 use Rattle.gd_replay.specs.Stops.{Leaves, GoesAlong}
 use Rattle.gd_replay.specs.Runs.{LinePrints}
 use Rattle.gd_replay.proofs.Carried.{tells_on}
+use Rattle.gd_replay.proofs.Grown.{grows_same}
+use Rattle.gd_replay.proofs.Kept.{leaves_has, halted_keeps}
 use Rattle.gd_replay.proofs.Taken.{printed_line, halted_line, halted_cause, lost_cause}
 use Rattle.gd_replay.proofs.Outcomes.{ok_two, ok_more, err_three, err_more}
 use Rattle.gd_replay.proofs.running.take_line.Goals as goal
@@ -49,3 +53,21 @@ pub returns-in-Ok-clause-disk : goal.returns-in-Ok-clause-disk
 returns-in-Ok-clause-disk g c = err_more c.print_reply.result _ _
     (λ halt is. subst (λ d. g.D.Disk.faults c.args.running.side.log.disk ≤ g.D.Disk.faults d) (sym is) c.in-Ok.ensures.along.later)
     c.print_reply.ensures.disk
+
+pub returns-in-Ok-clause-kept : goal.returns-in-Ok-clause-kept
+returns-in-Ok-clause-kept g c =
+    let side = c.args.running.side in
+    let along = c.in-Ok.ensures.along in
+    err_three c.print_reply.result _ _ _ _
+    (λ halt why disk holds. λ tells.
+    let now = tells_on g.D.Disk.content g.D.Disk.faults g.C.Clock.may side c.in-Ok.running.side along tells in
+    halted_keeps halt.0 (Rose (g.K.Sink.faults c.args.sink.now) (g.K.Sink.faults c.print_reply.new.sink)) _ _ why
+    (leaves_has (g.D.Disk.content halt.1) (g.D.Disk.images halt.1) (batches side.history) (core_state c.in-Ok.running) (subst (λ d. Tells (g.D.Disk.content d)) (sym disk) now) (along.grows tells) (holds now)))
+    c.print_reply.ensures.halt c.print_reply.ensures.disk c.print_reply.ensures.holds
+
+pub returns-in-Err-clause-kept : goal.returns-in-Err-clause-kept
+returns-in-Err-clause-kept g c = λ tells.
+    let lost = c.in-Err.ensures.lost in
+    let side = c.args.running.side in
+    (leaves_has (g.D.Disk.content c.in-Err.disk) (g.D.Disk.images c.in-Err.disk) (batches side.history) (core_state c.args.running) (subst (λ (b : Bool). IsTrue b) (sym lost.told) tells) (grows_same (batches side.history)) (lost.holds tells),
+    lost.hindered tells)
