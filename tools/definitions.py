@@ -67,7 +67,9 @@ CRATES = [
     ("gd_words", "The command line: which words give which command.", ["Options", "Words"], False),
     ("gd_served_laws", "One thread: what a line comes to over the store, and runs that are served line by line.", ["Step", "Served"], False),
     ("gd_serving", "What contracts see of a run over a log, and what a round comes to.", ["Running", "Rounds"], False),
-    ("gd_top", "The top call: which words it takes, what it finds in a file and leaves there, what it prints for its input, and how it ends.", ["Words", "Held", "Kept", "Serves", "Ends"], False),
+    ("gd_replay_laws", "Runs of events, as far as events are built.", ["Built", "Runs"], False),
+    ("gd_replay", "What a run of events prints and leaves, and why it stops.", ["Runs", "Stops", "Kept"], False),
+    ("gd_top", "The top call: which words it takes, what it finds in a file and leaves there, what it prints for its input, and how it ends.", ["Words", "Held", "Kept", "Serves", "Ends", "Replays"], False),
 ]
 
 # comments that lean on the definition above them, said in full

@@ -1,5 +1,5 @@
 -- What an event comes to is what its line comes to.
-use Rattle.std.proofs.Common.{◌≡◌, ℕ, ◌+◌, ◌<◌, ◌≤◌, List, length, Bool, true, Option, Some, Result, Ok, Err, IfOk, OnErr, ◌⊎◌, inl, inr, ⊎_elim, nat_lt, refl, sym, ap, subst, ◌∙◌, arith, lt-ltb}
+use Rattle.std.proofs.Common.{◌≡◌, ℕ, ◌<◌, List, length, Bool, Result, Ok, Err, IfOk, inl, inr, ⊎_elim, refl, sym, ap, subst, arith, lt-ltb}
 use Rattle.std.specs.Prelude.{if◌then◌else◌, ◌≢◌}
 use Rattle.std.specs.Global.{Vec}
 use Rattle.gd_base.specs.declared.memory.Memory.{Memory}
@@ -9,16 +9,14 @@ use Rattle.gd_fault.specs.declared.fault.LineFault.TheVariants as fault
 use Rattle.gd_mql.specs.Line.{fault_view}
 use Rattle.gd_json.specs.Reading.{json_from}
 use Rattle.gd_runs.specs.Owed.{MembersOf}
-use Rattle.gd_runs.specs.Input.{InputFault, line_too_long, no_json, no_line, max_line, input_fault_line}
-use Rattle.gd_runs.specs.Legal.{Entry, History}
-use Rattle.gd_runs.specs.Explained.{entry_at, memory_line}
+use Rattle.gd_runs.specs.Input.{line_too_long, no_json, no_line, max_line}
+use Rattle.gd_runs.specs.Explained.{memory_line}
 use Rattle.gd_runs.specs.Side.{IsFresh}
 use Rattle.gd_runs.specs.Core as core
 use Rattle.gd_runs.specs.Core.{Event, State}
 use Rattle.gd_runs.specs.Replay.{event_from, event_of}
 use Rattle.gd_replay_laws.specs.Built.{StepBuilt, Takes}
 use Rattle.gd_replay_laws.specs.Runs.{BuiltLine, IsBounded, AreBelow}
-use Rattle.gd_replay_laws.proofs.Below.{takes_below}
 use Rattle.gd_sessions.specs.Running.{Answers, MayTake}
 use Rattle.gd_replay.specs.Lines.{TellsTooLong, TellsFault}
 

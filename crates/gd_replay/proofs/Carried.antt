@@ -1,7 +1,6 @@
 -- An event that was carried out: what stays, and which lines stand before.
-use Rattle.std.proofs.Common.{◌≡◌, ℕ, ◌+◌, ◌≤◌, List, Bool, Option, Result, Ok, Err, ⊎_elim, ◌⊎◌, refl, sym, subst, ◌∙◌, arith, IsTrue}
+use Rattle.std.proofs.Common.{◌≡◌, ℕ, ◌+◌, List, Bool, Option, Result, ⊎_elim, ◌⊎◌, refl, sym, subst, ◌∙◌, arith, IsTrue}
 use Rattle.std.specs.Global.{Vec}
-use Rattle.std.specs.Option.{is_some}
 use Rattle.gd_base.specs.declared.memory.Memory.{Memory}
 use Rattle.gd_base.specs.Counts.{Rose}
 use Rattle.gd_prim.specs.declared.Batch.{Batch}

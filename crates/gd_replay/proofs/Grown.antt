@@ -1,11 +1,11 @@
 -- An event keeps the batches that there were in front.
-use Rattle.std.proofs.Common.{◌≡◌, ℕ, List, [], ◌∷◌, ◌++◌, map, Bool, true, false, Option, Some, None, Result, Ok, Err, nat_lt, ◌⊎◌, ⊎_elim, refl, sym, ap, subst, ◌∙◌, append-nil, append_assoc}
+use Rattle.std.proofs.Common.{◌≡◌, ℕ, List, [], ◌∷◌, ◌++◌, Bool, true, false, Option, Some, None, Result, Ok, Err, nat_lt, ⊎_elim, refl, sym, ap, subst, ◌∙◌, append-nil, append_assoc}
 use Rattle.gd_prim.specs.declared.Batch.{Batch}
 use Rattle.gd_defs.specs.Lines.{Refusal}
 use Rattle.gd_defs.specs.Write.{WriteRequest}
 use Rattle.gd_runs.specs.Owed.{MembersOf}
 use Rattle.gd_runs.specs.Request.{ReadRequest}
-use Rattle.gd_runs.specs.Legal.{Entry, History, batches, size, with_entry}
+use Rattle.gd_runs.specs.Legal.{Entry, History, batches, with_entry}
 use Rattle.gd_runs.specs.Core as core
 use Rattle.gd_runs.specs.Core.{Event, Reading, State, opened, reading_of, Settles, Writable, WriteStep, stores, stores_late, refuses, doubts, leaves_doubt, lacks_memory, lacks_memory_settled, BeginStep, SliceStep, LearnStep}
 use Rattle.gd_runs.specs.Replay.{LacksMemory}

@@ -1,7 +1,6 @@
 -- The same where the input is known, and nothing where it is not.
-use Rattle.std.proofs.Common.{◌≡◌, ℕ, ◌+◌, ◌≤◌, Bool, true, false, List, [], ◌++◌, length, take, Option, Some, None, IfSome, Result, Ok, Err, OnErr, OnOk, refl, sym, subst, ap, ◌∙◌, arith, length-append, append_assoc, append-nil, take_all}
-use Rattle.std.specs.Prelude.{◌^◌}
-use Rattle.std.specs.Io.KnownBytes.{Appends, Keeps, Consumes, prepend_known, IsAtEnd}
+use Rattle.std.proofs.Common.{◌≡◌, ℕ, ◌≤◌, Bool, true, false, List, [], ◌++◌, length, take, Option, Some, None, IfSome, Result, Ok, Err, OnErr, OnOk, refl, sym, subst, ap, ◌∙◌, arith, length-append, append_assoc, append-nil, take_all}
+use Rattle.std.specs.Io.KnownBytes.{Keeps, prepend_known}
 use Rattle.std.proofs.KnownBytes.{Consumes-nil, Appends-kept, Keeps-refl}
 use Rattle.gd_prim.specs.declared.Batch.{Batch}
 use Rattle.gd_outside.specs.declared.Failed.{Failed}
@@ -11,7 +10,6 @@ use Rattle.gd_runs.specs.Core.{State, opened}
 use Rattle.gd_input.specs.declared.fault.InputFault.{InputFault}
 use Rattle.gd_input.specs.declared.fault.InputFault.TheVariants as input
 use Rattle.gd_input.specs.declared.piece.Piece.{Piece}
-use Rattle.gd_input.specs.Held.{Held, IsBounded}
 use Rattle.gd_input.specs.Line.{IsKept}
 use Rattle.gd_input.specs.Pieces.{Known, Advances, TakesPiece}
 use Rattle.gd_journal.specs.declared.fault.JournalFault.{JournalFault}

@@ -1,10 +1,9 @@
 -- A piece of the input, as the line that it is.
-use Rattle.std.proofs.Common.{◌≡◌, ℕ, ◌+◌, List, [], ◌∷◌, ◌++◌, length, bytes_eq, Bool, true, false, Option, Result, Ok, Err, refl, sym, ap, subst, ◌∙◌, arith, append_assoc, append-nil}
+use Rattle.std.proofs.Common.{◌≡◌, ℕ, ◌+◌, List, [], ◌∷◌, ◌++◌, bytes_eq, Bool, true, false, Option, refl, sym, subst, arith}
 use Rattle.std.proofs.KnownBytes.{Appends-nil}
-use Rattle.std.specs.Io.KnownBytes.{Appends, Keeps}
 use Rattle.gd_runs.specs.Owed.{MembersOf}
 use Rattle.gd_runs.specs.Core.{State}
-use Rattle.gd_replay_laws.specs.Runs.{BuiltLine, BuiltReplies, PieceRuns, lines_at}
+use Rattle.gd_replay_laws.specs.Runs.{BuiltLine, PieceRuns}
 use Rattle.gd_replay.specs.declared.stop.Stop.{Stop}
 use Rattle.gd_replay.specs.declared.stop.Stop.TheVariants as stop
 use Rattle.gd_replay.specs.Runs.{LinePrints, LineFront, LineStops, PiecePrints, PieceFront, PieceStops}

@@ -1,9 +1,9 @@
 -- A run up to some place of its input.
-use Rattle.std.proofs.Common.{◌≡◌, ℕ, ◌+◌, ◌==◌, List, [], ◌∷◌, ◌++◌, length, take, Bool, true, false, Option, Result, Ok, Err, refl, sym, ap, subst, ◌∙◌, arith, append_assoc, append-nil, length-append, take_all}
+use Rattle.std.proofs.Common.{◌≡◌, ℕ, ◌+◌, ◌==◌, List, [], ◌∷◌, ◌++◌, length, take, Bool, true, false, Option, refl, sym, ap, subst, ◌∙◌, arith, append_assoc, append-nil, length-append, take_all}
 use Rattle.std.specs.Prelude.{if◌then◌else◌}
 use Rattle.std.proofs.lemmas.List.{take-append-le}
 use Rattle.std.proofs.KnownBytes.{Appends-trans, Appends-nil, Appends-kept}
-use Rattle.std.specs.Io.KnownBytes.{Appends, Keeps}
+use Rattle.std.specs.Io.KnownBytes.{Keeps}
 use Rattle.gd_prim.specs.declared.Batch.{Batch}
 use Rattle.gd_runs.specs.Owed.{MembersOf}
 use Rattle.gd_runs.specs.Explained.{Numbered, pieces, numbered, lines_of, max_round}
@@ -12,10 +12,7 @@ use Rattle.gd_input.specs.declared.piece.Piece.{Piece}
 use Rattle.gd_input.specs.Pieces.{TakesPiece, later_pieces}
 use Rattle.gd_replay_laws.specs.Runs.{BuiltReplies, PieceRuns, lines_at}
 use Rattle.gd_replay_laws.proofs.Joined.{runs_join}
-use Rattle.gd_replay.specs.declared.stop.Stop.{Stop}
-use Rattle.gd_replay.specs.declared.stop.Stop.TheVariants as stop
-use Rattle.gd_replay.specs.Runs.{Accounts, Replays, ReplaysTaken, ReplaysFront, PiecePrints, PieceFront, PieceStops, RunUpto}
-use Rattle.gd_replay.specs.Stops.{EndsAs}
+use Rattle.gd_replay.specs.Runs.{Accounts, Replays, ReplaysTaken, ReplaysFront, PiecePrints, PieceFront, RunUpto}
 
 -- ---- the lines of pieces
 

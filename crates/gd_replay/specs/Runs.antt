@@ -12,7 +12,6 @@ use Rattle.gd_runs.specs.Core.{State, opened}
 use Rattle.gd_replay_laws.specs.Runs.{BuiltLine, BuiltReplies, PieceRuns, lines_at}
 use Rattle.gd_replay.specs.declared.stop.Stop.{Stop}
 use Rattle.gd_replay.specs.declared.stop.Stop.TheVariants as stop
-use Rattle.gd_replay.specs.Stops.{Leaves}
 
 -- where the content is told, it stands for these batches
 abbrev pub Loads : Option (List ℕ) → List Batch → Type 0

@@ -17,6 +17,7 @@ use crate::trouble::Trouble;
 use std::alloc::Global;
 use std::io::{self, BufRead, BufReader, BufWriter, Write};
 use std::process::ExitCode;
+use std::sync::Wait;
 
 /// Takes a line of a text: a new case, or a line of the last one.
 fn take(alloc: Global, cases: &mut Vec<Case>, line: &str) -> Result<(), Trouble> {
@@ -40,9 +41,14 @@ fn cases<R: BufRead + Drop>(alloc: Global, text: R) -> Result<Vec<Case>, Trouble
 }
 
 /// Runs cases, one after another.
-fn run<W: Write>(alloc: Global, cases: &[Case], out: &mut W) -> Result<(), Trouble> {
+fn run<R: Wait, W: Write>(
+    rt: &R,
+    alloc: Global,
+    cases: &[Case],
+    out: &mut W,
+) -> Result<(), Trouble> {
     for case in cases {
-        let served = serve(alloc, case)?;
+        let served = serve(rt, alloc, case)?;
         report(case, &served, out)?;
     }
     out.flush()?;
@@ -50,10 +56,10 @@ fn run<W: Write>(alloc: Global, cases: &[Case], out: &mut W) -> Result<(), Troub
 }
 
 /// The cases of standard input, on standard output.
-fn run_all(rt: &(impl Input + Print + AllocGlobal)) -> Result<(), Trouble> {
+fn run_all(rt: &(impl Input + Print + AllocGlobal + Wait)) -> Result<(), Trouble> {
     let cases = cases(rt.alloc(), BufReader::new(rt.alloc(), rt.reader())?)?;
     let mut out = BufWriter::new(rt.alloc(), io::writer(rt))?;
-    run(rt.alloc(), &cases, &mut out)
+    run(rt, rt.alloc(), &cases, &mut out)
 }
 
 fn main(rt: HostRuntime) -> ExitCode {

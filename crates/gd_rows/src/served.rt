@@ -13,6 +13,7 @@ use gd_outside::clock::FixedClock;
 use gd_top::serve::graphd;
 use gd_top::status::Status;
 use std::alloc::Global;
+use std::sync::Wait;
 
 /// How often source, sink and shelf failed.
 #[derive(Clone, Copy)]
@@ -57,13 +58,14 @@ fn bytes_at(alloc: Global, shelf: &mut MemoryShelf, path: &Text) -> Result<Vec<u
 }
 
 /// Runs a case.
-pub(crate) fn serve(alloc: Global, case: &Case) -> Result<Served, Trouble> {
+pub(crate) fn serve<R: Wait>(rt: &R, alloc: Global, case: &Case) -> Result<Served, Trouble> {
     let setting = &case.setting;
     let path = Text::of(alloc, PATH)?;
     let mut source = Giving::new(alloc, case)?;
     let mut sink = Taking::new(alloc, setting)?;
     let mut shelf = shelf_of(alloc, &path, setting)?;
     let status = graphd(
+        rt,
         alloc,
         &setting.words,
         &mut source,

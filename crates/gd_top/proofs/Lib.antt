@@ -8,3 +8,4 @@ pub mod Weaker
 pub mod Complete
 pub mod Plain
 pub mod Split
+pub mod Replayed

@@ -14,6 +14,7 @@ use std::fs::File;
 use std::io::BufWriter;
 use std::process::ExitCode;
 use std::rt::{Env, Files};
+use std::sync::Wait;
 use std::time::Clock;
 use std::{env, io};
 
@@ -62,9 +63,9 @@ fn say(rt: &impl Print, text: &str) -> Status {
     }
 }
 
-/// Serves standard input over the files of the system. The replies of a round are written together.
+/// Serves or replays standard input over the files of the system. Replies are gathered, and written at the end of a round.
 fn serve(
-    rt: &(impl Input + Print + Clock + Files<File = File> + AllocGlobal),
+    rt: &(impl Input + Print + Clock + Files<File = File> + AllocGlobal + Wait),
     words: &[Text],
 ) -> Status {
     let Ok(writer) = BufWriter::with_capacity(rt.alloc(), OUTPUT_ROOM, io::writer(rt)) else {
@@ -74,6 +75,7 @@ fn serve(
     let mut sink = StdSink::new(writer);
     let mut shelf = FileShelf::new(rt.alloc(), rt);
     graphd(
+        rt,
         rt.alloc(),
         words,
         &mut source,
@@ -83,7 +85,9 @@ fn serve(
     )
 }
 
-fn run(rt: &(impl Env + Input + Print + Clock + Files<File = File> + AllocGlobal)) -> Status {
+fn run(
+    rt: &(impl Env + Input + Print + Clock + Files<File = File> + AllocGlobal + Wait),
+) -> Status {
     match words(rt) {
         Ok(words) => match said_of_itself(&words) {
             Some(text) => say(rt, text),

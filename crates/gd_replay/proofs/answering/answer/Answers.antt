@@ -1,7 +1,6 @@
 use Rattle.std.proofs.Common.{◌≡◌, ◌∙◌, List, ℕ, length, Ok, Err, ap, subst, arith}
 use Rattle.gd_runs.specs.Replay.{event_from}
 use Rattle.gd_events.specs.Events.{event_view}
-use Rattle.gd_fault.specs.declared.fault.LineFault.TheVariants as fault
 use Rattle.gd_mql.specs.Line.{fault_view}
 use Rattle.gd_replay_laws.specs.Built.{Takes}
 use Rattle.gd_replay_laws.specs.Runs.{BuiltLine}

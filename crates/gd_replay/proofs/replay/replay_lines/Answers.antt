@@ -1,14 +1,13 @@
-use Rattle.std.proofs.Common.{◌≡◌, ◌∙◌, ◌^◌, List, ℕ, Err, sym, subst, arith}
+use Rattle.std.proofs.Common.{Err, arith}
 use Rattle.std.specs.Io.KnownBytes.{prepend_known}
-use Rattle.gd_base.specs.Counts.{Rose}
 use Rattle.gd_runs.specs.Legal.{batches}
 use Rattle.gd_sessions.specs.Running.{core_state}
 use Rattle.gd_replay.specs.Stops.{Leaves}
 use Rattle.gd_replay.proofs.Begun.{begun_upto, begun_advances, begun_bounded, begun_below, prints_by, stops_by}
 use Rattle.gd_replay.proofs.Carried.{along_same, along_then, tells_on}
 use Rattle.gd_replay.proofs.Kept.{leaves_has, has_earlier, keeps_more, input_keeps}
-use Rattle.gd_replay.proofs.Known.{more_known, done_known, stops_known, input_known, advances_then, taken_known, caused_ends, input_ends}
-use Rattle.gd_replay.proofs.Taken.{rose_since, caused_since}
+use Rattle.gd_replay.proofs.Known.{more_known, done_known, stops_known, input_known, advances_then, caused_ends}
+use Rattle.gd_replay.proofs.Taken.{caused_since}
 use Rattle.gd_replay.proofs.replay.replay_lines.Goals as goal
 
 pub loop-piece-init : goal.loop-piece-init

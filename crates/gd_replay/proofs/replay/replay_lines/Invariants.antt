@@ -1,4 +1,4 @@
-use Rattle.std.proofs.Common.{◌≡◌, ◌≤◌, ◌+◌, ◌-◌, ◌^◌}
+use Rattle.std.proofs.Common.{◌≤◌, ◌+◌, ◌-◌, ◌^◌}
 use Rattle.std.specs.Io.KnownBytes.{prepend_known}
 use Rattle.gd_input.specs.Held.{IsBounded}
 use Rattle.gd_input.specs.Pieces.{Known, Advances}

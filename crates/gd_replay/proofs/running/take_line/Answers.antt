@@ -1,5 +1,4 @@
-use Rattle.std.proofs.Common.{◌≡◌, ◌≤◌, ◌+◌, List, ℕ, Bool, IsTrue, sym, subst, arith}
-use Rattle.std.proofs.KnownBytes.{Keeps-refl}
+use Rattle.std.proofs.Common.{◌≤◌, ◌+◌, Bool, IsTrue, sym, subst}
 use Rattle.gd_base.specs.Counts.{Rose}
 use Rattle.gd_runs.specs.Legal.{batches}
 use Rattle.gd_writer.specs.Parts.{Tells}
@@ -10,7 +9,7 @@ use Rattle.gd_replay.specs.Runs.{LinePrints}
 use Rattle.gd_replay.proofs.Carried.{tells_on}
 use Rattle.gd_replay.proofs.Grown.{grows_same}
 use Rattle.gd_replay.proofs.Kept.{leaves_has, halted_keeps}
-use Rattle.gd_replay.proofs.Taken.{printed_line, halted_line, halted_cause, lost_cause}
+use Rattle.gd_replay.proofs.Taken.{printed_line, halted_line, halted_cause}
 use Rattle.gd_replay.proofs.Outcomes.{ok_two, ok_more, err_three, err_more}
 use Rattle.gd_replay.proofs.running.take_line.Goals as goal
 
@@ -68,6 +67,7 @@ returns-in-Ok-clause-kept g c =
 pub returns-in-Err-clause-kept : goal.returns-in-Err-clause-kept
 returns-in-Err-clause-kept g c = λ tells.
     let lost = c.in-Err.ensures.lost in
-    let side = c.args.running.side in
-    (leaves_has (g.D.Disk.content c.in-Err.disk) (g.D.Disk.images c.in-Err.disk) (batches side.history) (core_state c.args.running) (subst (λ (b : Bool). IsTrue b) (sym lost.told) tells) (grows_same (batches side.history)) (lost.holds tells),
-    lost.hindered tells)
+    let side = c.args.running.side in (
+      leaves_has (g.D.Disk.content c.in-Err.disk) (g.D.Disk.images c.in-Err.disk) (batches side.history) (core_state c.args.running) (subst (λ (b : Bool). IsTrue b) (sym lost.told) tells) (grows_same (batches side.history)) (lost.holds tells),
+      lost.hindered tells,
+    )

@@ -1,9 +1,8 @@
-use Rattle.std.proofs.Common.{◌≡◌, ◌∙◌, List, ℕ, sym, arith}
+use Rattle.std.proofs.Common.{◌∙◌, sym}
 use Rattle.gd_sessions.specs.Running.{core_state}
 use Rattle.gd_replay.specs.Stops.{Leaves}
-use Rattle.gd_replay_laws.proofs.Below.{later}
 use Rattle.gd_replay.proofs.Carried.{along_same}
-use Rattle.gd_replay.proofs.Pieces.{blank_prints, line_prints, line_stops}
+use Rattle.gd_replay.proofs.Pieces.{line_prints, line_stops}
 use Rattle.gd_replay.proofs.running.take_piece.Goals as goal
 
 pub returns-in-Ok-clause-prints : goal.returns-in-Ok-clause-prints
