@@ -9,3 +9,4 @@ pub mod Complete
 pub mod Plain
 pub mod Split
 pub mod Replayed
+pub mod Commands
