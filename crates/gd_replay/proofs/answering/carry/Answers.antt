@@ -6,6 +6,7 @@ use Rattle.gd_sessions.specs.Running.{core_state, Answers}
 use Rattle.gd_replay.proofs.Carried.{anew_below, taken_below, taken_grows, along_opened, along_stepped, lost_opened}
 use Rattle.gd_replay.proofs.Kept.{hindered}
 use Rattle.gd_replay.proofs.Outcomes.{ok_more, ok_each, err_each}
+use Rattle.gd_replay.proofs.Answered.{may_take}
 use Rattle.gd_replay.proofs.answering.carry.Goals as goal
 
 pub returns-then-opens_again-clause-takes : goal.returns-then-opens_again-clause-takes
@@ -37,3 +38,6 @@ returns-then-opens_again-clause-lost g c = err_each c.reopen.result _ _ _ _ _ _
 pub returns-clause-along : goal.returns-clause-along
 returns-clause-along g c = along_stepped g.D.Disk.content g.D.Disk.faults g.C.Clock.may g.D.Disk.moment g.D.Disk.images g.D.Disk.images_since c.args.running.side c.step-reply.new.self.side c.step-reply.ensures.goes
     (taken_grows (g.C.Clock.may c.args.running.side.clock) (core_state c.args.running) c.args.line c.args.bytes (event_view c.args.event) (core_state c.step-reply.new.self) c.step-reply.result c.step-reply.ensures.takes)
+
+pub step-reply-requires-clause-may : goal.step-reply-requires-clause-may
+step-reply-requires-clause-may g c = may_take (core_state c.args.running) c.args.line (event_view c.args.event) c.requires.below c.requires.bounded

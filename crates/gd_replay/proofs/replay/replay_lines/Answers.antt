@@ -1,4 +1,4 @@
-use Rattle.std.proofs.Common.{Err, arith}
+use Rattle.std.proofs.Common.{◌^◌, Err, ap, arith}
 use Rattle.std.specs.Io.KnownBytes.{prepend_known}
 use Rattle.gd_runs.specs.Legal.{batches}
 use Rattle.gd_sessions.specs.Running.{core_state}
@@ -6,8 +6,8 @@ use Rattle.gd_replay.specs.Stops.{Leaves}
 use Rattle.gd_replay.proofs.Begun.{begun_upto, begun_advances, begun_bounded, begun_below, prints_by, stops_by}
 use Rattle.gd_replay.proofs.Carried.{along_same, along_then, tells_on}
 use Rattle.gd_replay.proofs.Kept.{leaves_has, has_earlier, keeps_more, input_keeps}
-use Rattle.gd_replay.proofs.Known.{more_known, done_known, stops_known, input_known, advances_then, caused_ends}
-use Rattle.gd_replay.proofs.Taken.{caused_since}
+use Rattle.gd_replay.proofs.Known.{more_known, done_known, stops_known, input_known, advances_then, taken_known, caused_ends, input_ends}
+use Rattle.gd_replay.proofs.Taken.{rose_since, caused_since}
 use Rattle.gd_replay.proofs.replay.replay_lines.Goals as goal
 
 pub loop-piece-init : goal.loop-piece-init
@@ -133,3 +133,14 @@ returns-in-Err-clause-kept g c = λ tells.
     rw c.stopped.ensures.parts
     (input_keeps c.in-Err.fault _ _
     (leaves_has (g.D.Disk.content current.side.log.disk) (g.D.Disk.images current.side.log.disk) (batches side.history) (core_state current) now (along.grows tells) (c.stopped.ensures.holds now)))
+
+pub returns-in-Err-clause-caused : goal.returns-in-Err-clause-caused
+returns-in-Err-clause-caused g c =
+    let inv = c.loop-piece.invariant in
+    let x = g.S.Source.left c.args.source.now in
+    let y = prepend_known c.loop-piece.reader.bytes (g.S.Source.left c.loop-piece.source) in
+    let z = prepend_known c.read_line.new.self.bytes (g.S.Source.left c.read_line.new.source) in
+    rw c.stopped.ensures.parts
+    (input_ends c.in-Err.fault _ _ _ _
+    (λ e. rose_since (g.S.Source.faults c.args.source.now) (g.S.Source.faults c.loop-piece.source) (g.S.Source.faults c.read_line.new.source) inv.source_later (c.in-Err.ensures.failed (ap Err e)))
+    (λ e. taken_known x z c.read_line.new.self.consumed (2 ^ 40) (advances_then x y z c.loop-piece.reader.consumed c.read_line.new.self.consumed inv.advances c.read_line.ensures.advances) (c.in-Err.ensures.too_much (ap Err e))))
