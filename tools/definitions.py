@@ -67,7 +67,9 @@ CRATES = [
     ("gd_words", "The command line: which words give which command.", ["Options", "Words"], False),
     ("gd_core_laws", "Lines that are served through the core, one after another on one thread.", ["Serve"], False),
     ("gd_rounds", "What contracts see of a run that is served through the core, and what a round comes to.", ["Served", "Rounds"], False),
-    ("gd_top", "The top call: which words it takes, what it finds in a file and leaves there, what it prints for its input, and how it ends.", ["Words", "Held", "Kept", "Serves", "Ends"], False),
+    ("gd_replay_laws", "Runs of events, as far as events are built.", ["Built", "Runs"], False),
+    ("gd_replay", "What a run of events prints and leaves, and why it stops.", ["Runs", "Stops", "Kept"], False),
+    ("gd_top", "The top call: which words it takes, what it finds in a file and leaves there, what it prints for its input, and how it ends.", ["Words", "Held", "Kept", "Serves", "Ends", "Replays"], False),
 ]
 
 # comments that lean on the definition above them, said in full

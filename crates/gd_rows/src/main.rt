@@ -41,7 +41,12 @@ fn cases<R: BufRead + Drop>(alloc: Global, text: R) -> Result<Vec<Case>, Trouble
 }
 
 /// Runs cases, one after another.
-fn run<R: Wait, W: Write>(rt: &R, alloc: Global, cases: &[Case], out: &mut W) -> Result<(), Trouble> {
+fn run<R: Wait, W: Write>(
+    rt: &R,
+    alloc: Global,
+    cases: &[Case],
+    out: &mut W,
+) -> Result<(), Trouble> {
     for case in cases {
         let served = serve(rt, alloc, case)?;
         report(case, &served, out)?;

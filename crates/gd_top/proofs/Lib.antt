@@ -7,3 +7,5 @@ pub mod Weaker
 pub mod Complete
 pub mod Plain
 pub mod Split
+pub mod Replayed
+pub mod Commands

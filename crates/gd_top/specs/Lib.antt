@@ -6,3 +6,4 @@ pub mod Lines
 pub mod Serves
 pub mod Stops
 pub mod Words
+pub mod Replays

@@ -3,6 +3,7 @@
 
 pub mod opening;
 pub mod printing;
+pub mod replay;
 pub mod rounds;
 pub mod serve;
 pub mod status;

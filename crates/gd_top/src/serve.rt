@@ -10,9 +10,12 @@ ghost use Rattle.gd_top.specs.Ends.{IsHindered, IsIdle, Prints, Causes, is_refus
 ghost use Rattle.gd_top.specs.Held.{BeginsWith, EndsWith, MayMeanAt, DoesMean, IsSoundAt, RoseBy, told_at};
 ghost use Rattle.gd_top.specs.Kept.{Keeps};
 ghost use Rattle.gd_top.specs.Serves.{Serves, ServesFront, ServesRounds};
-ghost use Rattle.gd_top.specs.Words.{path_of};
+ghost use Rattle.gd_runs.specs.Owed.{MembersOf};
+ghost use Rattle.gd_top.specs.Replays.{IsToldAt, LeavesAt, PrintsEvents};
+ghost use Rattle.gd_top.specs.Words.{path_of, replays};
 
 use crate::opening::{serve_in_file, serve_in_memory};
+use crate::replay::replay;
 use crate::status::Status;
 use gd_base::text::Text;
 use gd_disk::shelf::Shelf;
@@ -77,7 +80,9 @@ fn serve<R: Wait, S: Source, K: Sink, F: Shelf, C: Clock + Drop>(
 /// blank: to a read at the dateline of the store, to a write at the moment of the clock, to any other line its
 /// refusal. Where no memory is left for a reply, the reply line that says so is printed in its place; where the disk
 /// fails at a write, the line that says so. The sink is flushed at the end of each round. The status says how the run
-/// ended. The device of the file is put back on the shelf, however it ended.
+/// ended. With the words `replay` and its option it opens the store so too, reads the input to its end, line by line, carries
+/// each line out as an event of the core, on one thread, and prints its reply line; the sink is flushed at the end. The device
+/// of the file is put back on the shelf, however it ended.
 pub fn graphd<R: Wait, S: Source, K: Sink, F: Shelf, C: Clock + Drop>(
     rt: &R,
     alloc: Global,
@@ -94,35 +99,42 @@ pub fn graphd<R: Wait, S: Source, K: Sink, F: Shelf, C: Clock + Drop>(
     ensures usage { (result ≡ Status.Usage) → command_of words.now ≡ None }
     ensures usage_found { command_of words.now ≡ None → (result ≡ Status.Usage) ⊎ (result ≡ Status.Memory) }
 
-    // Where the run did not begin, nothing was read and nothing printed.
-    ensures nothing { is_refused result ≡ true → IsIdle source.old source.new sink.old sink.new }
+    // Where lines are served: where the run did not begin, nothing was read and nothing printed.
+    ensures nothing { replays words.now ≡ false → is_refused result ≡ true → IsIdle source.old source.new sink.old sink.new }
 
-    // The input was read to its end, and one legal history explains the whole output for it. It begins with what the
+    // Where lines are served, and the input was read to its end, one legal history explains the whole output for it. It begins with what the
     // file stood for; the file is left so that it stands for this history, with or without the write that is in doubt;
     // and the shelf counted at least as many faults as lines tell.
-    ensures done { result ≡ Status.Done → IfSome (S.left source.old) (Serves (C.may clock)
+    ensures done { replays words.now ≡ false → result ≡ Status.Done → IfSome (S.left source.old) (Serves (C.may clock)
         (BeginsWith (F.content shelf.old) (path_of words.now))
         (EndsWith (C.may clock) (F.content shelf.old) (F.images shelf.new) (path_of words.now))
         (RoseBy (F.faults shelf.old) (F.faults shelf.new)) (K.held sink.old) (K.held sink.new)) }
     ensures at_end { result ≡ Status.Done → IsAtEnd (S.left source.new) }
 
     // Where the input could not be read further, the lines of whole rounds were answered so, and no other.
-    ensures rounds { (result ≡ Status.ReadFault) ⊎ (result ≡ Status.TooMuch) → IfSome (S.left source.old)
+    ensures rounds { replays words.now ≡ false → (result ≡ Status.ReadFault) ⊎ (result ≡ Status.TooMuch) → IfSome (S.left source.old)
         (ServesRounds (C.may clock) (BeginsWith (F.content shelf.old) (path_of words.now))
         (EndsWith (C.may clock) (F.content shelf.old) (F.images shelf.new) (path_of words.now))
         (RoseBy (F.faults shelf.old) (F.faults shelf.new)) (K.held sink.old) (K.held sink.new)) }
 
     // At any stop what was printed is a front of an output that is explained so. Without memory the run may also not
     // have begun.
-    ensures front { is_stopped result ≡ true → IfSome (S.left source.old)
+    ensures front { replays words.now ≡ false → is_stopped result ≡ true → IfSome (S.left source.old)
         (ServesFront (C.may clock) (BeginsWith (F.content shelf.old) (path_of words.now))
         (EndsWith (C.may clock) (F.content shelf.old) (F.images shelf.new) (path_of words.now))
         (RoseBy (F.faults shelf.old) (F.faults shelf.new)) (K.held sink.old) (K.held sink.new)) }
-    ensures memory { result ≡ Status.Memory → IsIdle source.old source.new sink.old sink.new
+    ensures memory { replays words.now ≡ false → result ≡ Status.Memory → IsIdle source.old source.new sink.old sink.new
         ⊎ IfSome (S.left source.old)
         (ServesFront (C.may clock) (BeginsWith (F.content shelf.old) (path_of words.now))
         (EndsWith (C.may clock) (F.content shelf.old) (F.images shelf.new) (path_of words.now))
         (RoseBy (F.faults shelf.old) (F.faults shelf.new)) (K.held sink.old) (K.held sink.new)) }
+
+    // Where events are replayed, over a file that the shelf tells or without one, what was printed is what the definitions' core
+    // replies to the lines, from the batches on for which the file stood, and the file is left so that it stands for the state
+    // that they make, with or without the write that is in doubt.
+    ensures events { replays words.now ≡ true → IsToldAt (F.content shelf.old) (path_of words.now) → (members : MembersOf)
+        → PrintsEvents result members (C.may clock) (BeginsWith (F.content shelf.old) (path_of words.now)) (LeavesAt (F.images shelf.new) (path_of words.now))
+        (IsIdle source.old source.new sink.old sink.new) (S.left source.old) (K.held sink.old) (K.held sink.new) }
 
     // Each fault has its cause.
     ensures read_fault { result ≡ Status.ReadFault → Rose (S.faults source.old) (S.faults source.new) }
@@ -168,6 +180,9 @@ pub fn graphd<R: Wait, S: Source, K: Sink, F: Shelf, C: Clock + Drop>(
             shelf,
             clock,
         ),
+        Ok(Some(Command::Replay(settings))) => {
+            replay(rt, alloc, settings.file.as_ref(), source, sink, shelf, clock)
+        }
         Ok(None) => Status::Usage,
         Err(_refused) => Status::Memory,
     }

@@ -1,5 +1,5 @@
 -- How the reader tests words: whether they spell settings, and how often an option is named.
-use Rattle.std.proofs.Common.{arith, ◌≡◌, ◌∙◌, ap, ap₂, sym, refl, inl, inr, ◌+◌, Bool, true, false, not, ◌&&◌, ℕ, List, [], ◌∷◌, Option, Some, None, codes, map, cond, option_map, zero-add}
+use Rattle.std.proofs.Common.{arith, ◌≡◌, ◌∙◌, ap, sym, refl, inl, inr, ◌+◌, Bool, true, false, not, ◌&&◌, ℕ, List, [], ◌∷◌, Option, Some, None, map, cond, option_map, zero-add}
 use Rattle.std.specs.Prelude.{option_and_then, is_some, if◌then◌else◌, bytes_eq, count_by, nat_le}
 use Rattle.std.specs.Option.{option_map_or}
 use Rattle.std.specs.List.{list_any, list_all}

@@ -1,5 +1,5 @@
 -- What the parser makes of words that spell settings: it takes them, and its rows are the settings.
-use Rattle.std.proofs.Common.{arith, ◌≡◌, ◌∙◌, ap, subst, sym, refl, inl, inr, ◌≤◌, ◌+◌, Bool, true, false, ◌&&◌, ◌||◌, ℕ, List, [], ◌∷◌, ◌++◌, Option, Some, None, codes, map, cond, option_map, append-nil, append_assoc}
+use Rattle.std.proofs.Common.{arith, ◌≡◌, ◌∙◌, ap, subst, sym, refl, inl, inr, ◌≤◌, ◌+◌, Bool, true, false, ◌&&◌, ℕ, List, [], ◌∷◌, ◌++◌, Option, Some, None, codes, map, cond, option_map, append-nil, append_assoc}
 use Rattle.std.specs.Prelude.{option_and_then, bytes_eq, find, fold, slice_get, nat_le, if◌then◌else◌}
 use Rattle.std.proofs.lemmas.Bool.{and_from, and_parts, cases_Bool, leb-true, or_from, or_cases}
 use Rattle.std.proofs.lemmas.List.Sums.{sum_by-append}

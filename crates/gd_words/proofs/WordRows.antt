@@ -20,9 +20,14 @@ pub no_path : command_of (codes "serve" ∷ codes "--file=" ∷ []) ≡ None
 unfolding command_of options_of settings option_of
 no_path = refl
 
-pub other_verb : command_of (codes "replay" ∷ codes "--budget" ∷ codes "5" ∷ []) ≡ None
+pub other_verb : command_of (codes "dump" ∷ codes "--file" ∷ codes "a" ∷ []) ≡ None
 unfolding command_of
 other_verb = refl
+
+-- an option that another verb has
+pub option_of_serve : command_of (codes "replay" ∷ codes "--budget" ∷ codes "5" ∷ []) ≡ None
+unfolding command_of options_of settings option_of
+option_of_serve = refl
 
 pub plain : command_of (codes "serve" ∷ []) ≡ Some (command.Serve (record { file = None; workers = 4; budget = 10000 }))
 unfolding command_of options_of settings option_of
@@ -32,3 +37,11 @@ pub each_option : command_of (codes "serve" ∷ codes "--workers" ∷ codes "16"
     ≡ Some (command.Serve (record { file = Some (codes "a=b"); workers = 16; budget = 1 }))
 unfolding command_of options_of settings option_of
 each_option = refl
+
+pub replayed : command_of (codes "replay" ∷ []) ≡ Some (command.Replay (record { file = None }))
+unfolding command_of options_of settings option_of
+replayed = refl
+
+pub replayed_in_file : command_of (codes "replay" ∷ codes "--file" ∷ codes "a" ∷ []) ≡ Some (command.Replay (record { file = Some (codes "a") }))
+unfolding command_of options_of settings option_of
+replayed_in_file = refl

@@ -7,6 +7,7 @@ use Rattle.std.specs.Str.Parse.{digits_value}
 use Rattle.gd_words.specs.declared.verbs.Command.{Command}
 use Rattle.gd_words.specs.declared.verbs.Command.TheVariants as command
 use Rattle.gd_words.specs.declared.verbs.Serve.{Serve}
+use Rattle.gd_words.specs.declared.verbs.Replay.{Replay}
 use Rattle.gd_words.specs.Options.{Names, Setting, value_of, options_of}
 
 -- 1 to 10 digits, without a sign
@@ -34,8 +35,17 @@ serve_of given = option_and_then (λ workers. option_map (λ budget. record {
   budget = budget;
 }) (number_or 10000 1 1000000 (value_of (codes "budget") given))) (number_or 4 1 16 (value_of (codes "workers") given))
 
--- the command that words give: the verb `serve`, and then its options
+-- the options of `replay`
+abbrev pub replay_options : Names
+replay_options = codes "file" ∷ []
+
+-- `replay` with these settings
+abbrev pub replay_of : List Setting → Replay
+replay_of given = record { file = value_of (codes "file") given }
+
+-- the command that words give: a verb, `serve` or `replay`, and then its options
 unfoldable pub command_of : List (List ℕ) → Option Command
 command_of [] = None
 command_of (verb ∷ words) = if bytes_eq verb (codes "serve")
-    then option_map (λ serve. command.Serve serve) (option_and_then serve_of (options_of serve_options words)) else None
+    then option_map (λ serve. command.Serve serve) (option_and_then serve_of (options_of serve_options words))
+    else (if bytes_eq verb (codes "replay") then option_map (λ given. command.Replay (replay_of given)) (options_of replay_options words) else None)

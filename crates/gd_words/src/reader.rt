@@ -1,11 +1,11 @@
 //! From words to a command.
 ghost use Rattle.std.specs.Prelude.{◌≡◌, ◌≤◌, ℕ, List, map, option_and_then, length, IfOk, IfSome, option_map, All};
 ghost use Rattle.gd_words.specs.Options.{options_of};
-ghost use Rattle.gd_words.specs.Words.{serve_options, serve_of, command_of};
+ghost use Rattle.gd_words.specs.Words.{serve_options, serve_of, replay_options, replay_of, command_of};
 
 use crate::number::number_or;
 use crate::parsing::values_of;
-use crate::verbs::{Command, Serve};
+use crate::verbs::{Command, Replay, Serve};
 use gd_base::memory::Memory;
 use gd_base::text::Text;
 use std::alloc::Global;
@@ -31,10 +31,10 @@ fn strings<'a>(alloc: Global, words: &'a [Text]) -> Result<Vec<&'a str>, Memory>
 }
 
 /// The command that the words after the program's name give: the verb `serve`, then `--file PATH`,
-/// `--workers N` (1 to 16, else 4) and `--budget N` (1 to 1,000,000, else 10,000), in any order, each at
-/// most once, as `--name value` or `--name=value`. A value is not empty, and as a word of its own does not
-/// begin with `-`; a number is 1 to 10 digits. None: the words are not of this grammar. `Memory`: an
-/// allocation was refused.
+/// `--workers N` (1 to 16, else 4) and `--budget N` (1 to 1,000,000, else 10,000), or the verb `replay`, then
+/// `--file PATH`; the options in any order, each at most once, as `--name value` or `--name=value`. A value is
+/// not empty, and as a word of its own does not begin with `-`; a number is 1 to 10 digits. None: the words are
+/// not of this grammar. `Memory`: an allocation was refused.
 #[tactic(auto, unfolding(crate::specs::Words::command_of))]
 pub fn command(alloc: Global, words: &[Text]) -> Result<Option<Command>, Memory>
     ensures { IfOk result (λ command. command ≡ command_of words.now) }
@@ -46,6 +46,10 @@ pub fn command(alloc: Global, words: &[Text]) -> Result<Option<Command>, Memory>
     match verb.as_str() {
         "serve" => match serve(alloc, &options)? {
             Some(serve) => Ok(Some(Command::Serve(serve))),
+            None => Ok(None),
+        },
+        "replay" => match replay(alloc, &options)? {
+            Some(replay) => Ok(Some(Command::Replay(replay))),
             None => Ok(None),
         },
         _ => Ok(None),
@@ -80,6 +84,26 @@ fn serve(alloc: Global, words: &[&str]) -> Result<Option<Serve>, Memory>
         workers,
         budget,
     }))
+}
+
+/// The options of `replay`.
+fn replay_names() -> [&'static str; 1]
+    ensures { map (λ n. n.now) result ≡ replay_options }
+{
+    ["file"]
+}
+
+/// `replay` with the options that the words spell.
+fn replay(alloc: Global, words: &[&str]) -> Result<Option<Replay>, Memory>
+    requires { All (λ w. length w.now ≤ 4096) words.now }
+    ensures { IfOk result (λ replay. replay ≡ option_map replay_of (options_of replay_options (map (λ w. w.now) words.now))) }
+{
+    let names = replay_names();
+    let Some(values) = values_of(alloc, &names, words)? else {
+        return Ok(None);
+    };
+    let file = file_of(alloc, values.file)?;
+    Ok(Some(Replay { file }))
 }
 
 /// The path of the file, if it is given.

@@ -12,8 +12,16 @@ pub struct Serve {
     pub budget: u32,
 }
 
+/// Replay a run of events, on one thread.
+#[derive(Debug, PartialEq, Eq, Drop)]
+pub struct Replay {
+    /// The path of the file that keeps the store, of 1 to 4,096 bytes. None: it is kept in memory.
+    pub file: Option<Text>,
+}
+
 /// A verb with its options.
 #[derive(Debug, PartialEq, Eq, Drop)]
 pub enum Command {
     Serve(Serve),
+    Replay(Replay),
 }

@@ -63,7 +63,7 @@ fn say(rt: &impl Print, text: &str) -> Status {
     }
 }
 
-/// Serves standard input over the files of the system. The replies of a round are written together.
+/// Serves or replays standard input over the files of the system. Replies are gathered, and written at the end of a round.
 fn serve(
     rt: &(impl Input + Print + Clock + Files<File = File> + AllocGlobal + Wait),
     words: &[Text],

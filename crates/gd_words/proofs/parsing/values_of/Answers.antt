@@ -1,4 +1,4 @@
-use Rattle.std.proofs.Common.{rules, ◌≡◌, ◌∙◌, ap, sym, true, ℕ, List, map, codes}
+use Rattle.std.proofs.Common.{rules, ◌≡◌, ◌∙◌, ap, true, ℕ, List, map, codes}
 use Rattle.std.specs.Prelude.{is_some}
 use Rattle.std.specs.List.{list_all}
 use Rattle.clap.specs.Words.{app_of, is_simple, first_of, matches_of, found_of, rows_of, takes}

@@ -1,0 +1,78 @@
+-- What an event comes to is what its line comes to.
+use Rattle.std.proofs.Common.{◌≡◌, ℕ, ◌<◌, List, length, Bool, Result, Ok, Err, IfOk, inl, inr, ⊎_elim, refl, sym, ap, subst, arith, lt-ltb}
+use Rattle.std.specs.Prelude.{if◌then◌else◌, ◌≢◌}
+use Rattle.std.specs.Global.{Vec}
+use Rattle.gd_base.specs.declared.memory.Memory.{Memory}
+use Rattle.gd_grammar.specs.Chain.{◌>>=◌, map_err}
+use Rattle.gd_fault.specs.declared.fault.LineFault.{LineFault}
+use Rattle.gd_fault.specs.declared.fault.LineFault.TheVariants as fault
+use Rattle.gd_mql.specs.Line.{fault_view}
+use Rattle.gd_json.specs.Reading.{json_from}
+use Rattle.gd_runs.specs.Owed.{MembersOf}
+use Rattle.gd_runs.specs.Input.{line_too_long, no_json, no_line, max_line}
+use Rattle.gd_runs.specs.Explained.{memory_line}
+use Rattle.gd_runs.specs.Side.{IsFresh}
+use Rattle.gd_runs.specs.Core as core
+use Rattle.gd_runs.specs.Core.{Event, State}
+use Rattle.gd_runs.specs.Replay.{event_from, event_of}
+use Rattle.gd_replay_laws.specs.Built.{StepBuilt, Takes}
+use Rattle.gd_replay_laws.specs.Runs.{BuiltLine, IsBounded, AreBelow}
+use Rattle.gd_sessions.specs.Running.{Answers, MayTake}
+use Rattle.gd_replay.specs.Lines.{TellsTooLong, TellsFault}
+
+-- ---- answers
+
+pub answers_more : (P Q : List ℕ → Type 0) (result : Result (Vec ℕ) Memory) → ((line : List ℕ) → P line → Q line) → Answers P result → Answers Q result
+answers_more P Q (Ok bytes) more given = more bytes.items given
+answers_more P Q (Err e) more given = (given.0, more given.0 given.1)
+
+pub answers_say : (P : List ℕ → Type 0) (Q : Type 0) (result : Result (Vec ℕ) Memory) → ((line : List ℕ) → P line → Q) → Answers P result → Q
+answers_say P Q (Ok bytes) says given = says bytes.items given
+answers_say P Q (Err e) says given = says given.0 given.1
+
+-- want of memory, made or due
+pub answers_memory : (P : List ℕ → Type 0) (k : ℕ) (result : Result (Vec ℕ) Memory) → P (memory_line k) → IfOk result (λ bytes. bytes.items ≡ memory_line k) → Answers P result
+answers_memory P k (Ok bytes) none told = subst P (sym told) none
+answers_memory P k (Err e) none told = (memory_line k, none)
+
+-- ---- an event that may be carried out
+
+fresh : (s : State) (k : ℕ) → AreBelow k s → IsFresh s.history s.doubt k
+fresh s k below = record {
+  entries = λ e x at is. let small = below.entries e x at in absurd (omega (arith, small, is));
+  doubted = λ x at is. let small = below.doubted x at in absurd (omega (arith, small, is));
+}
+
+pub may_take : (s : State) (k : ℕ) (e : Event) → AreBelow k s → IsBounded e → MayTake s.history s.doubt k e
+may_take s k (core.begin i r) below bounds = bounds
+may_take s k (core.slice i n) below bounds = bounds
+may_take s k (core.write i w) below bounds = (bounds, fresh s k below)
+may_take s k (core.learn i m) below bounds = bounds
+may_take s k (core.freeze i) below bounds = bounds
+may_take s k (core.thaw i r frozen) below bounds = bounds
+may_take s k core.reopen below bounds = tt
+
+-- ---- a line
+
+pub takes_line : (members : MembersOf) (may : ℕ → Bool) (s : State) (k bytes : ℕ) (piece : List ℕ) (e : Event) (reply : List ℕ) (t : State) → event_from piece ≡ Ok e → bytes ≡ length piece → Takes members may s k bytes e reply t
+    → BuiltLine members may s k piece reply t
+takes_line members may s k bytes piece e reply t event long takes = ⊎_elim
+    (λ taken. inr (inl (e, event, subst (λ (n : ℕ). StepBuilt members may s k n e reply t) long taken)))
+    (λ lacks. inr (inr (lacks.0, inr (e, event, lacks.1))))
+    takes
+
+pub refuses_line : (members : MembersOf) (may : ℕ → Bool) (s : State) (k : ℕ) (piece : List ℕ) (f : LineFault) (reply : List ℕ) → (f ≢ fault.Memory → event_from piece ≡ Err (fault_view f)) → TellsFault k f reply → BuiltLine members may s k piece reply s
+refuses_line members may s k piece f reply asked tells = ⊎_elim
+    (λ told. inl (fault_view f, asked told.0, told.1, refl))
+    (λ lacks. inr (inr (lacks, inl refl)))
+    tells
+
+-- more bytes than a line has are no event
+long_is : (piece : List ℕ) → max_line < length piece → event_from piece ≡ Err line_too_long
+long_is piece long = ap (λ (b : Bool). if b then Err line_too_long else (map_err no_json (json_from piece) >>= λ j. map_err no_line (event_of j))) (lt-ltb max_line (length piece) long)
+
+pub long_line : (members : MembersOf) (may : ℕ → Bool) (s : State) (k : ℕ) (piece : List ℕ) (reply : List ℕ) → max_line < length piece → TellsTooLong k reply → BuiltLine members may s k piece reply s
+long_line members may s k piece reply long tells = ⊎_elim
+    (λ told. inl (line_too_long, long_is piece long, told, refl))
+    (λ lacks. inr (inr (lacks, inl refl)))
+    tells

@@ -1,0 +1,37 @@
+-- A run of lines as it begins, and as it goes on with another clock and disk.
+use Rattle.std.proofs.Common.{◌≡◌, ℕ, Bool, List, [], Option, sym, subst, arith}
+use Rattle.std.specs.Io.KnownBytes.{prepend_known}
+use Rattle.gd_prim.specs.declared.Batch.{Batch}
+use Rattle.gd_runs.specs.Owed.{MembersOf}
+use Rattle.gd_runs.specs.Core.{State, opened}
+use Rattle.gd_input.specs.Held.{Held, IsBounded}
+use Rattle.gd_input.specs.Pieces.{Known, Advances}
+use Rattle.gd_replay_laws.specs.Runs.{AreBelow}
+use Rattle.gd_replay_laws.proofs.Below.{opened_below}
+use Rattle.gd_replay.specs.declared.stop.Stop.{Stop}
+use Rattle.gd_replay.specs.Runs.{PiecePrints, PieceStops, RunUpto}
+use Rattle.gd_replay.proofs.Known.{start_known, advances_none}
+
+pub begun_upto : (members : MembersOf) (may : ℕ → Bool) (loaded : List Batch) (held : Option (List ℕ)) (s : State) (reader : Held) (a : Option (List ℕ)) → reader ≡ record { bytes = []; consumed = 0 } → s ≡ opened loaded
+    → Known a (prepend_known reader.bytes a) (RunUpto members may loaded held held 0 s)
+begun_upto members may loaded held s reader a new opens =
+    subst (λ (r : Held). Known a (prepend_known r.bytes a) (RunUpto members may loaded held held 0 s)) (sym new)
+    (subst (λ (t : State). Known a (prepend_known [] a) (RunUpto members may loaded held held 0 t)) (sym opens) (start_known members may loaded held a))
+
+pub begun_advances : (reader : Held) (a : Option (List ℕ)) → reader ≡ record { bytes = []; consumed = 0 } → Advances a (prepend_known reader.bytes a) 0 reader.consumed
+begun_advances reader a new = subst (λ (r : Held). Advances a (prepend_known r.bytes a) 0 r.consumed) (sym new) (advances_none a)
+
+pub begun_bounded : (reader : Held) → reader ≡ record { bytes = []; consumed = 0 } → IsBounded reader
+begun_bounded reader new = subst (λ (r : Held). IsBounded r) (sym new) (record { buffered = omega arith; taken = omega arith })
+
+pub begun_below : (s : State) (loaded : List Batch) (k : ℕ) → s ≡ opened loaded → AreBelow k s
+begun_below s loaded k opens = subst (AreBelow k) (sym opens) (opened_below k loaded)
+
+-- ---- by the moments of the clock that there was
+
+module _ (members : MembersOf) (given may : ℕ → Bool) (same : may ≡ given) (s : State) (k : ℕ) (piece : List ℕ) (old new : Option (List ℕ)) where
+  pub prints_by : (t : State) (n : ℕ) → PiecePrints members may s k piece t n old new → PiecePrints members given s k piece t n old new
+  prints_by t n prints = subst (λ (m : ℕ → Bool). PiecePrints members m s k piece t n old new) same prints
+
+  pub stops_by : (leaves : State → Type 0) (why : Stop) → PieceStops members may s k piece leaves why old new → PieceStops members given s k piece leaves why old new
+  stops_by leaves why stops = subst (λ (m : ℕ → Bool). PieceStops members m s k piece leaves why old new) same stops

@@ -1,0 +1,73 @@
+-- An event that was carried out: what stays, and which lines stand before.
+use Rattle.std.proofs.Common.{◌≡◌, ℕ, ◌+◌, List, Bool, Option, Result, ⊎_elim, ◌⊎◌, refl, sym, subst, ◌∙◌, arith, IsTrue}
+use Rattle.std.specs.Global.{Vec}
+use Rattle.gd_base.specs.declared.memory.Memory.{Memory}
+use Rattle.gd_base.specs.Counts.{Rose}
+use Rattle.gd_prim.specs.declared.Batch.{Batch}
+use Rattle.gd_journal.specs.declared.fault.JournalFault.{JournalFault}
+use Rattle.gd_journal.specs.declared.fault.JournalFault.TheVariants as journal
+use Rattle.gd_runs.specs.Owed.{MembersOf}
+use Rattle.gd_runs.specs.Legal.{batches}
+use Rattle.gd_runs.specs.Core.{Event, State, opened}
+use Rattle.gd_replay_laws.specs.Built.{Takes}
+use Rattle.gd_replay_laws.specs.Runs.{AreBelow}
+use Rattle.gd_replay_laws.proofs.Below.{later, opened_below, takes_below}
+use Rattle.gd_writer.specs.Parts.{Tells}
+use Rattle.gd_writer.specs.Side.{SideValue, GoesOn}
+use Rattle.gd_sessions.specs.Opened.{Opens}
+use Rattle.gd_sessions.specs.Running.{Answers}
+use Rattle.gd_replay.specs.Kept.{Grows, IsHindrance}
+use Rattle.gd_replay.specs.Stops.{Leaves, GoesAlong, IsLost}
+use Rattle.gd_replay.proofs.Answered.{answers_say}
+use Rattle.gd_replay.proofs.Grown.{grows_same, grows_then, takes_grows}
+
+-- ---- the lines before
+
+-- a store that was opened again, or nothing was done
+pub anew_below : (k : ℕ) (s t : State) (loaded : List Batch) → AreBelow k s → (t ≡ opened loaded) ⊎ (t ≡ s) → AreBelow (k + 1) t
+anew_below k s t loaded below anew = ⊎_elim
+    (λ is. subst (AreBelow (k + 1)) (sym is) (opened_below (k + 1) loaded))
+    (λ is. subst (AreBelow (k + 1)) (sym is) (later k s below))
+    anew
+
+-- an event that was taken
+pub taken_below : (may : ℕ → Bool) (s : State) (k bytes : ℕ) (e : Event) (t : State) (reply : Result (Vec ℕ) Memory) → AreBelow k s → ((members : MembersOf) → Answers (λ line. Takes members may s k bytes e line t) reply) → AreBelow (k + 1) t
+taken_below may s k bytes e t reply below takes =
+    let none : MembersOf = λ prims hop template. 0 in
+    answers_say (λ line. Takes none may s k bytes e line t) (AreBelow (k + 1) t) reply (λ line taken. takes_below none may s k bytes e line t below taken) (takes none)
+
+-- the batches that there were stay in front
+pub taken_grows : (may : ℕ → Bool) (s : State) (k bytes : ℕ) (e : Event) (t : State) (reply : Result (Vec ℕ) Memory) → ((members : MembersOf) → Answers (λ line. Takes members may s k bytes e line t) reply) → Grows (batches s.history) (batches t.history)
+taken_grows may s k bytes e t reply takes =
+    let none : MembersOf = λ prims hop template. 0 in
+    answers_say (λ line. Takes none may s k bytes e line t) (Grows (batches s.history) (batches t.history)) reply (λ line taken. takes_grows none may s k bytes e line t taken) (takes none)
+
+-- ---- the clock and the disk
+
+module _ {D C : Type 0} (content : D → Option (List ℕ)) (faults : D → ℕ) (may : C → ℕ → Bool) where
+  pub along_same : (side : SideValue D C) → GoesAlong content faults may side side
+  along_same side = record { clock = refl; told = refl; later = omega arith; grows = λ tells. grows_same (batches side.history) }
+
+  -- it goes on to tell its content
+  pub tells_on : (a b : SideValue D C) → GoesAlong content faults may a b → Tells (content a.log.disk) → Tells (content b.log.disk)
+  tells_on a b along tells = subst (λ (told : Bool). IsTrue told) (sym along.told) tells
+
+  pub along_then : (a b c : SideValue D C) → GoesAlong content faults may a b → GoesAlong content faults may b c → GoesAlong content faults may a c
+  along_then a b c first more = record {
+    clock = more.clock ∙ first.clock;
+    told = more.told ∙ first.told;
+    later = omega (arith, first.later, more.later);
+    grows = λ tells. grows_then (batches a.history) (batches b.history) (batches c.history) (first.grows tells) (more.grows (tells_on a b first tells));
+  }
+
+  module _ (moment : D → ℕ) (images : D → List ℕ → Type 0) (images_since : D → ℕ → List ℕ → Type 0) where
+    pub along_opened : (a b : SideValue D C) → may b.clock ≡ may a.clock → Opens content moment images images_since faults a.log.disk b.log.disk → (Tells (content a.log.disk) → Grows (batches a.history) (batches b.history))
+        → GoesAlong content faults may a b
+    along_opened a b clock opens grows = record { clock = clock; told = opens.told; later = opens.later; grows = grows }
+
+    pub along_stepped : (a b : SideValue D C) → GoesOn content moment images images_since faults may a b → Grows (batches a.history) (batches b.history) → GoesAlong content faults may a b
+    along_stepped a b goes grows = record { clock = goes.clock; told = goes.told; later = goes.later; grows = λ tells. grows }
+
+    pub lost_opened : (old new : D) (s : State) (fault : JournalFault) → (fault ≡ journal.DiskFault → Rose (faults old) (faults new)) → (Tells (content old) → Leaves (images new) s) → Opens content moment images images_since faults old new
+        → (Tells (content old) → IsHindrance fault) → IsLost content images faults old s fault new
+    lost_opened old new s fault cause holds opens hindered = record { cause = cause; holds = holds; told = opens.told; hindered = hindered; later = opens.later }

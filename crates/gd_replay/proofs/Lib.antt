@@ -1,0 +1,11 @@
+pub mod Printed
+pub mod Answered
+pub mod Pieces
+pub mod Upto
+pub mod Known
+pub mod Outcomes
+pub mod Taken
+pub mod Carried
+pub mod Begun
+pub mod Grown
+pub mod Kept

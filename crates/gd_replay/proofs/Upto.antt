@@ -1,0 +1,142 @@
+-- A run up to some place of its input.
+use Rattle.std.proofs.Common.{◌≡◌, ℕ, ◌+◌, ◌==◌, List, [], ◌∷◌, ◌++◌, length, take, Bool, true, false, Option, refl, sym, ap, subst, ◌∙◌, arith, append_assoc, append-nil, length-append, take_all}
+use Rattle.std.specs.Prelude.{if◌then◌else◌}
+use Rattle.std.proofs.lemmas.List.{take-append-le}
+use Rattle.std.proofs.KnownBytes.{Appends-trans, Appends-nil, Appends-kept}
+use Rattle.std.specs.Io.KnownBytes.{Keeps}
+use Rattle.gd_prim.specs.declared.Batch.{Batch}
+use Rattle.gd_runs.specs.Owed.{MembersOf}
+use Rattle.gd_runs.specs.Explained.{Numbered, pieces, numbered, lines_of, max_round}
+use Rattle.gd_runs.specs.Core.{State, opened}
+use Rattle.gd_input.specs.declared.piece.Piece.{Piece}
+use Rattle.gd_input.specs.Pieces.{TakesPiece, later_pieces}
+use Rattle.gd_replay_laws.specs.Runs.{BuiltReplies, PieceRuns, lines_at}
+use Rattle.gd_replay_laws.proofs.Joined.{runs_join}
+use Rattle.gd_replay.specs.Runs.{Accounts, Replays, ReplaysTaken, ReplaysFront, PiecePrints, PieceFront, RunUpto}
+
+-- ---- the lines of pieces
+
+-- the lines behind a piece
+record Behind (round in_round : ℕ) (piece : List ℕ) (ps : List (List ℕ)) : Type 0 where
+  pub round_then : ℕ
+  pub in_then : ℕ
+  pub parts : numbered round in_round (piece ∷ ps) ≡ lines_at round piece ++ numbered round_then in_then ps
+
+behind : (round in_round : ℕ) (piece : List ℕ) (ps : List (List ℕ)) → Behind round in_round piece ps
+behind round in_round [] ps = record { round_then = round + 1; in_then = 0; parts = refl }
+behind round in_round (c ∷ cs) ps = by (in_round + 1 == max_round) refl
+  where
+    line : Numbered
+    line = record { bytes = c ∷ cs; round = round }
+
+    by : (b : Bool) → (in_round + 1 == max_round) ≡ b → Behind round in_round (c ∷ cs) ps
+    by true is = record { round_then = round + 1; in_then = 0; parts = ap (λ (b : Bool). line ∷ (if b then numbered (round + 1) 0 ps else numbered round (in_round + 1) ps)) is }
+    by false is = record { round_then = round; in_then = in_round + 1; parts = ap (λ (b : Bool). line ∷ (if b then numbered (round + 1) 0 ps else numbered round (in_round + 1) ps)) is }
+
+-- how many lines a piece is does not depend on its round
+same_many : (round : ℕ) (piece : List ℕ) → length (lines_at round piece) ≡ length (lines_at 0 piece)
+same_many round [] = refl
+same_many round (c ∷ cs) = refl
+
+-- ---- a run
+
+module _ (members : MembersOf) (may : ℕ → Bool) (loaded : List Batch) where
+  pub upto_start : (held : Option (List ℕ)) (input : List ℕ) → RunUpto members may loaded held held 0 (opened loaded) input input
+  upto_start held input = record { round = 0; in_round = 0; given = []; output = []; lines = refl; replies = (refl, refl); many = refl; gained = Appends-nil held }
+
+  -- the lines up to and with a piece print this
+  replies_then : (given : List Numbered) (output rest : List ℕ) (k round : ℕ) (piece : List ℕ) (s t : State) → BuiltReplies members may (opened loaded) 0 given output s → k ≡ length given → PieceRuns members may s k piece rest t
+      → BuiltReplies members may (opened loaded) 0 (given ++ lines_at round piece) (output ++ rest) t
+  replies_then given output rest k round piece s t replies many runs =
+      let at : k ≡ 0 + length given = omega (arith, many) in
+      runs_join members may (opened loaded) s t 0 given (lines_at round piece) output rest replies (subst (λ (n : ℕ). BuiltReplies members may s n (lines_at round piece) rest t) at (runs round))
+
+  -- the lines of the input, with a piece in the middle
+  lines_then : (given : List Numbered) (round in_round : ℕ) (piece : List ℕ) (ps : List (List ℕ)) (input left : List ℕ) → lines_of input ≡ given ++ numbered round in_round (pieces [] left) → pieces [] left ≡ piece ∷ ps
+      → lines_of input ≡ (given ++ lines_at round piece) ++ numbered (behind round in_round piece ps).round_then (behind round in_round piece ps).in_then ps
+  lines_then given round in_round piece ps input left lines first =
+      lines ∙ (ap (λ (qs : List (List ℕ)). given ++ numbered round in_round qs) first
+      ∙ (ap (λ (ls : List Numbered). given ++ ls) (behind round in_round piece ps).parts ∙ sym (append_assoc given (lines_at round piece) (numbered (behind round in_round piece ps).round_then (behind round in_round piece ps).in_then ps))))
+
+  -- a piece more
+  pub upto_more : (old mid new : Option (List ℕ)) (k n : ℕ) (s t : State) (input left after : List ℕ) (piece : Piece) → RunUpto members may loaded old mid k s input left → (takes : TakesPiece piece left after) → piece.by_newline ≡ true
+      → PiecePrints members may s k takes.line t n mid new → RunUpto members may loaded old new n t input after
+  upto_more old mid new k n s t input left after piece upto takes newline prints =
+      let ps = pieces [] after in
+      let first : pieces [] left ≡ takes.line ∷ ps = takes.first ∙ ap (λ (b : Bool). takes.line ∷ later_pieces b after) newline in
+      let next = behind upto.round upto.in_round takes.line ps in
+      record {
+        round = next.round_then;
+        in_round = next.in_then;
+        given = upto.given ++ lines_at upto.round takes.line;
+        output = upto.output ++ prints.output;
+        lines = lines_then upto.given upto.round upto.in_round takes.line ps input left upto.lines first;
+        replies = replies_then upto.given upto.output prints.output k upto.round takes.line s t upto.replies upto.many prints.runs;
+        many = (let long = length-append upto.given (lines_at upto.round takes.line) in let same = same_many upto.round takes.line in omega (arith, prints.many, upto.many, long, same));
+        gained = Appends-trans old mid new upto.output prints.output upto.gained prints.gained;
+      }
+
+  -- the front of a list that is taken whole
+  take_front : (xs ys : List Numbered) → take (length xs) (xs ++ ys) ≡ xs
+  take_front xs ys = take-append-le (length xs) xs ys (omega arith) ∙ take_all (length xs) xs (omega arith)
+
+  module _ (leaves : State → Type 0) where
+    accounts : (given : List Numbered) (output : List ℕ) (s : State) → BuiltReplies members may (opened loaded) 0 given output s → leaves s → Accounts members may (λ l. l ≡ loaded) leaves given output
+    accounts given output s replies left = record { loaded = loaded; state = s; begun = refl; replies = replies; left = left }
+
+    of_lines : (given lines : List Numbered) (output : List ℕ) → lines ≡ given → Accounts members may (λ l. l ≡ loaded) leaves given output → Accounts members may (λ l. l ≡ loaded) leaves lines output
+    of_lines given lines output is has = subst (λ (ls : List Numbered). Accounts members may (λ l. l ≡ loaded) leaves ls output) (sym is) has
+
+    front_lines : (given more : List Numbered) (input : List ℕ) → lines_of input ≡ given ++ more → take (length given) (lines_of input) ≡ given
+    front_lines given more input lines = ap (take (length given)) lines ∙ take_front given more
+
+    -- the last piece
+    pub upto_end : (old mid new : Option (List ℕ)) (k n : ℕ) (s t : State) (input left after : List ℕ) (piece : Piece) → RunUpto members may loaded old mid k s input left → (takes : TakesPiece piece left after) → piece.by_newline ≡ false
+        → PiecePrints members may s k takes.line t n mid new → leaves t → Replays members may (λ l. l ≡ loaded) leaves old new input
+    upto_end old mid new k n s t input left after piece upto takes last prints leave =
+        let first : pieces [] left ≡ takes.line ∷ [] = takes.first ∙ ap (λ (b : Bool). takes.line ∷ later_pieces b after) last in
+        let given = upto.given ++ lines_at upto.round takes.line in
+        let lines : lines_of input ≡ given = lines_then upto.given upto.round upto.in_round takes.line [] input left upto.lines first ∙ append-nil given in
+        record {
+          output = upto.output ++ prints.output;
+          accounts = of_lines given (lines_of input) (upto.output ++ prints.output) lines
+              (accounts given (upto.output ++ prints.output) t (replies_then upto.given upto.output prints.output k upto.round takes.line s t upto.replies upto.many prints.runs) leave);
+          gained = Appends-trans old mid new upto.output prints.output upto.gained prints.gained;
+        }
+
+    -- nothing more
+    pub upto_taken : (old mid new : Option (List ℕ)) (k : ℕ) (s : State) (input left : List ℕ) → RunUpto members may loaded old mid k s input left → leaves s → Keeps mid new → ReplaysTaken members may (λ l. l ≡ loaded) leaves old new input
+    upto_taken old mid new k s input left upto leave kept = record {
+      taken = length upto.given;
+      output = upto.output;
+      accounts = of_lines upto.given (take (length upto.given) (lines_of input)) upto.output (front_lines upto.given (numbered upto.round upto.in_round (pieces [] left)) input upto.lines) (accounts upto.given upto.output s upto.replies leave);
+      gained = Appends-kept old mid new upto.output upto.gained kept;
+    }
+
+    pub taken_front : (old new : Option (List ℕ)) (input : List ℕ) → ReplaysTaken members may (λ l. l ≡ loaded) leaves old new input → ReplaysFront members may (λ l. l ≡ loaded) leaves old new input
+    taken_front old new input has = record {
+      taken = has.taken;
+      output = has.output;
+      rest = [];
+      accounts = subst (λ (out : List ℕ). Accounts members may (λ l. l ≡ loaded) leaves (take has.taken (lines_of input)) out) (sym (append-nil has.output)) has.accounts;
+      gained = has.gained;
+    }
+
+    -- a front of a piece
+    pub upto_front : (old mid new : Option (List ℕ)) (k : ℕ) (s : State) (input left after : List ℕ) (piece : Piece) → RunUpto members may loaded old mid k s input left → (takes : TakesPiece piece left after)
+        → PieceFront members may s k takes.line leaves mid new → ReplaysFront members may (λ l. l ≡ loaded) leaves old new input
+    upto_front old mid new k s input left after piece upto takes front =
+        let given = upto.given ++ lines_at upto.round takes.line in
+        let ps = later_pieces piece.by_newline after in
+        let lines = lines_then upto.given upto.round upto.in_round takes.line ps input left upto.lines takes.first in
+        let more = numbered (behind upto.round upto.in_round takes.line ps).round_then (behind upto.round upto.in_round takes.line ps).in_then ps in
+        let due = (upto.output ++ front.output) ++ front.rest in
+        record {
+          taken = length given;
+          output = upto.output ++ front.output;
+          rest = front.rest;
+          accounts = of_lines given (take (length given) (lines_of input)) due (front_lines given more input lines)
+              (subst (λ (out : List ℕ). Accounts members may (λ l. l ≡ loaded) leaves given out) (sym (append_assoc upto.output front.output front.rest))
+              (accounts given (upto.output ++ (front.output ++ front.rest)) front.state (replies_then upto.given upto.output (front.output ++ front.rest) k upto.round takes.line s front.state upto.replies upto.many front.runs) front.left));
+          gained = Appends-trans old mid new upto.output front.output upto.gained front.gained;
+        }

@@ -1,0 +1,55 @@
+use Rattle.std.proofs.Common.{◌≡◌, ◌∙◌, List, ℕ, length, Ok, Err, ap, subst, arith}
+use Rattle.gd_runs.specs.Replay.{event_from}
+use Rattle.gd_events.specs.Events.{event_view}
+use Rattle.gd_mql.specs.Line.{fault_view}
+use Rattle.gd_replay_laws.specs.Built.{Takes}
+use Rattle.gd_replay_laws.specs.Runs.{BuiltLine}
+use Rattle.gd_replay_laws.proofs.Bounds.{event_bounded}
+use Rattle.gd_replay_laws.proofs.Below.{later}
+use Rattle.gd_sessions.specs.Running.{core_state}
+use Rattle.gd_replay.specs.Lines.{TellsFault, TellsTooLong}
+use Rattle.gd_replay.proofs.Answered.{answers_more, takes_line, refuses_line, long_line}
+use Rattle.gd_replay.proofs.Carried.{along_same}
+use Rattle.gd_replay.proofs.Outcomes.{ok_more}
+use Rattle.gd_replay.proofs.answering.answer.Goals as goal
+
+pub carry-requires-clause-bounded : goal.carry-requires-clause-bounded
+carry-requires-clause-bounded g c = event_bounded c.deref.result.now (event_view c.in-Ok.event) c.in-Ok.ensures.asked
+
+pub returns-in-Ok-clause-answers : goal.returns-in-Ok-clause-answers
+returns-in-Ok-clause-answers g c = ok_more c.carry.result _ _
+    (λ both takes. λ tells members piece kept.
+    let whole = rw c.in-Bytes.is at kept in
+    answers_more (λ line. Takes members (g.C.Clock.may c.args.running.side.clock) (core_state c.args.running) c.args.line c.len.result (event_view c.in-Ok.event) line (core_state both.0))
+    (λ line. BuiltLine members (g.C.Clock.may c.args.running.side.clock) (core_state c.args.running) c.args.line piece line (core_state both.0)) both.1
+    (λ line taken. takes_line members (g.C.Clock.may c.args.running.side.clock) (core_state c.args.running) c.args.line c.len.result piece (event_view c.in-Ok.event) line (core_state both.0)
+    (subst (λ (bytes : List ℕ). event_from bytes ≡ Ok (event_view c.in-Ok.event)) (c.deref.ensures.value ∙ whole.0) c.in-Ok.ensures.asked) (omega (arith, c.len.ensures, c.in-Bytes.bytes.ok.0, ap length whole.0)) taken)
+    (takes tells members))
+    c.carry.ensures.takes
+
+pub returns-in-Bytes-clause-answers : goal.returns-in-Bytes-clause-answers
+returns-in-Bytes-clause-answers g c = λ tells members piece kept.
+    let whole = rw c.in-Bytes.is at kept in
+    answers_more (TellsFault c.args.line c.in-Err.fault) (λ line. BuiltLine members (g.C.Clock.may c.args.running.side.clock) (core_state c.args.running) c.args.line piece line (core_state c.args.running)) c.refuse-reply.result
+    (λ line told. refuses_line members (g.C.Clock.may c.args.running.side.clock) (core_state c.args.running) c.args.line piece c.in-Err.fault line
+    (λ some. subst (λ (bytes : List ℕ). event_from bytes ≡ Err (fault_view c.in-Err.fault)) (c.deref.ensures.value ∙ whole.0) (c.in-Err.ensures.asked some)) told)
+    c.refuse-reply.ensures
+
+pub returns-clause-answers : goal.returns-clause-answers
+returns-clause-answers g c = λ tells members piece kept.
+    let long = rw c.in-TooLong.is at kept in
+    answers_more (TellsTooLong c.args.line) (λ line. BuiltLine members (g.C.Clock.may c.args.running.side.clock) (core_state c.args.running) c.args.line piece line (core_state c.args.running)) c.refuse_long-reply.result
+    (λ line told. long_line members (g.C.Clock.may c.args.running.side.clock) (core_state c.args.running) c.args.line piece line long told)
+    c.refuse_long-reply.ensures
+
+pub returns-in-Bytes-clause-below : goal.returns-in-Bytes-clause-below
+returns-in-Bytes-clause-below g c = later c.args.line (core_state c.args.running) c.requires.below
+
+pub returns-clause-below : goal.returns-clause-below
+returns-clause-below g c = later c.args.line (core_state c.args.running) c.requires.below
+
+pub returns-in-Bytes-clause-along : goal.returns-in-Bytes-clause-along
+returns-in-Bytes-clause-along g c = along_same g.D.Disk.content g.D.Disk.faults g.C.Clock.may c.args.running.side
+
+pub returns-clause-along : goal.returns-clause-along
+returns-clause-along g c = along_same g.D.Disk.content g.D.Disk.faults g.C.Clock.may c.args.running.side

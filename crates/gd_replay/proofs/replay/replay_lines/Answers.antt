@@ -1,0 +1,146 @@
+use Rattle.std.proofs.Common.{◌^◌, Err, ap, arith}
+use Rattle.std.specs.Io.KnownBytes.{prepend_known}
+use Rattle.gd_runs.specs.Legal.{batches}
+use Rattle.gd_sessions.specs.Running.{core_state}
+use Rattle.gd_replay.specs.Stops.{Leaves}
+use Rattle.gd_replay.proofs.Begun.{begun_upto, begun_advances, begun_bounded, begun_below, prints_by, stops_by}
+use Rattle.gd_replay.proofs.Carried.{along_same, along_then, tells_on}
+use Rattle.gd_replay.proofs.Kept.{leaves_has, has_earlier, keeps_more, input_keeps}
+use Rattle.gd_replay.proofs.Known.{more_known, done_known, stops_known, input_known, advances_then, taken_known, caused_ends, input_ends}
+use Rattle.gd_replay.proofs.Taken.{rose_since, caused_since}
+use Rattle.gd_replay.proofs.replay.replay_lines.Goals as goal
+
+pub loop-piece-init : goal.loop-piece-init
+loop-piece-init g c =
+    let left = g.S.Source.left c.args.source.now in
+    let new = c.new-reader.ensures in
+    record {
+      upto = λ tells members. begun_upto members (g.C.Clock.may c.args.running.side.clock) c.args.running.side.history.loaded (g.K.Sink.held c.args.sink.now) (core_state c.args.running) c.new-reader.result left new c.requires;
+      advances = begun_advances c.new-reader.result left new;
+      counted = omega arith;
+      below = begun_below (core_state c.args.running) c.args.running.side.history.loaded 0 c.requires;
+      along = along_same g.D.Disk.content g.D.Disk.faults g.C.Clock.may c.args.running.side;
+      bounded = begun_bounded c.new-reader.result new;
+      source_later = omega arith;
+      sink_later = omega arith;
+    }
+
+pub loop-piece-preserved : goal.loop-piece-preserved
+loop-piece-preserved g c =
+    let inv = c.loop-piece.invariant in
+    let loaded = c.args.running.side.history.loaded in
+    let given = g.C.Clock.may c.args.running.side.clock in
+    let may = g.C.Clock.may c.loop-piece.current.side.clock in
+    let old = g.K.Sink.held c.args.sink.now in
+    let mid = g.K.Sink.held c.loop-piece.sink in
+    let new = g.K.Sink.held c.take_piece.new.sink in
+    let k = c.loop-piece.line in
+    let s = core_state c.loop-piece.current in
+    let x = g.S.Source.left c.args.source.now in
+    let y = prepend_known c.loop-piece.reader.bytes (g.S.Source.left c.loop-piece.source) in
+    let z = prepend_known c.read_line.new.self.bytes (g.S.Source.left c.read_line.new.source) in
+    record {
+      upto = λ tells members. more_known members given loaded old mid new k s c.in-Ok-take_piece.count (core_state c.in-Ok-take_piece.next) x y z c.in-Ok.piece c.if-by_newline.true (inv.upto tells members) c.in-Ok.ensures.line
+          (λ bytes kept. prints_by members given may inv.along.clock s k bytes mid new (core_state c.in-Ok-take_piece.next) c.in-Ok-take_piece.count
+          (c.in-Ok-take_piece.ensures.prints (tells_on g.D.Disk.content g.D.Disk.faults g.C.Clock.may c.args.running.side c.loop-piece.current.side inv.along tells) members bytes kept));
+      advances = advances_then x y z c.loop-piece.reader.consumed c.read_line.new.self.consumed inv.advances c.read_line.ensures.advances;
+      counted = (let forward = c.in-Ok.ensures.forward c.if-by_newline.true in let few = c.in-Ok-take_piece.ensures.few in omega (arith, inv.counted, forward, few));
+      below = c.in-Ok-take_piece.ensures.below;
+      along = along_then g.D.Disk.content g.D.Disk.faults g.C.Clock.may c.args.running.side c.loop-piece.current.side c.in-Ok-take_piece.next.side inv.along c.in-Ok-take_piece.ensures.along;
+      bounded = c.read_line.ensures.bounded;
+      source_later = omega (arith, inv.source_later, c.read_line.ensures.later);
+      sink_later = omega (arith, inv.sink_later, c.take_piece.ensures.later);
+    }
+
+pub returns-else-by_newline-clause-ends : goal.returns-else-by_newline-clause-ends
+returns-else-by_newline-clause-ends g c = λ tells members.
+    let inv = c.loop-piece.invariant in
+    let loaded = c.args.running.side.history.loaded in
+    let given = g.C.Clock.may c.args.running.side.clock in
+    let may = g.C.Clock.may c.loop-piece.current.side.clock in
+    let old = g.K.Sink.held c.args.sink.now in
+    let mid = g.K.Sink.held c.loop-piece.sink in
+    let new = g.K.Sink.held c.take_piece.new.sink in
+    let k = c.loop-piece.line in
+    let s = core_state c.loop-piece.current in
+    let x = g.S.Source.left c.args.source.now in
+    let y = prepend_known c.loop-piece.reader.bytes (g.S.Source.left c.loop-piece.source) in
+    let z = prepend_known c.read_line.new.self.bytes (g.S.Source.left c.read_line.new.source) in
+    let now = tells_on g.D.Disk.content g.D.Disk.faults g.C.Clock.may c.args.running.side c.loop-piece.current.side inv.along tells in
+    let then = tells_on g.D.Disk.content g.D.Disk.faults g.C.Clock.may c.loop-piece.current.side c.in-Ok-take_piece.next.side c.in-Ok-take_piece.ensures.along now in
+    rw c.ended.ensures.parts
+    (done_known members given loaded old mid new k s (Leaves (g.D.Disk.images c.in-Ok-take_piece.next.side.log.disk)) c.in-Ok-take_piece.count (core_state c.in-Ok-take_piece.next) x y z c.in-Ok.piece c.if-by_newline.false (inv.upto tells members) c.in-Ok.ensures.line
+    (λ bytes kept. prints_by members given may inv.along.clock s k bytes mid new (core_state c.in-Ok-take_piece.next) c.in-Ok-take_piece.count (c.in-Ok-take_piece.ensures.prints now members bytes kept))
+    (c.ended.ensures.holds then))
+
+pub returns-in-Err-take_piece-clause-ends : goal.returns-in-Err-take_piece-clause-ends
+returns-in-Err-take_piece-clause-ends g c = λ tells members.
+    let inv = c.loop-piece.invariant in
+    let loaded = c.args.running.side.history.loaded in
+    let given = g.C.Clock.may c.args.running.side.clock in
+    let may = g.C.Clock.may c.loop-piece.current.side.clock in
+    let old = g.K.Sink.held c.args.sink.now in
+    let mid = g.K.Sink.held c.loop-piece.sink in
+    let new = g.K.Sink.held c.take_piece.new.sink in
+    let k = c.loop-piece.line in
+    let s = core_state c.loop-piece.current in
+    let x = g.S.Source.left c.args.source.now in
+    let y = prepend_known c.loop-piece.reader.bytes (g.S.Source.left c.loop-piece.source) in
+    let z = prepend_known c.read_line.new.self.bytes (g.S.Source.left c.read_line.new.source) in
+    let now = tells_on g.D.Disk.content g.D.Disk.faults g.C.Clock.may c.args.running.side c.loop-piece.current.side inv.along tells in
+    stops_known members given loaded old mid new k s (Leaves (g.D.Disk.images c.in-Err-take_piece.disk)) c.in-Err-take_piece.stop _ _ c.in-Err-take_piece.ensures.caused x y z c.in-Ok.piece (inv.upto tells members) c.in-Ok.ensures.line
+    (λ bytes kept. stops_by members given may inv.along.clock s k bytes mid new (Leaves (g.D.Disk.images c.in-Err-take_piece.disk)) c.in-Err-take_piece.stop (c.in-Err-take_piece.ensures.stops now members bytes kept))
+
+pub returns-in-Err-take_piece-clause-caused : goal.returns-in-Err-take_piece-clause-caused
+returns-in-Err-take_piece-clause-caused g c =
+    let inv = c.loop-piece.invariant in
+    caused_ends c.in-Err-take_piece.stop _ _ _ _
+    (caused_since c.in-Err-take_piece.stop (g.K.Sink.faults c.args.sink.now) (g.K.Sink.faults c.loop-piece.sink) (g.K.Sink.faults c.take_piece.new.sink)
+    (g.D.Disk.faults c.args.running.side.log.disk) (g.D.Disk.faults c.loop-piece.current.side.log.disk) (g.D.Disk.faults c.in-Err-take_piece.disk) inv.sink_later inv.along.later c.in-Err-take_piece.ensures.caused)
+
+pub returns-in-Err-clause-ends : goal.returns-in-Err-clause-ends
+returns-in-Err-clause-ends g c = λ tells members.
+    let inv = c.loop-piece.invariant in
+    rw c.stopped.ensures.parts
+    (input_known members (g.C.Clock.may c.args.running.side.clock) c.args.running.side.history.loaded (Leaves (g.D.Disk.images c.loop-piece.current.side.log.disk)) (g.K.Sink.held c.args.sink.now) (g.K.Sink.held c.loop-piece.sink) c.loop-piece.line (core_state c.loop-piece.current) c.in-Err.fault
+    (g.S.Source.left c.args.source.now) (prepend_known c.loop-piece.reader.bytes (g.S.Source.left c.loop-piece.source)) (inv.upto tells members)
+    (c.stopped.ensures.holds (tells_on g.D.Disk.content g.D.Disk.faults g.C.Clock.may c.args.running.side c.loop-piece.current.side inv.along tells)))
+
+pub returns-else-by_newline-clause-kept : goal.returns-else-by_newline-clause-kept
+returns-else-by_newline-clause-kept g c = λ tells.
+    let side = c.args.running.side in
+    let next = c.in-Ok-take_piece.next in
+    let along = along_then g.D.Disk.content g.D.Disk.faults g.C.Clock.may side c.loop-piece.current.side next.side c.loop-piece.invariant.along c.in-Ok-take_piece.ensures.along in
+    let then = tells_on g.D.Disk.content g.D.Disk.faults g.C.Clock.may side next.side along tells in
+    rw c.ended.ensures.parts
+    (leaves_has (g.D.Disk.content next.side.log.disk) (g.D.Disk.images next.side.log.disk) (batches side.history) (core_state next) then (along.grows tells) (c.ended.ensures.holds then))
+
+pub returns-in-Err-take_piece-clause-kept : goal.returns-in-Err-take_piece-clause-kept
+returns-in-Err-take_piece-clause-kept g c = λ tells.
+    let side = c.args.running.side in
+    let along = c.loop-piece.invariant.along in
+    let now = tells_on g.D.Disk.content g.D.Disk.faults g.C.Clock.may side c.loop-piece.current.side along tells in
+    keeps_more (Err c.in-Err-take_piece.stop) _ _ _ _
+    (has_earlier (g.D.Disk.content c.in-Err-take_piece.disk) (g.D.Disk.images c.in-Err-take_piece.disk) (batches side.history) (batches c.loop-piece.current.side.history) (along.grows tells)) (λ f no. no)
+    (c.in-Err-take_piece.ensures.kept now)
+
+pub returns-in-Err-clause-kept : goal.returns-in-Err-clause-kept
+returns-in-Err-clause-kept g c = λ tells.
+    let side = c.args.running.side in
+    let current = c.loop-piece.current in
+    let along = c.loop-piece.invariant.along in
+    let now = tells_on g.D.Disk.content g.D.Disk.faults g.C.Clock.may side current.side along tells in
+    rw c.stopped.ensures.parts
+    (input_keeps c.in-Err.fault _ _
+    (leaves_has (g.D.Disk.content current.side.log.disk) (g.D.Disk.images current.side.log.disk) (batches side.history) (core_state current) now (along.grows tells) (c.stopped.ensures.holds now)))
+
+pub returns-in-Err-clause-caused : goal.returns-in-Err-clause-caused
+returns-in-Err-clause-caused g c =
+    let inv = c.loop-piece.invariant in
+    let x = g.S.Source.left c.args.source.now in
+    let y = prepend_known c.loop-piece.reader.bytes (g.S.Source.left c.loop-piece.source) in
+    let z = prepend_known c.read_line.new.self.bytes (g.S.Source.left c.read_line.new.source) in
+    rw c.stopped.ensures.parts
+    (input_ends c.in-Err.fault _ _ _ _
+    (λ e. rose_since (g.S.Source.faults c.args.source.now) (g.S.Source.faults c.loop-piece.source) (g.S.Source.faults c.read_line.new.source) inv.source_later (c.in-Err.ensures.failed (ap Err e)))
+    (λ e. taken_known x z c.read_line.new.self.consumed (2 ^ 40) (advances_then x y z c.loop-piece.reader.consumed c.read_line.new.self.consumed inv.advances c.read_line.ensures.advances) (c.in-Err.ensures.too_much (ap Err e))))

@@ -1,0 +1,4 @@
+pub mod Stops
+pub mod Kept
+pub mod Lines
+pub mod Runs

@@ -1,0 +1,129 @@
+-- What a run of events prints for its input, and what it leaves.
+use Rattle.std.specs.Prelude.{◌≡◌, ℕ, ◌+◌, List, [], ◌∷◌, ◌++◌, length, take, Bool, Option, Result, Ok, Err}
+use Rattle.std.specs.Global.{Vec}
+use Rattle.std.specs.Option.{ForSome}
+use Rattle.std.specs.Io.KnownBytes.{Appends, Keeps}
+use Rattle.gd_base.specs.declared.memory.Memory.{Memory}
+use Rattle.gd_prim.specs.declared.Batch.{Batch}
+use Rattle.gd_bytes.specs.File.{StandsFor}
+use Rattle.gd_runs.specs.Owed.{MembersOf}
+use Rattle.gd_runs.specs.Explained.{Numbered, pieces, numbered, lines_of}
+use Rattle.gd_runs.specs.Core.{State, opened}
+use Rattle.gd_replay_laws.specs.Runs.{BuiltLine, BuiltReplies, PieceRuns, lines_at}
+use Rattle.gd_replay.specs.declared.stop.Stop.{Stop}
+use Rattle.gd_replay.specs.declared.stop.Stop.TheVariants as stop
+
+-- where the content is told, it stands for these batches
+abbrev pub Loads : Option (List ℕ) → List Batch → Type 0
+Loads told loaded = ForSome told (λ file. StandsFor file loaded)
+
+-- Lines came to this output: over a list of batches with which the run may begin, they print it and make a state, which is left.
+pub record Accounts (members : MembersOf) (may : ℕ → Bool) (loads : List Batch → Type 0) (leaves : State → Type 0) (given : List Numbered) (output : List ℕ) : Type 0 where
+  pub loaded : List Batch
+  pub state : State
+  pub begun : loads loaded
+  pub replies : BuiltReplies members may (opened loaded) 0 given output state
+  pub left : leaves state
+
+-- the sink gained what all lines of the input came to
+pub record Replays (members : MembersOf) (may : ℕ → Bool) (loads : List Batch → Type 0) (leaves : State → Type 0) (old new : Option (List ℕ)) (input : List ℕ) : Type 0 where
+  pub output : List ℕ
+  pub accounts : Accounts members may loads leaves (lines_of input) output
+  pub gained : Appends old new output
+
+-- the sink gained what the first so many lines of the input came to
+pub record ReplaysTaken (members : MembersOf) (may : ℕ → Bool) (loads : List Batch → Type 0) (leaves : State → Type 0) (old new : Option (List ℕ)) (input : List ℕ) : Type 0 where
+  pub taken : ℕ
+  pub output : List ℕ
+  pub accounts : Accounts members may loads leaves (take taken (lines_of input)) output
+  pub gained : Appends old new output
+
+-- the sink gained a front of what the first so many lines of the input came to
+pub record ReplaysFront (members : MembersOf) (may : ℕ → Bool) (loads : List Batch → Type 0) (leaves : State → Type 0) (old new : Option (List ℕ)) (input : List ℕ) : Type 0 where
+  pub taken : ℕ
+  pub output : List ℕ
+  pub rest : List ℕ
+  pub accounts : Accounts members may loads leaves (take taken (lines_of input)) (output ++ rest)
+  pub gained : Appends old new output
+
+-- ---- a line
+
+-- the sink gained a front of these bytes
+pub record GainsFront (old new : Option (List ℕ)) (whole : List ℕ) : Type 0 where
+  pub piece : List ℕ
+  pub rest : List ℕ
+  pub parts : piece ++ rest ≡ whole
+  pub gained : Appends old new piece
+
+-- a reply that is due: the one that was made, or any where there was no memory for it
+abbrev pub IsDue : Result (Vec ℕ) Memory → List ℕ → Type 0
+IsDue (Ok bytes) line = line ≡ bytes.items
+IsDue (Err none) line = Unit {0}
+
+-- line k came to a state, and the sink gained its reply
+pub record LinePrints (members : MembersOf) (may : ℕ → Bool) (s : State) (k : ℕ) (bytes : List ℕ) (t : State) (old new : Option (List ℕ)) : Type 0 where
+  pub reply : List ℕ
+  pub line : BuiltLine members may s k bytes reply t
+  pub gained : Appends old new (reply ++ 10 ∷ [])
+
+-- line k came to a state, which is left, and the sink gained a front of its reply
+pub record LineFront (members : MembersOf) (may : ℕ → Bool) (s : State) (k : ℕ) (bytes : List ℕ) (leaves : State → Type 0) (old new : Option (List ℕ)) : Type 0 where
+  pub reply : List ℕ
+  pub state : State
+  pub line : BuiltLine members may s k bytes reply state
+  pub left : leaves state
+  pub front : GainsFront old new (reply ++ 10 ∷ [])
+
+-- nothing of a line was printed, and the state before it is left
+pub record LineLost (s : State) (leaves : State → Type 0) (old new : Option (List ℕ)) : Type 0 where
+  pub left : leaves s
+  pub kept : Keeps old new
+
+-- a line stopped a run so
+abbrev pub LineStops : MembersOf → (ℕ → Bool) → State → ℕ → List ℕ → (State → Type 0) → Stop → (old new : Option (List ℕ)) → Type 0
+LineStops members may s k bytes leaves (stop.Lost f) old new = LineLost s leaves old new
+LineStops members may s k bytes leaves stop.ReadFault old new = ⊥
+LineStops members may s k bytes leaves stop.TooMuch old new = ⊥
+LineStops members may s k bytes leaves (stop.Unopened f) old new = ⊥
+LineStops members may s k bytes leaves stop.SinkFault old new = LineFront members may s k bytes leaves old new
+LineStops members may s k bytes leaves stop.Memory old new = LineFront members may s k bytes leaves old new
+
+-- ---- a piece of the input
+
+-- A piece of the input, where the next line is line k, came to a state and the next line to line n, and the sink gained what it printed.
+pub record PiecePrints (members : MembersOf) (may : ℕ → Bool) (s : State) (k : ℕ) (piece : List ℕ) (t : State) (n : ℕ) (old new : Option (List ℕ)) : Type 0 where
+  pub output : List ℕ
+  pub runs : PieceRuns members may s k piece output t
+  pub many : n ≡ k + length (lines_at 0 piece)
+  pub gained : Appends old new output
+
+-- a piece of the input came to a state, which is left, and the sink gained a front of what it prints
+pub record PieceFront (members : MembersOf) (may : ℕ → Bool) (s : State) (k : ℕ) (piece : List ℕ) (leaves : State → Type 0) (old new : Option (List ℕ)) : Type 0 where
+  pub output : List ℕ
+  pub rest : List ℕ
+  pub state : State
+  pub runs : PieceRuns members may s k piece (output ++ rest) state
+  pub left : leaves state
+  pub gained : Appends old new output
+
+-- a piece of the input stopped a run so
+abbrev pub PieceStops : MembersOf → (ℕ → Bool) → State → ℕ → List ℕ → (State → Type 0) → Stop → (old new : Option (List ℕ)) → Type 0
+PieceStops members may s k piece leaves (stop.Lost f) old new = LineLost s leaves old new
+PieceStops members may s k piece leaves stop.ReadFault old new = ⊥
+PieceStops members may s k piece leaves stop.TooMuch old new = ⊥
+PieceStops members may s k piece leaves (stop.Unopened f) old new = ⊥
+PieceStops members may s k piece leaves stop.SinkFault old new = PieceFront members may s k piece leaves old new
+PieceStops members may s k piece leaves stop.Memory old new = PieceFront members may s k piece leaves old new
+
+-- ---- on the way
+
+-- Before what is left of the input stand lines that were taken: they print what the sink gained, and make a state.
+pub record RunUpto (members : MembersOf) (may : ℕ → Bool) (loaded : List Batch) (old new : Option (List ℕ)) (k : ℕ) (s : State) (input left : List ℕ) : Type 0 where
+  pub round : ℕ
+  pub in_round : ℕ
+  pub given : List Numbered
+  pub output : List ℕ
+  pub lines : lines_of input ≡ given ++ numbered round in_round (pieces [] left)
+  pub replies : BuiltReplies members may (opened loaded) 0 given output s
+  pub many : k ≡ length given
+  pub gained : Appends old new output

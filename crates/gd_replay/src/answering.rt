@@ -1,0 +1,92 @@
+//! A line is answered over a core that is open.
+ghost use Rattle.std.specs.Prelude.{◌≡◌, ◌≤◌, ◌<◌, ◌+◌, ◌^◌, ℕ, List, Ok, IfOk, IfErr, MatchResult, true, false};
+ghost use Rattle.gd_runs.specs.Core as core;
+ghost use Rattle.gd_runs.specs.Owed.{MembersOf};
+ghost use Rattle.gd_events.specs.Events.{event_view};
+ghost use Rattle.gd_input.specs.Line.{IsKept, IsShort};
+ghost use Rattle.gd_writer.specs.Parts.{Tells};
+ghost use Rattle.gd_replay_laws.specs.Built.{Takes};
+ghost use Rattle.gd_replay_laws.specs.Runs.{BuiltLine, IsBounded, AreBelow};
+ghost use Rattle.gd_sessions.specs.Running.{core_state, Answers, GoesBy};
+ghost use Rattle.gd_replay.specs.Stops.{GoesAlong, IsLost};
+
+use crate::lines::{refuse, refuse_long};
+use gd_base::memory::Memory;
+use gd_base::steps::Steps;
+use gd_disk::disk::Disk;
+use gd_events::event::{Event, event_from};
+use gd_input::line::RoundLine;
+use gd_journal::fault::JournalFault;
+use gd_outside::clock::Clock;
+use gd_sessions::running::Running;
+use std::alloc::Global;
+use std::sync::Wait;
+
+/// Whether an event opens the store again.
+fn opens_again(event: &Event) -> bool
+    ensures again { result ≡ true → event_view event.now ≡ core.reopen }
+    ensures goes_by { result ≡ false → GoesBy (event_view event.now) }
+{
+    matches!(event, Event::Reopen)
+}
+
+/// Carries out an event. An error: the store was closed for it, and not opened again.
+fn carry<R: Wait, D: Disk, C: Clock, L>(
+    rt: &R,
+    alloc: Global,
+    running: Running<D, C>,
+    line: u64,
+    bytes: u64,
+    event: Event,
+    steps: &mut Steps<L>,
+) -> Result<(Running<D, C>, Result<Vec<u8>, Memory>), (JournalFault, D, C)>
+    requires line { line < 2 ^ 63 }
+    requires bytes { bytes ≤ 262_144 }
+    requires bounded { IsBounded (event_view event) }
+    requires below { AreBelow line (core_state running) }
+    ensures takes { IfOk result (λ both. Tells (D.content running.side.log.disk) → (members : MembersOf)
+        → Answers (λ reply. Takes members (C.may running.side.clock) (core_state running) line bytes (event_view event) reply (core_state both.0)) both.1) }
+    ensures below { IfOk result (λ both. AreBelow (line + 1) (core_state both.0)) }
+    ensures along { IfOk result (λ both. GoesAlong D.content D.faults C.may running.side both.0.side) }
+    ensures lost { IfErr result (λ lost. IsLost D.content D.images D.faults running.side.log.disk (core_state running) lost.0 lost.1) }
+{
+    if opens_again(&event) {
+        return running.reopen(rt, alloc, line);
+    }
+    let mut running = running;
+    let reply = running.step(rt, alloc, line, bytes, event, steps);
+    Ok((running, reply))
+}
+
+/// Answers a line that is not blank.
+pub(crate) fn answer<R: Wait, D: Disk, C: Clock, L>(
+    rt: &R,
+    alloc: Global,
+    running: Running<D, C>,
+    line: u64,
+    text: RoundLine,
+    steps: &mut Steps<L>,
+) -> Result<(Running<D, C>, Result<Vec<u8>, Memory>), (JournalFault, D, C)>
+    requires line { line < 2 ^ 63 }
+    requires short { IsShort text }
+    requires below { AreBelow line (core_state running) }
+    ensures answers { IfOk result (λ both. Tells (D.content running.side.log.disk) → (members : MembersOf) (piece : List ℕ) → IsKept 262_144 text piece
+        → Answers (λ reply. BuiltLine members (C.may running.side.clock) (core_state running) line piece reply (core_state both.0)) both.1) }
+    ensures below { IfOk result (λ both. AreBelow (line + 1) (core_state both.0)) }
+    ensures along { IfOk result (λ both. GoesAlong D.content D.faults C.may running.side both.0.side) }
+    ensures lost { IfErr result (λ lost. IsLost D.content D.images D.faults running.side.log.disk (core_state running) lost.0 lost.1) }
+{
+    match text {
+        RoundLine::Bytes(bytes) => match event_from(alloc, &bytes) {
+            Ok(event) => carry(rt, alloc, running, line, bytes.len() as u64, event, steps),
+            Err(fault) => {
+                let reply = refuse(alloc, line, fault);
+                Ok((running, reply))
+            }
+        },
+        RoundLine::TooLong => {
+            let reply = refuse_long(alloc, line);
+            Ok((running, reply))
+        }
+    }
+}

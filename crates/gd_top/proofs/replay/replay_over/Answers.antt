@@ -1,0 +1,36 @@
+use Rattle.std.proofs.Common.{◌∙◌, sym}
+use Rattle.gd_log.specs.Opening.{IsKept}
+use Rattle.gd_replay.specs.Kept.{HasBatches}
+use Rattle.gd_replay.specs.Runs.{Loads}
+use Rattle.gd_replay.specs.Stops.{Leaves}
+use Rattle.gd_top.specs.Ends.{IsIdle}
+use Rattle.gd_top.proofs.Replayed.{events_print, ends_idle, idle_is, events_at_end, events_used, events_keep, events_causes}
+use Rattle.gd_top.proofs.replay.replay_over.Goals as goal
+
+pub returns-clause-prints : goal.returns-clause-prints
+returns-clause-prints g c = λ tells members.
+    let run = c.replay-end in
+    let source = c.args.source.now in
+    let sink = c.args.sink.now in
+    rw c.status_of.ensures
+    (events_print members (g.C.Clock.may c.args.clock) (Loads (g.D.Disk.content c.args.disk)) (Leaves (g.D.Disk.images run.result.1)) (IsIdle source run.new.source sink run.new.sink) (g.S.Source.left source) (g.K.Sink.held sink) (g.K.Sink.held run.new.sink) run.result.0
+    (ends_idle run.result.0 _ _ _ _ _ (idle_is source run.new.source sink run.new.sink) (run.ensures.ends tells members)))
+
+pub returns-clause-at_end : goal.returns-clause-at_end
+returns-clause-at_end g c = λ is. events_at_end c.replay-end.result.0 _ c.replay-end.ensures.at_end (sym c.status_of.ensures ∙ is)
+
+pub returns-clause-causes : goal.returns-clause-causes
+returns-clause-causes g c =
+    let run = c.replay-end in
+    let d = g.D.Disk in
+    rw c.status_of.ensures
+    (events_causes _ _ _ _ (HasBatches (d.content run.result.1) (d.images run.result.1)) (λ file. IsKept d.content d.moment d.images d.images_since file c.args.disk run.result.1) (d.content c.args.disk) run.result.0 run.ensures.caused run.ensures.kept)
+
+pub returns-clause-used : goal.returns-clause-used
+returns-clause-used g c = λ is. events_used c.replay-end.result.0 (sym c.status_of.ensures ∙ is)
+
+pub returns-clause-kept : goal.returns-clause-kept
+returns-clause-kept g c =
+    let run = c.replay-end in
+    let d = g.D.Disk in
+    events_keep d.content d.moment d.images d.images_since c.args.disk run.result.1 run.result.0 run.ensures.kept g.met.D.Disk.reads_one
