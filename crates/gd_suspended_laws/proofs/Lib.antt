@@ -8,4 +8,5 @@ pub mod Everything
 pub mod Named
 pub mod Fewer
 pub mod Early
+pub mod Visited
 pub mod Laws

@@ -1,6 +1,7 @@
 -- The laws of readings that are suspended.
 use Rattle.std.specs.Prelude.{◌≡◌, ◌<◌, ℕ, ◌+◌, List, [], map, length, Bool, true, false, nat_lt, Option, Some, None, Ok, if◌then◌else◌, codes}
 use Rattle.std.specs.List.{list_any}
+use Rattle.std.specs.Ordering.{nat_cmp}
 use Rattle.gd_prim.specs.declared.Primitive.{Primitive}
 use Rattle.gd_tree.specs.Trees.{Trees, no_trees, append, trees_of, list_of, lists_of}
 use Rattle.gd_defs.specs.Query.{Query}
@@ -18,14 +19,14 @@ use Rattle.gd_runs.specs.Shape.{page_shape}
 use Rattle.gd_runs.specs.Shape.Answers.{key_places, sort_lists}
 use Rattle.gd_runs.specs.Thawed.{built_trees, built_weight, body_line}
 use Rattle.gd_template_laws.specs.Laws.{AreHeld}
-use Rattle.gd_order_laws.specs.Window.{In}
+use Rattle.gd_order_laws.specs.Window.{In, Rising}
 use Rattle.gd_scan_laws.specs.Ordered.{start}
 use Rattle.gd_match_laws.specs.Moves.{Runs}
 use Rattle.gd_match_laws.specs.Laws.{AtEnd}
 use Rattle.gd_match_laws.specs.Rows.{rows_order}
 use Rattle.gd_window.specs.Kept.{Kept}
 use Rattle.gd_window.specs.Laws.{RowsBehindAreAsDefined}
-use Rattle.gd_suspended_laws.specs.Standing.{rows_of, marks_of, page_rows, IsOrderOf, HasScanned, IsKept, IsLast, IsListed, ChangesNothing}
+use Rattle.gd_suspended_laws.specs.Standing.{rows_of, marks_of, page_rows, IsOrderOf, HasScanned, IsKept, IsLast, IsListed, ChangesNothing, HasVisited}
 
 -- The sort keys of an object stand where its tree tells.
 abbrev pub TreesTellKeys : Type 0
@@ -71,6 +72,12 @@ HeavyScansRefuse = (prims : List Primitive) (q : Asked) (order : ScanOrder) (dat
 abbrev pub ScansEndEarly : Type 0
 ScansEndEarly = (prims : List Primitive) (q : Asked) (order : ScanOrder) (after : Option Mark) (s : Scan) (w : Kept) (places : List ℕ) (last : ℕ) → IsListed prims q order places
     → (has : HasScanned prims q after order s w) → IsLast has.given last → ((o : ℕ) → In o places → last < o → ChangesNothing prims q w o) → (e : Scan) × (HasScanned prims q after order e w × AtEnd prims order (template_of q) e)
+
+-- Where places rise, each that passes is one of them, and all of them were visited, a scan of these may go to its end with the window that has seen their rows.
+abbrev pub VisitsEnd : Type 0
+VisitsEnd = (prims : List Primitive) (written : Query) (q : Asked) (after : Option Mark) (places : List ℕ) (w : Kept) → AreHeld prims → asked_query prims written ≡ Ok q → Rising nat_cmp places
+    → ((o : ℕ) → passes_template prims (template_of q) o ≡ true → In o places) → HasVisited prims q after places w
+    → (e : Scan) × (HasScanned prims q after (set_order prims (named_places places)) e w × AtEnd prims (set_order prims (named_places places)) (template_of q) e)
 
 -- The rows that a scan keeps are read again from their marks.
 abbrev pub ScansKeep : Type 0

@@ -2,7 +2,7 @@
 //! function that does nothing: whoever calls it may use the law, and code above cites its statement from `specs/Laws.antt`.
 #![tactic(auto)]
 
-ghost use Rattle.gd_suspended_laws.specs.Laws.{BuildsGo, EverythingIs, FewerAre, HeavyBuildsRefuse, HeavyPagesRefuse, HeavyScansRefuse, ManyRefuse, NamedAre, OrdersAre, PrintsOwe, ScansEndEarly, ScansKeep, ScansOwe, StartsOwe, ThenBuilds, ThenCounts, ThenPrints, TreesTellKeys};
+ghost use Rattle.gd_suspended_laws.specs.Laws.{BuildsGo, EverythingIs, FewerAre, HeavyBuildsRefuse, HeavyPagesRefuse, HeavyScansRefuse, ManyRefuse, NamedAre, OrdersAre, PrintsOwe, ScansEndEarly, ScansKeep, ScansOwe, StartsOwe, ThenBuilds, ThenCounts, ThenPrints, TreesTellKeys, VisitsEnd};
 
 /// The sort keys of an object stand where its tree tells.
 pub fn trees_tell_keys()
@@ -47,6 +47,11 @@ pub fn heavy_scans_refuse()
 /// Where what is left would change nothing, the scan may go to its end with the window that it has.
 pub fn scans_end_early()
     ensures { ScansEndEarly }
+{}
+
+/// Where places were visited among which each that passes is, the scan of these may go to its end with the window that it has.
+pub fn visits_end()
+    ensures { VisitsEnd }
 {}
 
 /// The rows that a scan keeps are read again from their marks.
