@@ -9,4 +9,5 @@ pub mod Named
 pub mod Fewer
 pub mod Early
 pub mod Visited
+pub mod Gathered
 pub mod Laws

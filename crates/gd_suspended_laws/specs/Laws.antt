@@ -1,5 +1,5 @@
 -- The laws of readings that are suspended.
-use Rattle.std.specs.Prelude.{◌≡◌, ◌<◌, ℕ, ◌+◌, List, [], map, length, Bool, true, false, nat_lt, Option, Some, None, Ok, if◌then◌else◌, codes}
+use Rattle.std.specs.Prelude.{◌≡◌, ◌<◌, ◌≤◌, ℕ, ◌+◌, List, [], map, length, Bool, true, false, nat_lt, Option, Some, None, Ok, if◌then◌else◌, codes}
 use Rattle.std.specs.List.{list_any}
 use Rattle.std.specs.Ordering.{nat_cmp}
 use Rattle.gd_prim.specs.declared.Primitive.{Primitive}
@@ -26,7 +26,7 @@ use Rattle.gd_match_laws.specs.Laws.{AtEnd}
 use Rattle.gd_match_laws.specs.Rows.{rows_order}
 use Rattle.gd_window.specs.Kept.{Kept}
 use Rattle.gd_window.specs.Laws.{RowsBehindAreAsDefined}
-use Rattle.gd_suspended_laws.specs.Standing.{rows_of, marks_of, page_rows, IsOrderOf, HasScanned, IsKept, IsLast, IsListed, ChangesNothing, HasVisited}
+use Rattle.gd_suspended_laws.specs.Standing.{rows_of, marks_of, page_rows, IsOrderOf, HasScanned, IsKept, IsLast, IsListed, ChangesNothing, HasVisited, page_objects, trees_among, weight_among}
 
 -- The sort keys of an object stand where its tree tells.
 abbrev pub TreesTellKeys : Type 0
@@ -96,6 +96,13 @@ BuildsGo = (prims : List Primitive) (q : Asked) (order : ScanOrder) (dateline k 
     → Runs prims (rows_order (page_rows w)) (template_of q) s cs m → list_any weighs_too_much cs ≡ false
     → body_line prims q order dateline k with_cursor after (marks_of w) (building weight ts s)
     ≡ body_line prims q order dateline k with_cursor after (marks_of w) (building (weight + built_weight cs) (append ts (trees_of (built_trees cs))) m)
+
+-- The trees of the rows of a page that answer may be printed at once, where these do not weigh too much together.
+abbrev pub PagesPrint : Type 0
+PagesPrint = (prims : List Primitive) (q : Asked) (order : ScanOrder) (dateline k : ℕ) (with_cursor : Bool) (after : Option Mark) (w : Kept) → IsKept prims q after w → q.count ≡ false
+    → weight_among prims q (page_objects w) ≤ max_page_weight
+    → body_line prims q order dateline k with_cursor after (marks_of w) (building 0 no_trees start)
+    ≡ body_line prims q order dateline k with_cursor after (marks_of w) (printing 0 (trees_of (trees_among prims q (page_objects w))) [])
 
 -- Where a row that is still to be built weighs too much, the reading owes the refusal that says so.
 abbrev pub HeavyBuildsRefuse : Type 0
