@@ -8,4 +8,6 @@ pub mod Everything
 pub mod Named
 pub mod Fewer
 pub mod Early
+pub mod Visited
+pub mod Gathered
 pub mod Laws

@@ -1,6 +1,7 @@
 -- The laws of readings that are suspended.
-use Rattle.std.specs.Prelude.{◌≡◌, ◌<◌, ℕ, ◌+◌, List, [], map, length, Bool, true, false, nat_lt, Option, Some, None, Ok, if◌then◌else◌, codes}
+use Rattle.std.specs.Prelude.{◌≡◌, ◌<◌, ◌≤◌, ℕ, ◌+◌, List, [], map, length, Bool, true, false, nat_lt, Option, Some, None, Ok, if◌then◌else◌, codes}
 use Rattle.std.specs.List.{list_any}
+use Rattle.std.specs.Ordering.{nat_cmp}
 use Rattle.gd_prim.specs.declared.Primitive.{Primitive}
 use Rattle.gd_tree.specs.Trees.{Trees, no_trees, append, trees_of, list_of, lists_of}
 use Rattle.gd_defs.specs.Query.{Query}
@@ -18,14 +19,14 @@ use Rattle.gd_runs.specs.Shape.{page_shape}
 use Rattle.gd_runs.specs.Shape.Answers.{key_places, sort_lists}
 use Rattle.gd_runs.specs.Thawed.{built_trees, built_weight, body_line}
 use Rattle.gd_template_laws.specs.Laws.{AreHeld}
-use Rattle.gd_order_laws.specs.Window.{In}
+use Rattle.gd_order_laws.specs.Window.{In, Rising}
 use Rattle.gd_scan_laws.specs.Ordered.{start}
 use Rattle.gd_match_laws.specs.Moves.{Runs}
 use Rattle.gd_match_laws.specs.Laws.{AtEnd}
 use Rattle.gd_match_laws.specs.Rows.{rows_order}
 use Rattle.gd_window.specs.Kept.{Kept}
 use Rattle.gd_window.specs.Laws.{RowsBehindAreAsDefined}
-use Rattle.gd_suspended_laws.specs.Standing.{rows_of, marks_of, page_rows, IsOrderOf, HasScanned, IsKept, IsLast, IsListed, ChangesNothing}
+use Rattle.gd_suspended_laws.specs.Standing.{rows_of, marks_of, page_rows, IsOrderOf, HasScanned, IsKept, IsLast, IsListed, ChangesNothing, HasVisited, page_objects, trees_among, weight_among}
 
 -- The sort keys of an object stand where its tree tells.
 abbrev pub TreesTellKeys : Type 0
@@ -72,6 +73,12 @@ abbrev pub ScansEndEarly : Type 0
 ScansEndEarly = (prims : List Primitive) (q : Asked) (order : ScanOrder) (after : Option Mark) (s : Scan) (w : Kept) (places : List ℕ) (last : ℕ) → IsListed prims q order places
     → (has : HasScanned prims q after order s w) → IsLast has.given last → ((o : ℕ) → In o places → last < o → ChangesNothing prims q w o) → (e : Scan) × (HasScanned prims q after order e w × AtEnd prims order (template_of q) e)
 
+-- Where places rise, each that passes is one of them, and all of them were visited, a scan of these may go to its end with the window that has seen their rows.
+abbrev pub VisitsEnd : Type 0
+VisitsEnd = (prims : List Primitive) (written : Query) (q : Asked) (after : Option Mark) (places : List ℕ) (w : Kept) → AreHeld prims → asked_query prims written ≡ Ok q → Rising nat_cmp places
+    → ((o : ℕ) → passes_template prims (template_of q) o ≡ true → In o places) → HasVisited prims q after places w
+    → (e : Scan) × (HasScanned prims q after (set_order prims (named_places places)) e w × AtEnd prims (set_order prims (named_places places)) (template_of q) e)
+
 -- The rows that a scan keeps are read again from their marks.
 abbrev pub ScansKeep : Type 0
 ScansKeep = RowsBehindAreAsDefined → (prims : List Primitive) (q : Asked) (order : ScanOrder) (after : Option Mark) (s : Scan) (w : Kept) → IsOrderOf prims q order → HasScanned prims q after order s w → IsKept prims q after w
@@ -89,6 +96,13 @@ BuildsGo = (prims : List Primitive) (q : Asked) (order : ScanOrder) (dateline k 
     → Runs prims (rows_order (page_rows w)) (template_of q) s cs m → list_any weighs_too_much cs ≡ false
     → body_line prims q order dateline k with_cursor after (marks_of w) (building weight ts s)
     ≡ body_line prims q order dateline k with_cursor after (marks_of w) (building (weight + built_weight cs) (append ts (trees_of (built_trees cs))) m)
+
+-- The trees of the rows of a page that answer may be printed at once, where these do not weigh too much together.
+abbrev pub PagesPrint : Type 0
+PagesPrint = (prims : List Primitive) (q : Asked) (order : ScanOrder) (dateline k : ℕ) (with_cursor : Bool) (after : Option Mark) (w : Kept) → IsKept prims q after w → q.count ≡ false
+    → weight_among prims q (page_objects w) ≤ max_page_weight
+    → body_line prims q order dateline k with_cursor after (marks_of w) (building 0 no_trees start)
+    ≡ body_line prims q order dateline k with_cursor after (marks_of w) (printing 0 (trees_of (trees_among prims q (page_objects w))) [])
 
 -- Where a row that is still to be built weighs too much, the reading owes the refusal that says so.
 abbrev pub HeavyBuildsRefuse : Type 0

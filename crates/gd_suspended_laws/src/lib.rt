@@ -2,7 +2,7 @@
 //! function that does nothing: whoever calls it may use the law, and code above cites its statement from `specs/Laws.antt`.
 #![tactic(auto)]
 
-ghost use Rattle.gd_suspended_laws.specs.Laws.{BuildsGo, EverythingIs, FewerAre, HeavyBuildsRefuse, HeavyPagesRefuse, HeavyScansRefuse, ManyRefuse, NamedAre, OrdersAre, PrintsOwe, ScansEndEarly, ScansKeep, ScansOwe, StartsOwe, ThenBuilds, ThenCounts, ThenPrints, TreesTellKeys};
+ghost use Rattle.gd_suspended_laws.specs.Laws.{BuildsGo, EverythingIs, FewerAre, HeavyBuildsRefuse, HeavyPagesRefuse, HeavyScansRefuse, ManyRefuse, NamedAre, OrdersAre, PagesPrint, PrintsOwe, ScansEndEarly, ScansKeep, ScansOwe, StartsOwe, ThenBuilds, ThenCounts, ThenPrints, TreesTellKeys, VisitsEnd};
 
 /// The sort keys of an object stand where its tree tells.
 pub fn trees_tell_keys()
@@ -49,6 +49,11 @@ pub fn scans_end_early()
     ensures { ScansEndEarly }
 {}
 
+/// Where places were visited among which each that passes is, the scan of these may go to its end with the window that it has.
+pub fn visits_end()
+    ensures { VisitsEnd }
+{}
+
 /// The rows that a scan keeps are read again from their marks.
 pub fn scans_keep()
     ensures { ScansKeep }
@@ -62,6 +67,11 @@ pub fn then_builds()
 /// A reading that builds trees goes on by a run over its rows.
 pub fn builds_go()
     ensures { BuildsGo }
+{}
+
+/// The trees of the rows of a page may be printed at once, where these do not weigh too much together.
+pub fn pages_print()
+    ensures { PagesPrint }
 {}
 
 /// Where a row that is still to be built weighs too much, the reading owes the refusal that says so.
