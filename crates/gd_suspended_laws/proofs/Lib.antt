@@ -6,6 +6,7 @@ pub mod Given
 pub mod Going
 pub mod Everything
 pub mod Named
+pub mod Full
 pub mod Fewer
 pub mod Early
 pub mod Laws

@@ -1,6 +1,7 @@
 -- The laws of readings that are suspended.
 use Rattle.std.specs.Prelude.{◌≡◌, ◌<◌, ℕ, ◌+◌, List, [], map, length, Bool, true, false, nat_lt, Option, Some, None, Ok, if◌then◌else◌, codes}
 use Rattle.std.specs.List.{list_any}
+use Rattle.std.specs.Ordering.{nat_cmp}
 use Rattle.gd_prim.specs.declared.Primitive.{Primitive}
 use Rattle.gd_tree.specs.Trees.{Trees, no_trees, append, trees_of, list_of, lists_of}
 use Rattle.gd_defs.specs.Query.{Query}
@@ -18,7 +19,7 @@ use Rattle.gd_runs.specs.Shape.{page_shape}
 use Rattle.gd_runs.specs.Shape.Answers.{key_places, sort_lists}
 use Rattle.gd_runs.specs.Thawed.{built_trees, built_weight, body_line}
 use Rattle.gd_template_laws.specs.Laws.{AreHeld}
-use Rattle.gd_order_laws.specs.Window.{In}
+use Rattle.gd_order_laws.specs.Window.{In, Apart}
 use Rattle.gd_scan_laws.specs.Ordered.{start}
 use Rattle.gd_match_laws.specs.Moves.{Runs}
 use Rattle.gd_match_laws.specs.Laws.{AtEnd}
@@ -44,6 +45,11 @@ EverythingIs = (prims : List Primitive) (written : Query) (q : Asked) → AreHel
 abbrev pub NamedAre : Type 0
 NamedAre = (prims : List Primitive) (written : Query) (q : Asked) (places : List ℕ) → AreHeld prims → asked_query prims written ≡ Ok q → ((o : ℕ) → passes_template prims (template_of q) o ≡ true → In o places)
     → IsOrderOf prims q (set_order prims (named_places places))
+
+-- So is each that has no place twice, and each place that passes.
+abbrev pub FullAre : Type 0
+FullAre = (prims : List Primitive) (written : Query) (q : Asked) (order : ScanOrder) → AreHeld prims → asked_query prims written ≡ Ok q → Apart nat_cmp (map (λ c. c.1) order)
+    → ((o : ℕ) → passes_template prims (template_of q) o ≡ true → In o (map (λ c. c.1) order)) → IsOrderOf prims q order
 
 -- So is that of a scan for members that each candidate meets, as some of the query's own.
 abbrev pub FewerAre : Type 0
