@@ -11,5 +11,6 @@ pub mod reading;
 mod roots;
 mod rows;
 mod scanning;
+mod sources;
 mod stage;
 mod subject;

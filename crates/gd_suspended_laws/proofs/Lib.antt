@@ -7,6 +7,7 @@ pub mod Going
 pub mod Everything
 pub mod Named
 pub mod Full
+pub mod Defined
 pub mod Fewer
 pub mod Early
 pub mod Laws
