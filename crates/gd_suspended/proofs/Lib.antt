@@ -1,4 +1,5 @@
 pub mod Advanced
+pub mod Sourced
 pub mod Scanned
 pub mod Checked
 pub mod Visited

@@ -13,6 +13,7 @@ pub mod reading;
 mod roots;
 mod rows;
 mod scanning;
+mod sources;
 mod stage;
 mod subject;
 mod visiting;

@@ -1,26 +1,28 @@
 -- The laws of readings that are suspended.
-use Rattle.std.specs.Prelude.{◌≡◌, ◌<◌, ◌≤◌, ℕ, ◌+◌, List, [], map, length, Bool, true, false, nat_lt, Option, Some, None, Ok, if◌then◌else◌, codes}
+use Rattle.std.specs.Prelude.{◌≡◌, ◌<◌, ◌≤◌, ℕ, ◌+◌, List, [], map, filter, length, Bool, true, false, nat_lt, Option, Some, None, Ok, if◌then◌else◌, codes}
 use Rattle.std.specs.List.{list_any}
 use Rattle.std.specs.Ordering.{nat_cmp}
 use Rattle.gd_prim.specs.declared.Primitive.{Primitive}
+use Rattle.gd_prim.specs.Live.{objects}
 use Rattle.gd_tree.specs.Trees.{Trees, no_trees, append, trees_of, list_of, lists_of}
 use Rattle.gd_defs.specs.Query.{Query}
-use Rattle.gd_defs.specs.Asked.{Asked, Members, asked_query}
+use Rattle.gd_defs.specs.Asked.{Asked, Asking, Members, asked_query}
 use Rattle.gd_defs.specs.Lines.{too_wide, refused_at, err_line, count_json}
-use Rattle.gd_defs.specs.Plan.{template_of}
+use Rattle.gd_defs.specs.Plan.{asked_end, template_of}
 use Rattle.gd_defs.specs.Reply.{Mark, reply, page_cursor, result_line, is_ambiguous, max_candidate_weight, max_page_weight}
-use Rattle.gd_defs.specs.Rows.{key_place, meets_given}
-use Rattle.gd_defs.specs.Template.{tree_of, passes_template}
+use Rattle.gd_defs.specs.Rows.{key_place, meets_given, met}
+use Rattle.gd_defs.specs.Template.{Template, tree_of, passes_template}
 use Rattle.gd_bytes.specs.Frozen.{Scan, scanning, building, printing}
-use Rattle.gd_runs.specs.Owed.{ScanOrder, Candidate, owed_by, weighs_too_much}
-use Rattle.gd_runs.specs.RootSets.{everything, named_places}
+use Rattle.gd_runs.specs.Owed.{ScanOrder, Candidate, is_among, owed_by, weighs_too_much}
+use Rattle.gd_runs.specs.RootSets.{everything, links_of, named_places}
 use Rattle.gd_runs.specs.Scanned.{scan_order, set_order}
 use Rattle.gd_runs.specs.Shape.{page_shape}
 use Rattle.gd_runs.specs.Shape.Answers.{key_places, sort_lists}
 use Rattle.gd_runs.specs.Thawed.{built_trees, built_weight, body_line}
 use Rattle.gd_template_laws.specs.Laws.{AreHeld}
-use Rattle.gd_order_laws.specs.Window.{In, Rising}
+use Rattle.gd_order_laws.specs.Window.{In, Apart, Rising}
 use Rattle.gd_scan_laws.specs.Ordered.{start}
+use Rattle.gd_match_laws.specs.Links.{passing_links, link_order}
 use Rattle.gd_match_laws.specs.Moves.{Runs}
 use Rattle.gd_match_laws.specs.Laws.{AtEnd}
 use Rattle.gd_match_laws.specs.Rows.{rows_order}
@@ -45,6 +47,17 @@ EverythingIs = (prims : List Primitive) (written : Query) (q : Asked) → AreHel
 abbrev pub NamedAre : Type 0
 NamedAre = (prims : List Primitive) (written : Query) (q : Asked) (places : List ℕ) → AreHeld prims → asked_query prims written ≡ Ok q → ((o : ℕ) → passes_template prims (template_of q) o ≡ true → In o places)
     → IsOrderOf prims q (set_order prims (named_places places))
+
+-- So is each that has no place twice, and each place that passes.
+abbrev pub FullAre : Type 0
+FullAre = (prims : List Primitive) (written : Query) (q : Asked) (order : ScanOrder) → AreHeld prims → asked_query prims written ≡ Ok q → Apart nat_cmp (map (λ c. c.1) order)
+    → ((o : ℕ) → passes_template prims (template_of q) o ≡ true → In o (map (λ c. c.1) order)) → IsOrderOf prims q order
+
+-- The order of links by the template of a member's links is the one in which the definitions scan them, as far as objects go.
+abbrev pub LinksAreDefined : Type 0
+LinksAreDefined = (prims : List Primitive) (a : Asking) (c : Members) (t : Template) (links : List ℕ) → ((o : ℕ) → passing_links prims (asked_end a.property) t o ≡ met prims a c o) → Rising nat_cmp links
+    → ((o : ℕ) → In o (objects prims) → (k : ℕ) → In k (passing_links prims (asked_end a.property) t o) → In k links)
+    → set_order prims (links_of a c links) ≡ filter (λ d. is_among (objects prims) d.1) (link_order prims (asked_end a.property) t links)
 
 -- So is that of a scan for members that each candidate meets, as some of the query's own.
 abbrev pub FewerAre : Type 0

@@ -2,7 +2,7 @@
 //! function that does nothing: whoever calls it may use the law, and code above cites its statement from `specs/Laws.antt`.
 #![tactic(auto)]
 
-ghost use Rattle.gd_suspended_laws.specs.Laws.{BuildsGo, EverythingIs, FewerAre, HeavyBuildsRefuse, HeavyPagesRefuse, HeavyScansRefuse, ManyRefuse, NamedAre, OrdersAre, PagesPrint, PrintsOwe, ScansEndEarly, ScansKeep, ScansOwe, StartsOwe, ThenBuilds, ThenCounts, ThenPrints, TreesTellKeys, VisitsEnd};
+ghost use Rattle.gd_suspended_laws.specs.Laws.{BuildsGo, EverythingIs, FewerAre, FullAre, HeavyBuildsRefuse, HeavyPagesRefuse, HeavyScansRefuse, LinksAreDefined, ManyRefuse, NamedAre, OrdersAre, PagesPrint, PrintsOwe, ScansEndEarly, ScansKeep, ScansOwe, StartsOwe, ThenBuilds, ThenCounts, ThenPrints, TreesTellKeys, VisitsEnd};
 
 /// The sort keys of an object stand where its tree tells.
 pub fn trees_tell_keys()
@@ -22,6 +22,16 @@ pub fn everything_is()
 /// The order of places that are named has each candidate once, if each place that passes is one of them.
 pub fn named_are()
     ensures { NamedAre }
+{}
+
+/// So has an order that has no place twice, and each place that passes.
+pub fn full_are()
+    ensures { FullAre }
+{}
+
+/// The order of links by the template of a member's links is the one in which the definitions scan them, as far as objects go.
+pub fn links_are_defined()
+    ensures { LinksAreDefined }
 {}
 
 /// The order of a scan for some members of a query has each of its candidates once.
