@@ -3,6 +3,7 @@ pub mod Frames
 pub mod Under
 pub mod Scans
 pub mod First
+pub mod Links
 pub mod Kept
 pub mod Bodies
 pub mod Reached

@@ -1,4 +1,5 @@
 pub mod Moves
+pub mod Links
 pub mod Under
 pub mod Rows
 pub mod Best

@@ -17,4 +17,6 @@ mod resolve;
 #[cfg(test)]
 mod serving;
 #[cfg(test)]
+mod suspended;
+#[cfg(test)]
 mod templates;

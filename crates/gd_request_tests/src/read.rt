@@ -7,7 +7,7 @@ use gd_store::store::Store;
 use std::alloc::Global;
 
 /// The read that a text spells, which is no longer than a line may be.
-fn read_of(alloc: Global, text: &str) -> Option<ReadRequest> {
+pub(crate) fn read_of(alloc: Global, text: &str) -> Option<ReadRequest> {
     if text.len() > LINE_LIMIT {
         return None;
     }

@@ -2,6 +2,7 @@ pub mod Subject
 pub mod Begun
 pub mod Went
 pub mod Stages
+pub mod Sources
 pub mod Roots
 pub mod Rows
 pub mod Rounds

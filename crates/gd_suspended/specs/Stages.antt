@@ -10,6 +10,7 @@ use Rattle.gd_tree.specs.Json.{Json}
 use Rattle.gd_tree.specs.Trees.{Trees, no_trees, trees_of, list_of}
 use Rattle.gd_defs.specs.Asked.{Asked, asked_query}
 use Rattle.gd_defs.specs.Plan.{template_of}
+use Rattle.gd_defs.specs.Template.{passes_template}
 use Rattle.gd_defs.specs.Lines.{count_json}
 use Rattle.gd_defs.specs.Reply.{Path, is_ambiguous}
 use Rattle.gd_bytes.specs.Frozen.{Body, building, printing}
@@ -21,21 +22,23 @@ use Rattle.gd_runs.specs.Request.{asks_page}
 use Rattle.gd_scan_laws.specs.Ordered.{start}
 use Rattle.gd_match_laws.specs.Rows.{rows_order}
 use Rattle.gd_order_laws.specs.Window.{In}
-use Rattle.gd_suspended_laws.specs.Standing.{rows_of, marks_of, page_rows, IsOrderOf, IsListed, IsLast, HasScanned, IsKept, ChangesNothing}
+use Rattle.gd_suspended_laws.specs.Standing.{rows_of, marks_of, page_rows, IsOrderOf, IsListed, IsLast, HasScanned, HasVisited, IsKept, ChangesNothing, window_of}
 use Rattle.gd_mql.specs.Requests.{cursor_view}
 use Rattle.gd_plan.specs.Asked.{asked_view}
 use Rattle.gd_plan.specs.declared.asked.Asked.{Asked as Found}
 use Rattle.gd_trees.specs.View.{view as tree_view, trees_view}
-use Rattle.gd_window.specs.Kept.{Kept}
+use Rattle.gd_window.specs.Kept.{Kept, HasSeen}
 use Rattle.gd_match.specs.Matched.{stands, order_of, IsOver}
 use Rattle.gd_match.specs.declared.matcher.Matcher.{Matcher}
 use Rattle.gd_shape.specs.Shaping.{page_of, body_print, IsOf}
 use Rattle.gd_shape.specs.declared.shape.PageBody.{PageBody}
 use Rattle.gd_shape.specs.declared.shape.PageBody.TheVariants as page
 use Rattle.gd_shape.specs.declared.shape.Shape.{Shape}
+use Rattle.gd_read.specs.Candidates.{HasAll, places_of}
 use Rattle.gd_read.specs.Scanned.{mark_of}
 use Rattle.gd_suspended.specs.Subject.{written, line_of}
 use Rattle.gd_suspended.specs.declared.subject.Subject.{Subject}
+use Rattle.gd_suspended.specs.declared.visiting.Visiting.{Visiting}
 use Rattle.gd_suspended.specs.declared.scanning.Scanning.{Scanning}
 use Rattle.gd_suspended.specs.declared.checking.Checking.{Checking}
 use Rattle.gd_suspended.specs.declared.building.Building.{Building}
@@ -93,6 +96,14 @@ pub record Checks (batches : List Batch) (s : Subject) (c : Checking) (w : Kept)
   pub last : IsLast scans.scanned.given c.last
   pub checked : AreChecked (prims_of batches) (asked_view c.plan) w c.places.items c.last c.next
 
+-- ---- visiting places
+
+-- a reading visits the places at which candidates are looked for, and it has visited the first of them
+pub record Visits (batches : List Batch) (s : Subject) (v : Visiting) (w : Kept) : Type 0 where
+  pub asked : IsAsked batches s (asked_view v.plan)
+  pub finds : HasAll (passes_template (prims_of batches) (template_of (asked_view v.plan))) (places_of (prims_of batches) v.candidates)
+  pub visited : HasVisited (prims_of batches) (asked_view v.plan) (mark_of s.after) (take v.next (places_of (prims_of batches) v.candidates)) w
+
 -- ---- building
 
 -- what a reading that builds trees does, as the definitions have it
@@ -148,8 +159,13 @@ pub record Prints (batches : List Batch) (s : Subject) (shape : Shape) (w : Kept
 
 -- a reading that goes on stands where it owes its line; the rows that were built do not weigh too much together
 abbrev pub StageOwes : List Batch → Subject → Stage → Kept → Type 0
+StageOwes batches s (stage.Visiting v) w = Visits batches s v w
 StageOwes batches s (stage.Scanning r) w = Scans batches s r.plan r.matcher w × IsKnown batches r.plan r.matcher r.places
 StageOwes batches s (stage.Checking c) w = Checks batches s c w
 StageOwes batches s (stage.Building b) w = Builds batches s b w × (b.weight ≤ 262_144)
 StageOwes batches s (stage.Printing shape) w = Prints batches s shape w
 StageOwes batches s stage.Spent w = ⊥
+
+-- a reading of a plan may begin with this stage, where its window has seen nothing
+abbrev pub StageBegins : List Batch → Found → Stage → Type 0
+StageBegins batches plan st = (s : Subject) (w : Kept) → IsAsked batches s (asked_view plan) → w ≡ window_of (prims_of batches) (asked_view plan) (mark_of s.after) [] → HasSeen w [] → StageOwes batches s st w

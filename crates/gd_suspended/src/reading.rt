@@ -10,17 +10,17 @@ ghost use Rattle.gd_mql.specs.Requests.{cursor_view, read_view};
 ghost use Rattle.gd_plan.specs.Asked.{asked_view};
 ghost use Rattle.gd_compile.specs.Fault.{unknown_of};
 ghost use Rattle.gd_frozen.specs.Meant.{meant};
+ghost use Rattle.gd_window.specs.Kept.{HasSeen};
 ghost use Rattle.gd_read.specs.Scanned.{mark_of};
+ghost use Rattle.gd_suspended_laws.specs.Standing.{window_of};
 ghost use Rattle.gd_suspended.specs.Begun.{fault_at, HasOffset, asked_from, dateline_from, Begins, IsMeaningless};
 ghost use Rattle.gd_suspended.specs.Subject.{line_of};
 ghost use Rattle.gd_suspended.specs.Stages.{IsAsked};
-ghost use Rattle.gd_suspended.specs.Roots.{ScanBegins};
 ghost use Rattle.gd_suspended.specs.Reading.{reading_view, IsGoing, Replies, is_unfinished};
 
 use crate::fault::ReadFault;
-use crate::roots::scanning_for;
+use crate::first::first_stage;
 use crate::rows::window_behind;
-use crate::scanning::Scanning;
 use crate::stage::{Round, Stage};
 use crate::subject::Subject;
 use gd_base::memory::Memory;
@@ -135,27 +135,29 @@ fn plan_at<L>(
     }
 }
 
-/// The reading that scans and has given nothing yet.
-fn begun_scanning(
+/// The reading of a window that has seen nothing, with its first stage.
+fn begun_with(
     alloc: Global,
     view: &View<'_>,
     subject: Subject,
-    scanning: Scanning,
+    window: Window,
+    plan: Plan,
 ) -> Result<Reading, Memory>
-    requires asked { IsAsked view.now subject (asked_view scanning.plan) }
-    requires begins { ScanBegins view.now scanning }
+    requires asked { IsAsked view.now subject (asked_view plan) }
+    requires made { window ≡ window_of (prims_of view.now) (asked_view plan) (mark_of subject.after) [] }
+    requires seen { HasSeen window [] }
     ensures subject { IfOk result (λ reading. reading.subject ≡ subject) }
     ensures going { IfOk result (λ reading. IsGoing view.now reading) }
 {
-    match window_behind(alloc, view, scanning.plan.asked(), &subject.after) {
-        Ok(window) => Ok(Reading {
+    match first_stage(alloc, view, plan) {
+        Ok(stage) => Ok(Reading {
             subject,
             window,
-            stage: Stage::Scanning(scanning),
+            stage,
         }),
         Err(refused) => {
             drop(subject);
-            drop(scanning);
+            drop(window);
             Err(refused)
         }
     }
@@ -167,10 +169,11 @@ fn begun(alloc: Global, view: &View<'_>, subject: Subject, plan: Plan) -> Result
     ensures subject { IfOk result (λ reading. reading.subject ≡ subject) }
     ensures going { IfOk result (λ reading. IsGoing view.now reading) }
 {
-    match scanning_for(alloc, view, plan) {
-        Ok(scanning) => begun_scanning(alloc, view, subject, scanning),
+    match window_behind(alloc, view, plan.asked(), &subject.after) {
+        Ok(window) => begun_with(alloc, view, subject, window, plan),
         Err(refused) => {
             drop(subject);
+            drop(plan);
             Err(refused)
         }
     }

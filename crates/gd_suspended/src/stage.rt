@@ -8,6 +8,7 @@ use crate::checking::Checking;
 use crate::printing::print_on;
 use crate::scanning::Scanning;
 use crate::subject::Subject;
+use crate::visiting::Visiting;
 use gd_base::memory::Memory;
 use gd_base::steps::Steps;
 use gd_shape::shape::Shape;
@@ -15,11 +16,12 @@ use gd_store::view::View;
 use gd_window::window::Window;
 use std::alloc::Global;
 
-/// What a reading does, one after the other: candidates are scanned and the best rows are kept; where the window is full, it may
-/// be asked whether those that are left would change anything; then the trees of the rows of the page are built; then the page
-/// is printed.
+/// What a reading does, one after the other: the places among which the candidates are are visited, or else candidates are
+/// scanned, and the best rows are kept; where the window is full, it may be asked whether those that are left would change
+/// anything; then the trees of the rows of the page are built; then the page is printed.
 #[derive(Drop)]
 pub(crate) enum Stage {
+    Visiting(Visiting),
     Scanning(Scanning),
     Checking(Checking),
     Building(Building),
@@ -58,6 +60,9 @@ impl Stage {
         ensures later { steps.old ≤ steps.new }
     {
         match self {
+            Stage::Visiting(visiting) => {
+                visiting.go_on(alloc, subject, window, view, budget, line, steps)
+            }
             Stage::Scanning(scanning) => {
                 scanning.go_on(alloc, subject, window, view, budget, line, steps)
             }

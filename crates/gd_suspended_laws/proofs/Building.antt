@@ -55,7 +55,7 @@ in_first [] ys x here = absurd here
 in_first (y ∷ xs) ys x (inl same) = inl same
 in_first (y ∷ xs) ys x (inr there) = inr (in_first xs ys x there)
 
-numbered : (n : ℕ) (xs : List ℕ) → map (λ c. c.1) (enumerate_from n xs) ≡ xs
+pub numbered : (n : ℕ) (xs : List ℕ) → map (λ c. c.1) (enumerate_from n xs) ≡ xs
 numbered n [] = refl
 numbered n (x ∷ xs) = ap (λ l. x ∷ l) (numbered (n + 1) xs)
 

@@ -95,6 +95,10 @@ objects-defined : (rows : List Row) → map (λ (r : defs.Row). r.object) (map d
 objects-defined [] = refl
 objects-defined (r ∷ rows) = ap (λ l. r.id ∷ l) (objects-defined rows)
 
+-- the objects of the page
+pub page_ids : (w : Kept) → map (λ (r : defs.Row). r.object) (page_rows w) ≡ map (λ (r : Row). r.id) (take w.limit w.rows)
+page_ids w = ap (map (λ (r : defs.Row). r.object)) (sym (map-take defined w.limit w.rows)) ∙ objects-defined (take w.limit w.rows)
+
 -- the objects of a page in its order
 pub page_order : (w : Kept) → enumerate_from 0 (map (λ (r : Row). r.id) (take w.limit w.rows)) ≡ rows_order (page_rows w)
 page_order w = ap (enumerate_from 0) (sym (objects-defined (take w.limit w.rows)) ∙ ap (map (λ (r : defs.Row). r.object)) (map-take defined w.limit w.rows))

@@ -6,6 +6,10 @@ pub mod Given
 pub mod Going
 pub mod Everything
 pub mod Named
+pub mod Full
+pub mod Defined
 pub mod Fewer
 pub mod Early
+pub mod Visited
+pub mod Gathered
 pub mod Laws

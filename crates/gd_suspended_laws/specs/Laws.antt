@@ -1,31 +1,34 @@
 -- The laws of readings that are suspended.
-use Rattle.std.specs.Prelude.{◌≡◌, ◌<◌, ℕ, ◌+◌, List, [], map, length, Bool, true, false, nat_lt, Option, Some, None, Ok, if◌then◌else◌, codes}
+use Rattle.std.specs.Prelude.{◌≡◌, ◌<◌, ◌≤◌, ℕ, ◌+◌, List, [], map, filter, length, Bool, true, false, nat_lt, Option, Some, None, Ok, if◌then◌else◌, codes}
 use Rattle.std.specs.List.{list_any}
+use Rattle.std.specs.Ordering.{nat_cmp}
 use Rattle.gd_prim.specs.declared.Primitive.{Primitive}
+use Rattle.gd_prim.specs.Live.{objects}
 use Rattle.gd_tree.specs.Trees.{Trees, no_trees, append, trees_of, list_of, lists_of}
 use Rattle.gd_defs.specs.Query.{Query}
-use Rattle.gd_defs.specs.Asked.{Asked, Members, asked_query}
+use Rattle.gd_defs.specs.Asked.{Asked, Asking, Members, asked_query}
 use Rattle.gd_defs.specs.Lines.{too_wide, refused_at, err_line, count_json}
-use Rattle.gd_defs.specs.Plan.{template_of}
+use Rattle.gd_defs.specs.Plan.{asked_end, template_of}
 use Rattle.gd_defs.specs.Reply.{Mark, reply, page_cursor, result_line, is_ambiguous, max_candidate_weight, max_page_weight}
-use Rattle.gd_defs.specs.Rows.{key_place, meets_given}
-use Rattle.gd_defs.specs.Template.{tree_of, passes_template}
+use Rattle.gd_defs.specs.Rows.{key_place, meets_given, met}
+use Rattle.gd_defs.specs.Template.{Template, tree_of, passes_template}
 use Rattle.gd_bytes.specs.Frozen.{Scan, scanning, building, printing}
-use Rattle.gd_runs.specs.Owed.{ScanOrder, Candidate, owed_by, weighs_too_much}
-use Rattle.gd_runs.specs.RootSets.{everything, named_places}
+use Rattle.gd_runs.specs.Owed.{ScanOrder, Candidate, is_among, owed_by, weighs_too_much}
+use Rattle.gd_runs.specs.RootSets.{everything, links_of, named_places}
 use Rattle.gd_runs.specs.Scanned.{scan_order, set_order}
 use Rattle.gd_runs.specs.Shape.{page_shape}
 use Rattle.gd_runs.specs.Shape.Answers.{key_places, sort_lists}
 use Rattle.gd_runs.specs.Thawed.{built_trees, built_weight, body_line}
 use Rattle.gd_template_laws.specs.Laws.{AreHeld}
-use Rattle.gd_order_laws.specs.Window.{In}
+use Rattle.gd_order_laws.specs.Window.{In, Apart, Rising}
 use Rattle.gd_scan_laws.specs.Ordered.{start}
+use Rattle.gd_match_laws.specs.Links.{passing_links, link_order}
 use Rattle.gd_match_laws.specs.Moves.{Runs}
 use Rattle.gd_match_laws.specs.Laws.{AtEnd}
 use Rattle.gd_match_laws.specs.Rows.{rows_order}
 use Rattle.gd_window.specs.Kept.{Kept}
 use Rattle.gd_window.specs.Laws.{RowsBehindAreAsDefined}
-use Rattle.gd_suspended_laws.specs.Standing.{rows_of, marks_of, page_rows, IsOrderOf, HasScanned, IsKept, IsLast, IsListed, ChangesNothing}
+use Rattle.gd_suspended_laws.specs.Standing.{rows_of, marks_of, page_rows, IsOrderOf, HasScanned, IsKept, IsLast, IsListed, ChangesNothing, HasVisited, page_objects, trees_among, weight_among}
 
 -- The sort keys of an object stand where its tree tells.
 abbrev pub TreesTellKeys : Type 0
@@ -44,6 +47,17 @@ EverythingIs = (prims : List Primitive) (written : Query) (q : Asked) → AreHel
 abbrev pub NamedAre : Type 0
 NamedAre = (prims : List Primitive) (written : Query) (q : Asked) (places : List ℕ) → AreHeld prims → asked_query prims written ≡ Ok q → ((o : ℕ) → passes_template prims (template_of q) o ≡ true → In o places)
     → IsOrderOf prims q (set_order prims (named_places places))
+
+-- So is each that has no place twice, and each place that passes.
+abbrev pub FullAre : Type 0
+FullAre = (prims : List Primitive) (written : Query) (q : Asked) (order : ScanOrder) → AreHeld prims → asked_query prims written ≡ Ok q → Apart nat_cmp (map (λ c. c.1) order)
+    → ((o : ℕ) → passes_template prims (template_of q) o ≡ true → In o (map (λ c. c.1) order)) → IsOrderOf prims q order
+
+-- The order of links by the template of a member's links is the one in which the definitions scan them, as far as objects go.
+abbrev pub LinksAreDefined : Type 0
+LinksAreDefined = (prims : List Primitive) (a : Asking) (c : Members) (t : Template) (links : List ℕ) → ((o : ℕ) → passing_links prims (asked_end a.property) t o ≡ met prims a c o) → Rising nat_cmp links
+    → ((o : ℕ) → In o (objects prims) → (k : ℕ) → In k (passing_links prims (asked_end a.property) t o) → In k links)
+    → set_order prims (links_of a c links) ≡ filter (λ d. is_among (objects prims) d.1) (link_order prims (asked_end a.property) t links)
 
 -- So is that of a scan for members that each candidate meets, as some of the query's own.
 abbrev pub FewerAre : Type 0
@@ -72,6 +86,12 @@ abbrev pub ScansEndEarly : Type 0
 ScansEndEarly = (prims : List Primitive) (q : Asked) (order : ScanOrder) (after : Option Mark) (s : Scan) (w : Kept) (places : List ℕ) (last : ℕ) → IsListed prims q order places
     → (has : HasScanned prims q after order s w) → IsLast has.given last → ((o : ℕ) → In o places → last < o → ChangesNothing prims q w o) → (e : Scan) × (HasScanned prims q after order e w × AtEnd prims order (template_of q) e)
 
+-- Where places rise, each that passes is one of them, and all of them were visited, a scan of these may go to its end with the window that has seen their rows.
+abbrev pub VisitsEnd : Type 0
+VisitsEnd = (prims : List Primitive) (written : Query) (q : Asked) (after : Option Mark) (places : List ℕ) (w : Kept) → AreHeld prims → asked_query prims written ≡ Ok q → Rising nat_cmp places
+    → ((o : ℕ) → passes_template prims (template_of q) o ≡ true → In o places) → HasVisited prims q after places w
+    → (e : Scan) × (HasScanned prims q after (set_order prims (named_places places)) e w × AtEnd prims (set_order prims (named_places places)) (template_of q) e)
+
 -- The rows that a scan keeps are read again from their marks.
 abbrev pub ScansKeep : Type 0
 ScansKeep = RowsBehindAreAsDefined → (prims : List Primitive) (q : Asked) (order : ScanOrder) (after : Option Mark) (s : Scan) (w : Kept) → IsOrderOf prims q order → HasScanned prims q after order s w → IsKept prims q after w
@@ -89,6 +109,13 @@ BuildsGo = (prims : List Primitive) (q : Asked) (order : ScanOrder) (dateline k 
     → Runs prims (rows_order (page_rows w)) (template_of q) s cs m → list_any weighs_too_much cs ≡ false
     → body_line prims q order dateline k with_cursor after (marks_of w) (building weight ts s)
     ≡ body_line prims q order dateline k with_cursor after (marks_of w) (building (weight + built_weight cs) (append ts (trees_of (built_trees cs))) m)
+
+-- The trees of the rows of a page that answer may be printed at once, where these do not weigh too much together.
+abbrev pub PagesPrint : Type 0
+PagesPrint = (prims : List Primitive) (q : Asked) (order : ScanOrder) (dateline k : ℕ) (with_cursor : Bool) (after : Option Mark) (w : Kept) → IsKept prims q after w → q.count ≡ false
+    → weight_among prims q (page_objects w) ≤ max_page_weight
+    → body_line prims q order dateline k with_cursor after (marks_of w) (building 0 no_trees start)
+    ≡ body_line prims q order dateline k with_cursor after (marks_of w) (printing 0 (trees_of (trees_among prims q (page_objects w))) [])
 
 -- Where a row that is still to be built weighs too much, the reading owes the refusal that says so.
 abbrev pub HeavyBuildsRefuse : Type 0

@@ -2,7 +2,7 @@
 //! function that does nothing: whoever calls it may use the law, and code above cites its statement from `specs/Laws.antt`.
 #![tactic(auto)]
 
-ghost use Rattle.gd_suspended_laws.specs.Laws.{BuildsGo, EverythingIs, FewerAre, HeavyBuildsRefuse, HeavyPagesRefuse, HeavyScansRefuse, ManyRefuse, NamedAre, OrdersAre, PrintsOwe, ScansEndEarly, ScansKeep, ScansOwe, StartsOwe, ThenBuilds, ThenCounts, ThenPrints, TreesTellKeys};
+ghost use Rattle.gd_suspended_laws.specs.Laws.{BuildsGo, EverythingIs, FewerAre, FullAre, HeavyBuildsRefuse, HeavyPagesRefuse, HeavyScansRefuse, LinksAreDefined, ManyRefuse, NamedAre, OrdersAre, PagesPrint, PrintsOwe, ScansEndEarly, ScansKeep, ScansOwe, StartsOwe, ThenBuilds, ThenCounts, ThenPrints, TreesTellKeys, VisitsEnd};
 
 /// The sort keys of an object stand where its tree tells.
 pub fn trees_tell_keys()
@@ -22,6 +22,16 @@ pub fn everything_is()
 /// The order of places that are named has each candidate once, if each place that passes is one of them.
 pub fn named_are()
     ensures { NamedAre }
+{}
+
+/// So has an order that has no place twice, and each place that passes.
+pub fn full_are()
+    ensures { FullAre }
+{}
+
+/// The order of links by the template of a member's links is the one in which the definitions scan them, as far as objects go.
+pub fn links_are_defined()
+    ensures { LinksAreDefined }
 {}
 
 /// The order of a scan for some members of a query has each of its candidates once.
@@ -49,6 +59,11 @@ pub fn scans_end_early()
     ensures { ScansEndEarly }
 {}
 
+/// Where places were visited among which each that passes is, the scan of these may go to its end with the window that it has.
+pub fn visits_end()
+    ensures { VisitsEnd }
+{}
+
 /// The rows that a scan keeps are read again from their marks.
 pub fn scans_keep()
     ensures { ScansKeep }
@@ -62,6 +77,11 @@ pub fn then_builds()
 /// A reading that builds trees goes on by a run over its rows.
 pub fn builds_go()
     ensures { BuildsGo }
+{}
+
+/// The trees of the rows of a page may be printed at once, where these do not weigh too much together.
+pub fn pages_print()
+    ensures { PagesPrint }
 {}
 
 /// Where a row that is still to be built weighs too much, the reading owes the refusal that says so.
