@@ -24,7 +24,7 @@ pub(crate) enum ReadTurn {
     Shut,
 }
 
-/// The same read again.
+/// The same read again. Requests of reads can't be copied yet, so there is none.
 fn again(request: &ReadRequest) -> Result<ReadRequest, Memory>
     ensures { IfOk result (λ copied. read_view copied ≡ read_view request.now) }
 {
