@@ -65,6 +65,17 @@ impl ReadRequest {
         ReadRequest { cursor, query }
     }
 
+    /// The same read again.
+    pub fn copy(&self) -> Result<ReadRequest, Memory>
+        ensures { IfOk result (λ request. read_view request ≡ read_view self.now) }
+    {
+        let cursor = copy_cursor(&self.cursor)?;
+        Ok(ReadRequest {
+            cursor,
+            query: self.query.copy()?,
+        })
+    }
+
     /// The query. At most 14 forms `{..}` lie one within another in it, the root among them.
     pub fn query(&self) -> Query<'_>
         ensures shown { query_view result ≡ (read_view self.now).query }
@@ -113,6 +124,17 @@ impl<'a> Query<'a> {
             Some(members) => Query::of_root(true, members),
             None => unreachable!(),
         }
+    }
+}
+
+/// The same cursor again.
+fn copy_cursor(cursor: &CursorAsk) -> Result<CursorAsk, Memory>
+    ensures { IfOk result (λ copied. copied ≡ cursor.now) }
+{
+    match cursor {
+        CursorAsk::Absent => Ok(CursorAsk::Absent),
+        CursorAsk::First => Ok(CursorAsk::First),
+        CursorAsk::After(text) => Ok(CursorAsk::After(text.copy()?)),
     }
 }
 

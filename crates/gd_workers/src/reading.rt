@@ -24,11 +24,11 @@ pub(crate) enum ReadTurn {
     Shut,
 }
 
-/// The same read again. Requests of reads can't be copied yet, so there is none.
+/// The same read again.
 fn again(request: &ReadRequest) -> Result<ReadRequest, Memory>
     ensures { IfOk result (λ copied. read_view copied ≡ read_view request.now) }
 {
-    Err(Memory)
+    request.copy()
 }
 
 /// Begins the read of a line.
