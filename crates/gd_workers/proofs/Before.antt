@@ -1,19 +1,19 @@
 -- A write job is a line of the round, behind the write line before it of its session.
-use Rattle.std.proofs.Common.{◌≡◌, refl, ℕ, zero, suc, ◌+◌, ◌<◌, ◌==◌, ⊎_elim, Bool, true, List, [], ◌∷◌, ◌++◌, length, map, take, drop, Option, Some, None, Ok, slice_get, sym, subst, ap, ◌∙◌, arith, append_assoc}
+use Rattle.std.proofs.Common.{◌≡◌, refl, ℕ, zero, suc, ◌+◌, ◌<◌, ◌==◌, List, [], ◌∷◌, ◌++◌, length, map, take, drop, Option, Some, None, Ok, slice_get, sym, subst, ap, ◌∙◌, arith, append_assoc}
 use Rattle.std.specs.Prelude.{filter}
 use Rattle.std.specs.List.{last_or}
-use Rattle.std.proofs.lemmas.List.{length-map, map-append}
+use Rattle.std.proofs.lemmas.List.{map-append}
 use Rattle.gd_defs.specs.Write.{WriteRequest}
 use Rattle.gd_runs.specs.Request.{write}
 use Rattle.gd_runs.specs.Explained.{Numbered}
 use Rattle.gd_runs.specs.Side.{WriteLine, Begun, session_lines}
-use Rattle.gd_runs.proofs.Rounds.{no_some, some_same, get_left, get_right, get_within}
+use Rattle.gd_runs.proofs.Rounds.{no_some, some_same, get_right}
 use Rattle.gd_core_laws.specs.Round.{one_write, write_lines}
 use Rattle.gd_core_laws.specs.Writes.{RisesBy}
 use Rattle.gd_core_laws.proofs.Lock.{same_numbers}
 use Rattle.gd_core_laws.proofs.RoundAfter.{equal}
 use Rattle.gd_core_laws.proofs.Sorted.{from_filter, passes_filter, filter_rises, map_rises, write_lines_rise}
-use Rattle.gd_writers.specs.Round.{IsBefore, IsOfRound}
+use Rattle.gd_writers.specs.Round.{IsOfRound}
 use Rattle.gd_workers.specs.Runs.{JobValue, writes, last_write, AreOfRound}
 
 -- ---- the last of the front of a list

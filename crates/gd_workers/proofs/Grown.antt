@@ -1,5 +1,5 @@
 -- A reading and a reply over a list that has grown.
-use Rattle.std.proofs.Common.{◌≡◌, ℕ, ◌≤◌, List, ◌++◌, length, Bool, true, false, Option, Some, None, Result, Ok, Err, refl, sym, ap, subst, ◌∙◌, arith}
+use Rattle.std.proofs.Common.{◌≡◌, ℕ, ◌≤◌, List, ◌++◌, length, Bool, true, false, Option, Some, None, Result, Ok, Err, refl, sym, ap, ◌∙◌, arith}
 use Rattle.std.specs.Prelude.{if◌then◌else◌, nat_lt}
 use Rattle.std.proofs.lemmas.Bool.{ltb-false}
 use mathlib.Core.List.{IsPrefix}
@@ -9,10 +9,10 @@ use Rattle.gd_prim.specs.History.{prims_at}
 use Rattle.gd_bytes.specs.Cursor.{Cursor, cursor_of}
 use Rattle.gd_defs.specs.Query.{Query}
 use Rattle.gd_defs.specs.Asked.{Asked, Unknown, asked_query}
-use Rattle.gd_defs.specs.Lines.{Refusal, cursor_ahead}
+use Rattle.gd_defs.specs.Lines.{cursor_ahead}
 use Rattle.gd_defs.specs.Reply.{Mark}
 use Rattle.gd_runs.specs.Request.{ReadRequest, CursorAsk, no_cursor, first_page, page_after, reply_of}
-use Rattle.gd_runs.specs.Core.{Reading, reading_of, with_meaning}
+use Rattle.gd_runs.specs.Core.{reading_of, with_meaning}
 use Rattle.gd_runs.proofs.Rounds.{prims_kept, reply_kept_at}
 
 any_meaning : (bs cs : List Batch) (r : ReadRequest) (d : ℕ) (after : Option Mark) (o : Result Asked Unknown) → with_meaning bs r d after o ≡ with_meaning cs r d after o

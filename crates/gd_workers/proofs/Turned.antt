@@ -1,16 +1,14 @@
 -- What the turns of the code are, in plain terms.
-use Rattle.std.proofs.Common.{◌≡◌, refl, ℕ, ◌+◌, ◌^◌, ◌≤◌, ◌<◌, inl, inr, Bool, true, false, List, [], ◌∷◌, length, map, max, Option, Some, None, Result, Ok, Err, slice_get, option_map, sym, subst, ap, ◌∙◌, arith, Vec, Global, length-append}
+use Rattle.std.proofs.Common.{◌≡◌, refl, ℕ, ◌≤◌, ◌<◌, inl, inr, true, false, List, [], length, map, Option, Some, None, Result, Ok, Err, slice_get, option_map, sym, subst, ap, ◌∙◌, arith, Vec, Global, length-append}
 use Rattle.std.specs.Prelude.{IfSome, IfOk, is_some, vec_capacity}
 use Rattle.std.specs.Result.{result_ok}
 use Rattle.std.proofs.lemmas.Option.{IfSome_then, slice_get-map}
-use Rattle.std.proofs.lemmas.List.{length-map, map-append}
+use Rattle.std.proofs.lemmas.List.{length-map}
 use Rattle.std.proofs.lemmas.List.Sums.{length-filter, count_by-le-length}
 use mathlib.Core.List.{IsPrefix}
 use Rattle.gd_base.specs.declared.memory.Memory.{Memory}
-use Rattle.gd_base.specs.Counts.{Rose}
 use Rattle.gd_prim.specs.declared.Batch.{Batch}
 use Rattle.gd_defs.specs.Lines.{err_line}
-use Rattle.gd_mql.specs.Requests.{line_view}
 use Rattle.gd_runs.specs.Request.{ReadRequest, reply_of}
 use Rattle.gd_runs.specs.Core.{Reading, owed_line}
 use Rattle.gd_core_laws.proofs.Reading.{refuses}
@@ -18,8 +16,6 @@ use Rattle.gd_suspended.specs.Begun.{fault_at}
 use Rattle.gd_suspended.specs.declared.fault.ReadFault.{ReadFault}
 use Rattle.gd_suspended.specs.declared.fault.ReadFault.TheVariants as read_fault
 use Rattle.gd_suspended.specs.Reading.{reading_view}
-use Rattle.gd_shared.specs.History.{FrontValue}
-use Rattle.gd_writers.specs.Round.{Named, IsToldLocked}
 use Rattle.gd_seats.specs.Session.{SessionValue, reads as what_reads, seen_of as seat_seen}
 use Rattle.gd_seats.specs.declared.fault.SessionFault.{SessionFault}
 use Rattle.gd_seats.specs.declared.fault.SessionFault.TheVariants as fault
@@ -29,9 +25,9 @@ use Rattle.gd_workers.specs.declared.job.ReadReply.{ReadReply}
 use Rattle.gd_workers.specs.declared.reading.ReadTurn.{ReadTurn}
 use Rattle.gd_workers.specs.declared.reading.ReadTurn.TheVariants as turn
 use Rattle.gd_workers.specs.declared.seated.Seated.{Seated}
-use Rattle.gd_workers.specs.Reading.{SeatGrows, BeginsReading, RepliesAtOnce, RepliesOwed, bytes_of, TurnsRead}
+use Rattle.gd_workers.specs.Reading.{SeatGrows, RepliesAtOnce, RepliesOwed, bytes_of, TurnsRead}
 use Rattle.gd_workers.specs.Writing.{HasLearned}
-use Rattle.gd_workers.specs.Runs.{JobValue, Share, is_read, reads}
+use Rattle.gd_workers.specs.Runs.{JobValue, is_read, reads}
 use Rattle.gd_workers.specs.Turns.{SameJobs, Grows, Waits, Answers, Halts, WriteTurn}
 use Rattle.gd_workers.specs.Turns as step
 use Rattle.gd_workers.specs.Seated.{share_of, job_view, reply_view, IsNew, KeepsReply, TakesRead, TakesWritten}
@@ -71,7 +67,7 @@ refused_reply old new k n q f made e e_is begins at is wanted = by made (subst (
             omega (arith, all, late, told),
             omega (arith, all),
             is ∙ (ap (λ (m : ℕ). err_line (fault_at m f).0 k (fault_at m f).1) all ∙ (refuses new.seat.entered (length new.seat.entered) k q (fault_at (length new.seat.entered) f) (refused.of wanted)
-            ∙ ap (λ (m : ℕ). reply_of new.seat.entered m k q) (sym all))),
+                ∙ ap (λ (m : ℕ). reply_of new.seat.entered m k q) (sym all))),
           );
         }
 
@@ -102,7 +98,7 @@ is_new sid session jobs kept none room = record {
     room = vec_capacity kept;
     stop = None;
   })
-  none;
+      none;
   enough = (let few = few_reads jobs.items in omega (arith, few, room));
 }
 
@@ -135,10 +131,11 @@ answers s w new j n reply goes none r = record {
 }
 
 turned_shut : (s w : Seated) (new : SessionValue) (j : JobValue) (q : ReadRequest) → WasTurnedAway s.session new → TakesRead (record s { session = new }) j.line turn.Shut w → TakenIn s j q w
-turned_shut s w new j q away taken = subst (λ (u : Seated). TakenIn s j q u) (sym taken)
-    (record { sid = refl; jobs = refl; table = ap (λ (m : SessionValue). m.seat.history) away.counted; room = refl },
-    step.is_shut (ap (λ (m : SessionValue). m.seat.entered) away.counted) (ap (λ (m : SessionValue). m.seat.told) away.counted) away.rose
-    (let count = ap (λ (m : SessionValue). m.seat.turned_away) away.counted in omega (arith, count)) (ap what_reads away.counted) refl (record { done = refl; before = refl; replies = refl; stop = refl }))
+turned_shut s w new j q away taken = subst (λ (u : Seated). TakenIn s j q u) (sym taken) (
+  record { sid = refl; jobs = refl; table = ap (λ (m : SessionValue). m.seat.history) away.counted; room = refl },
+  step.is_shut (ap (λ (m : SessionValue). m.seat.entered) away.counted) (ap (λ (m : SessionValue). m.seat.told) away.counted) away.rose
+      (let count = ap (λ (m : SessionValue). m.seat.turned_away) away.counted in omega (arith, count)) (ap what_reads away.counted) refl (record { done = refl; before = refl; replies = refl; stop = refl }),
+)
 
 -- a turn at a read that was taken in
 pub turned_read : (s w : Seated) (new : SessionValue) (j : JobValue) (q : ReadRequest) (what : ReadTurn) → s.stop ≡ None → is_some s.at ≡ is_some (what_reads s.session) → TurnsRead s.session s.at j.line q what new
@@ -146,16 +143,18 @@ pub turned_read : (s w : Seated) (new : SessionValue) (j : JobValue) (q : ReadRe
 turned_read s w new j q what goes both turned taken = by s.at refl what turned taken (what_reads s.session) refl
   where
     by : (at : Option ℕ) → s.at ≡ at → (t : ReadTurn) → TurnsRead s.session at j.line q t new → TakesRead (record s { session = new }) j.line t w → (held : Option Reading) → what_reads s.session ≡ held → TakenIn s j q w
-    by None at (turn.Going n) b took held is = subst (λ (u : Seated). TakenIn s j q u) (sym took)
-        (record { sid = refl; jobs = refl; table = b.seat.table; room = refl },
-        step.begins b.begun (record { entered = b.seat.entered; seen = b.seat.seen; turned_away = b.seat.turned_away }) b.late b.of b.held (ap (λ (m : ℕ). Some m) b.snapshot) (record { done = refl; before = refl; replies = refl; stop = goes }))
+    by None at (turn.Going n) b took held is = subst (λ (u : Seated). TakenIn s j q u) (sym took) (
+      record { sid = refl; jobs = refl; table = b.seat.table; room = refl },
+      step.begins b.begun (record { entered = b.seat.entered; seen = b.seat.seen; turned_away = b.seat.turned_away }) b.late b.of b.held (ap (λ (m : ℕ). Some m) b.snapshot) (record { done = refl; before = refl; replies = refl; stop = goes }),
+    )
     by None at (turn.Answered n reply) b took held is =
         let both = kept s w new j.line n (bytes_of reply) b.seat took in
         (both.0, step.is_refused n (bytes_of reply) both.1 (subst (λ (m : SessionValue). RepliesAtOnce s.session m j.line q n (bytes_of reply)) (sym took.session) b).is (answers s w new j n (bytes_of reply) goes b.none took))
     by None at turn.Shut b took held is = turned_shut s w new j q b took
-    by (Some m) at (turn.Going n) b took held is = subst (λ (u : Seated). TakenIn s j q u) (sym took)
-        (record { sid = refl; jobs = refl; table = b.0.table; room = refl },
-        step.goes_on (record { entered = b.0.entered; seen = b.0.seen; turned_away = b.0.turned_away }) b.1 (ap (λ (i : ℕ). Some i) b.2 ∙ sym at) (record { done = refl; before = refl; replies = refl; stop = goes }))
+    by (Some m) at (turn.Going n) b took held is = subst (λ (u : Seated). TakenIn s j q u) (sym took) (
+      record { sid = refl; jobs = refl; table = b.0.table; room = refl },
+      step.goes_on (record { entered = b.0.entered; seen = b.0.seen; turned_away = b.0.turned_away }) b.1 (ap (λ (i : ℕ). Some i) b.2 ∙ sym at) (record { done = refl; before = refl; replies = refl; stop = goes }),
+    )
     by (Some m) at (turn.Answered n reply) b took None is = absurd (none_held (sym (ap is_some at) ∙ (both ∙ ap is_some is)))
       where
         none_held : true ≡ false → ⊥
@@ -163,9 +162,11 @@ turned_read s w new j q what goes both turned taken = by s.at refl what turned t
     by (Some m) at (turn.Answered n reply) b took (Some r) is =
         let both = kept s w new j.line n (bytes_of reply) b.0.seat took in
         let owed : IfSome (bytes_of reply) (λ bytes. IfSome (what_reads s.session) (λ x. bytes ≡ owed_line w.session.seat.entered j.line x)) =
-        (subst (λ (x : SessionValue). RepliesOwed s.session x j.line (bytes_of reply)) (sym took.session) b.0).is in
-        (both.0, step.is_answered r n (bytes_of reply) both.1 is (at ∙ ap (λ (i : ℕ). Some i) (sym b.1))
-        (IfSome_then (bytes_of reply) owed (λ bytes h. subst (λ (o : Option Reading). IfSome o (λ x. bytes ≡ owed_line w.session.seat.entered j.line x)) is h)) (answers s w new j n (bytes_of reply) goes b.0.none took))
+        (subst (λ (x : SessionValue). RepliesOwed s.session x j.line (bytes_of reply)) (sym took.session) b.0).is in (
+          both.0,
+          step.is_answered r n (bytes_of reply) both.1 is (at ∙ ap (λ (i : ℕ). Some i) (sym b.1))
+              (IfSome_then (bytes_of reply) owed (λ bytes h. subst (λ (o : Option Reading). IfSome o (λ x. bytes ≡ owed_line w.session.seat.entered j.line x)) is h)) (answers s w new j n (bytes_of reply) goes b.0.none took),
+        )
     by (Some m) at turn.Shut b took held is = turned_shut s w new j q b took
 
 -- ---- a turn at a write
@@ -173,13 +174,11 @@ turned_read s w new j q what goes both turned taken = by s.at refl what turned t
 -- a turn at a write that was taken in
 pub turned_write : (s w : Seated) (new : SessionValue) (j : JobValue) (res : Result (Unit {0}) Memory) → s.stop ≡ None → HasLearned s.session new → TakesWritten (record s { session = new }) j.line res w
     → SameJobs (share_of s) (share_of w) × WriteTurn (share_of s) j (share_of w)
-turned_write s w new j (Ok done) goes learned taken = subst (λ (u : Seated). SameJobs (share_of s) (share_of u) × WriteTurn (share_of s) j (share_of u)) (sym taken)
-    (record { sid = refl; jobs = refl; table = learned.table; room = refl },
-    record { entered = learned.entered; told = learned.told; turned_away = learned.turned_away; reading = ap (option_map reading_view) learned.held; at = refl; replies = refl; step = inl (refl, refl, goes) })
-turned_write s w new j (Err none) goes learned taken = subst (λ (u : Seated). SameJobs (share_of s) (share_of u) × WriteTurn (share_of s) j (share_of u)) (sym taken)
-    (record { sid = refl; jobs = refl; table = learned.table; room = refl },
-    record { entered = learned.entered; told = learned.told; turned_away = learned.turned_away; reading = ap (option_map reading_view) learned.held; at = refl; replies = refl; step = inr (refl, refl, refl) })
-
--- a receipt that the lock gives is of the table that the round names
-pub of_table : {D C : Type 0} (faults : D → ℕ) (may : C → ℕ → Bool) (l : Named) (receipt : FrontValue) → IsToldLocked faults may l receipt → receipt.history ≡ l.table
-of_table faults may l receipt told = ap (λ (r : FrontValue). r.history) told.told ∙ told.locked.table
+turned_write s w new j (Ok done) goes learned taken = subst (λ (u : Seated). SameJobs (share_of s) (share_of u) × WriteTurn (share_of s) j (share_of u)) (sym taken) (
+  record { sid = refl; jobs = refl; table = learned.table; room = refl },
+  record { entered = learned.entered; told = learned.told; turned_away = learned.turned_away; reading = ap (option_map reading_view) learned.held; at = refl; replies = refl; step = inl (refl, refl, goes) },
+)
+turned_write s w new j (Err none) goes learned taken = subst (λ (u : Seated). SameJobs (share_of s) (share_of u) × WriteTurn (share_of s) j (share_of u)) (sym taken) (
+  record { sid = refl; jobs = refl; table = learned.table; room = refl },
+  record { entered = learned.entered; told = learned.told; turned_away = learned.turned_away; reading = ap (option_map reading_view) learned.held; at = refl; replies = refl; step = inr (refl, refl, refl) },
+)

@@ -1,23 +1,22 @@
 -- What each turn of a session keeps.
-use Rattle.std.proofs.Common.{◌≡◌, refl, ℕ, zero, suc, ◌+◌, ◌-◌, ◌^◌, ◌≤◌, ◌<◌, ◌⊎◌, inl, inr, ⊎_elim, Bool, true, false, List, [], ◌∷◌, ◌++◌, length, take, drop, map, Option, Some, None, Ok, sym, subst, ap, ◌∙◌, arith, append-nil, append_assoc, length-append, take-append-drop, le_refl}
-use Rattle.std.specs.Prelude.{slice_get, IfSome, filter, is_some}
+use Rattle.std.proofs.Common.{◌≡◌, refl, ℕ, zero, suc, ◌+◌, ◌≤◌, ◌<◌, ⊎_elim, List, [], ◌∷◌, ◌++◌, length, take, drop, map, Option, Some, None, Ok, sym, subst, ap, ◌∙◌, arith, append-nil, append_assoc, length-append, take-append-drop, le_refl}
+use Rattle.std.specs.Prelude.{slice_get, IfSome, is_some}
 use Rattle.std.specs.List.{AllZip, last_or}
 use Rattle.std.proofs.lemmas.List.Elements.{filter-append}
 use Rattle.std.proofs.lemmas.List.{map-append}
 use Rattle.std.proofs.lemmas.Option.{IfSome_then}
 use mathlib.Core.List.{IsPrefix}
 use Rattle.logbook.specs.Pages.{Book}
-use Rattle.gd_base.specs.Counts.{Rose}
 use Rattle.gd_prim.specs.declared.Batch.{Batch}
 use Rattle.gd_defs.specs.Write.{WriteRequest}
 use Rattle.gd_runs.specs.Request.{Line, read, write, ReadRequest, reply_of}
-use Rattle.gd_runs.specs.Core.{Reading, reading_of, owed_line}
+use Rattle.gd_runs.specs.Core.{Reading}
 use Rattle.gd_runs.specs.Side.{WriteLine, Begun}
 use Rattle.gd_runs.proofs.Rounds.{no_some, some_same}
 use Rattle.gd_core_laws.specs.Round.{one_write}
 use Rattle.gd_core_laws.proofs.Reading.{owes}
-use Rattle.gd_workers.specs.Runs.{JobValue, ReplyValue, Share, seen_of, is_read, reads, writes, last_write, AreOfRound, RepliesAt, IsReply, IsCause, IsStop, IsReading, BeginsShare, RunsPart, IsOver}
-use Rattle.gd_workers.specs.Turns.{SameJobs, Grows, Waits, Answers, Halts, ReadTurn, begins, goes_on, is_refused, is_answered, is_shut, WriteTurn}
+use Rattle.gd_workers.specs.Runs.{JobValue, ReplyValue, Share, seen_of, is_read, reads, writes, last_write, AreOfRound, RepliesAt, IsReply, IsStop, IsReading, BeginsShare, RunsPart, IsOver}
+use Rattle.gd_workers.specs.Turns.{SameJobs, Grows, Waits, Answers, ReadTurn, begins, goes_on, is_refused, is_answered, is_shut, WriteTurn}
 use Rattle.gd_workers.proofs.Grown.{reading_grows, reply_grows}
 
 -- ---- lists

@@ -1,12 +1,12 @@
 -- A session's jobs in a round: what a worker has done of them, and what it may do next.
-use Rattle.std.specs.Prelude.{◌≡◌, ℕ, ◌+◌, ◌^◌, ◌<◌, ◌≤◌, ◌⊎◌, ◌==◌, max, List, [], ◌∷◌, ◌++◌, length, take, map, filter, flat_map, slice_get, Bool, true, false, Option, Some, None, Ok, IfSome, is_some}
+use Rattle.std.specs.Prelude.{◌≡◌, ℕ, ◌^◌, ◌<◌, ◌≤◌, ◌==◌, max, List, [], ◌∷◌, ◌++◌, length, take, map, filter, slice_get, Bool, true, false, Option, Some, None, Ok, IfSome, is_some}
 use Rattle.std.specs.List.{AllZip, last_or}
 use mathlib.Core.List.{IsPrefix}
 use Rattle.logbook.specs.Pages.{Book}
 use Rattle.gd_base.specs.Counts.{Rose}
 use Rattle.gd_prim.specs.declared.Batch.{Batch}
 use Rattle.gd_runs.specs.Request.{Line, read, write, ReadRequest, reply_of}
-use Rattle.gd_runs.specs.Core.{Reading, reading_of, owed_line}
+use Rattle.gd_runs.specs.Core.{Reading, reading_of}
 use Rattle.gd_runs.specs.Side.{WriteLine, Begun}
 use Rattle.gd_core_laws.specs.Round.{one_write}
 use Rattle.gd_workers.specs.declared.job.Stop.{Stop}

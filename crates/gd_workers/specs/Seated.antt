@@ -1,5 +1,5 @@
 -- A session with its jobs as the definitions have it, and what a worker's run does to all of its sessions.
-use Rattle.std.specs.Prelude.{◌≡◌, ℕ, ◌+◌, ◌<◌, ◌≤◌, List, [], ◌∷◌, ◌++◌, length, map, Option, Some, None, Result, Ok, Err, option_map, slice_index_or, vec_capacity}
+use Rattle.std.specs.Prelude.{◌≡◌, ℕ, ◌+◌, ◌<◌, ◌≤◌, List, [], ◌∷◌, ◌++◌, length, map, Option, Some, None, Result, Ok, Err, slice_index_or, vec_capacity}
 use Rattle.logbook.specs.Pages.{Book}
 use Rattle.gd_base.specs.declared.memory.Memory.{Memory}
 use Rattle.gd_mql.specs.Requests.{line_view}

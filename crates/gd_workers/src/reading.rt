@@ -28,7 +28,7 @@ pub(crate) enum ReadTurn {
 fn again(request: &ReadRequest) -> Result<ReadRequest, Memory>
     ensures { IfOk result (λ copied. read_view copied ≡ read_view request.now) }
 {
-    Err(Memory)
+    request.copy()
 }
 
 /// Begins the read of a line.

@@ -55,9 +55,7 @@ fn run_all<L: Round, D: Disk, C: Clock, G: Gate, R: Wait>(
 {
     let mut steps: Steps<L> = Steps::new();
     for _ in rt.forever() {
-        if !pass(
-            seated, rt, alloc, number, budget, writers, gate, &mut steps,
-        ) {
+        if !pass(seated, rt, alloc, number, budget, writers, gate, &mut steps) {
             return;
         }
     }

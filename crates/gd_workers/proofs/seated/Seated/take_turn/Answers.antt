@@ -1,8 +1,7 @@
-use Rattle.std.proofs.Common.{◌≡◌, ◌<◌, refl, sym, ap, subst, ◌∙◌, length, slice_get, Some, arith}
+use Rattle.std.proofs.Common.{◌≡◌, refl, sym, ap, subst, slice_get, Some}
 use Rattle.std.proofs.lemmas.Option.{slice_get_read}
 use Rattle.gd_mql.specs.Requests.{line_view, read_view, write_view}
 use Rattle.gd_writers.specs.Round.{begun, IsOfRound}
-use Rattle.gd_workers.specs.Runs.{RunsPart}
 use Rattle.gd_workers.specs.Seated.{share_of, job_view}
 use Rattle.gd_workers.proofs.Before.{of_round}
 use Rattle.gd_workers.proofs.Turns as turns
