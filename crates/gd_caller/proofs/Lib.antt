@@ -5,4 +5,5 @@ pub mod Read
 pub mod Answered
 pub mod Left
 pub mod Tells
+pub mod Faults
 pub mod Rounds

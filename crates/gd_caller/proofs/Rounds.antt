@@ -1,5 +1,5 @@
 -- A round that its caller alone answers is served.
-use Rattle.std.proofs.Common.{◌≡◌, refl, ℕ, zero, suc, ◌+◌, ◌-◌, ◌^◌, ◌<◌, ◌≤◌, ◌⊎◌, inl, inr, ⊎_elim, min, Bool, IsTrue, List, [], ◌∷◌, ◌++◌, length, map, take, Option, Some, None, Result, Ok, Err, OnOk, OnErr, slice_get, option_and_then, sym, subst, ap, ◌∙◌, arith}
+use Rattle.std.proofs.Common.{◌≡◌, refl, ℕ, zero, suc, ◌+◌, ◌-◌, ◌^◌, ◌<◌, ◌≤◌, ◌⊎◌, inl, inr, ⊎_elim, min, Bool, IsTrue, List, [], ◌∷◌, ◌++◌, length, map, take, Option, Some, None, Result, Ok, Err, OnOk, OnErr, slice_get, option_and_then, if◌then◌else◌, sym, subst, ap, ◌∙◌, arith}
 use Rattle.std.proofs.lemmas.List.{length-map}
 use Rattle.std.specs.List.{AllByRecursion}
 use Rattle.gd_base.specs.declared.memory.Memory.{Memory}
@@ -11,7 +11,7 @@ use Rattle.gd_input.specs.Rounds.{AreKept}
 use Rattle.gd_runs.specs.Input.{line_from}
 use Rattle.gd_runs.specs.Request.{read}
 use Rattle.gd_runs.specs.Legal.{Entry, History, batches, size}
-use Rattle.gd_runs.specs.Explained.{Numbered, Run, memory_line}
+use Rattle.gd_runs.specs.Explained.{Numbered, Run, memory_line, tells_fault, fault_count}
 use Rattle.gd_runs.specs.Core.{State, Session}
 use Rattle.gd_runs.specs.Side as side
 use Rattle.gd_runs.specs.Side.{Kept, number_of, Told, AreInOrder, IsLeft, IsFresh, KeepsHistory}
@@ -43,6 +43,7 @@ use Rattle.gd_caller.proofs.Came.{CameTo, came_first, came_read, round_served}
 use Rattle.gd_caller.proofs.Read.{all_weaker, all_at, count_is}
 use Rattle.gd_caller.proofs.Left.{no_sessions}
 use Rattle.gd_caller.proofs.Tells.{there}
+use Rattle.gd_caller.proofs.Faults.{faults_told_most, forgets_faults, quiet_or, first_quiet, read_quiet, memory_quiet}
 
 -- ---- lines of a round
 
@@ -162,6 +163,7 @@ module _ {D C : Type 0} (content : D → Option (List ℕ)) (moment : D → ℕ)
         outs = t.outs;
         writes = λ sessions. callers_forget (may old.clock) (map write_of works.writes.items) (with_shown (state_of old sessions) c.shown) (state_of new sessions) [] [] (map told_view outcomes) t.outs tt t.forgets (c.writes sessions);
         order = forgets_order (map told_view outcomes) t.outs t.forgets c.order;
+        rose = subst (λ (n : ℕ). RoseBy (faults old.log.disk) (faults new.log.disk) n) (sym (forgets_faults (map told_view outcomes) t.outs t.forgets)) c.rose;
         many = omega (arith, same, count, long);
         each = λ j reply at. ⊎_elim
             (λ before. let (was, at_was, is) = t.reply j reply before in (was, at_was, inl is))
@@ -273,6 +275,20 @@ module _ {D C : Type 0} (content : D → Option (List ℕ)) (moment : D → ℕ)
             (subst (λ (n : ℕ). IsFreshFrom n old.history old.doubt) (sym len) fresh) here sessions (stands sessions))
             (a.carried.moments tells);
         later = a.carried.later;
+        rose = λ given kept.
+            let r = reads given kept in
+            let count = r.count in
+            let long = length-map works.replies.items round_text in
+            let most = faults_told_most a.outs first replies (λ j reply at none_at.
+            let (was, at_was, is) = a.each j reply at in
+            let in_it = get_within replies j reply at in
+            let (l, at_l) = there given j (omega (arith, in_it, many, count, long)) in
+            ⊎_elim
+            (λ told. ap (tells_fault (first + j)) told ∙ quiet_or (first + j) (first + j) was (kept_of a.outs (first + j)) (first_quiet (first + j) l.bytes was (r.replies j l was at_l at_was)) none_at)
+            (λ (i, q, at_q, line, told). ap (tells_fault (first + j)) told ∙ read_quiet (first + j) (batches new.history) (least_later (map write_of works.writes.items) a.outs q.line q.session (length new.shown)) q.line (read_view q.request))
+            is) in
+            let rose = a.rose in
+            omega (arith, most, rose);
       }
 
   -- ---- a round for which there was no room
@@ -285,6 +301,13 @@ module _ {D C : Type 0} (content : D → Option (List ℕ)) (moment : D → ℕ)
   passed_at k zero j x at = no_some at
   passed_at k (suc n) zero x at = ap memory_line (omega arith) ∙ some_same at
   passed_at k (suc n) (suc j) x at = ap memory_line (omega arith) ∙ passed_at (k + 1) n j x at
+
+  passed_count : (k n : ℕ) → fault_count k (no_memory k n) ≡ 0
+  passed_count k zero = refl
+  passed_count k (suc n) =
+      let rest = passed_count (k + 1) n in
+      let first : fault_count k (no_memory k (suc n)) ≡ 0 + fault_count (k + 1) (no_memory (k + 1) n) = ap (λ (b : Bool). (if b then 1 else 0) + fault_count (k + 1) (no_memory (k + 1) n)) (memory_quiet k k) in
+      omega (arith, first, rest)
 
   passed_over : (runs : List Run) (round : ℕ) (given : List Numbered) (old : SideValue D C) (n : ℕ) → n ≡ length given → KeepsAll content images may old → old.outcomes ≡ [] → IsFreshFrom (length runs) old.history old.doubt → AreOf round given → (sessions : ℕ → Session)
       → (more : List Run) × RoundServed (may old.clock) (state_of old sessions) runs round given (printed (no_memory (length runs) n)) (state_of old sessions) more
@@ -317,4 +340,5 @@ module _ {D C : Type 0} (content : D → Option (List ℕ)) (moment : D → ℕ)
             (subst (λ (k : ℕ). IsFreshFrom k old.history old.doubt) (sym len) fresh) here sessions
             (record { reached = state_of old sessions; outs = []; writes = callers_pass (may old.clock) (write_lines (length runs) given) (state_of old sessions) []; stands = keeps.holds file (tells, now) }));
         later = omega arith;
+        rose = λ given kept. let none_told = passed_count first n in omega (arith, none_told);
       }

@@ -6,7 +6,7 @@ use Rattle.gd_bytes.specs.Disk.{LeavesOnly}
 use Rattle.gd_input.specs.declared.line.RoundLine.{RoundLine}
 use Rattle.gd_input.specs.Rounds.{AreKept}
 use Rattle.gd_runs.specs.Legal.{batches, size}
-use Rattle.gd_runs.specs.Explained.{Numbered, Run}
+use Rattle.gd_runs.specs.Explained.{Numbered, Run, fault_count}
 use Rattle.gd_runs.specs.Core.{State, Session}
 use Rattle.gd_runs.specs.Side.{Told, AreInOrder}
 use Rattle.gd_core_laws.specs.Bounds.{kept_of}
@@ -63,6 +63,7 @@ pub record AnswersWorks {D C : Type 0} (content : D → Option (List ℕ)) (mome
   pub outs : List Told
   pub writes : (sessions : ℕ → Session) → CallerWrites (may old.clock) (with_shown (state_of old sessions) carried.shown) [] (map write_of works.writes.items) (state_of new sessions) outs
   pub order : AreInOrder outs
+  pub rose : RoseBy (faults old.log.disk) (faults new.log.disk) (faults_kept outs)
   pub many : length replies ≡ length works.replies.items
   pub each : (j : ℕ) (reply : List ℕ) → slice_get replies j ≡ Some reply → (was : List ℕ) × (slice_get (map round_text works.replies.items) j ≡ Some was) × IsReplyAt new first works outs j was reply
 
@@ -71,7 +72,7 @@ abbrev pub StandsForRound : {D C : Type 0} → (ℕ → Bool) → ℕ → List R
 StandsForRound may first lines old file = (runs : List Run) (round : ℕ) (given : List Numbered) → length runs ≡ first → AreKept lines (texts_of given) → AreOf round given → (sessions : ℕ → Session)
     → StandsServed may (state_of old sessions) runs round given file
 
--- The lines of a round were answered, the first of them line first: whichever lines came before, the round is served, from the side as it was to the side as it is. The table and the moments of the clock stay, a disk that tells its content goes on to tell it, a stop leaves what stands for the side after such a round, and the disk's count does not fall. No entry and no group in doubt is of a line behind it.
+-- The lines of a round were answered, the first of them line first: whichever lines came before, the round is served, from the side as it was to the side as it is. The table and the moments of the clock stay, a disk that tells its content goes on to tell it, a stop leaves what stands for the side after such a round, and the disk's count rose by the replies that tell a failure of it. No entry and no group in doubt is of a line behind it.
 pub record AnswersRound {D C : Type 0} (content : D → Option (List ℕ)) (moment : D → ℕ) (images : D → List ℕ → Type 0) (images_since : D → ℕ → List ℕ → Type 0) (faults : D → ℕ) (may : C → ℕ → Bool) (first : ℕ) (lines : List RoundLine) (old new : SideValue D C) (replies : List (List ℕ)) : Type 0 where
   pub served : (runs : List Run) (round : ℕ) (given : List Numbered) → length runs ≡ first → AreKept lines (texts_of given) → AreOf round given → (sessions : ℕ → Session)
       → (more : List Run) × RoundServed (may old.clock) (state_of old sessions) runs round given (printed replies) (state_of new sessions) more
@@ -83,3 +84,4 @@ pub record AnswersRound {D C : Type 0} (content : D → Option (List ℕ)) (mome
   pub told : is_some (content new.log.disk) ≡ is_some (content old.log.disk)
   pub moments : Tells (content old.log.disk) → LeavesOnly moment images images_since old.log.disk new.log.disk (StandsForRound (may old.clock) first lines old)
   pub later : faults old.log.disk ≤ faults new.log.disk
+  pub rose : (given : List Numbered) → AreKept lines (texts_of given) → RoseBy (faults old.log.disk) (faults new.log.disk) (fault_count first replies)
