@@ -1,4 +1,4 @@
-use Rattle.std.proofs.Common.{◌≡◌, List, ℕ, Some, None, rules, arith, refl}
+use Rattle.std.proofs.Common.{◌≡◌, List, ℕ, Some, None, option_map, rules, arith, refl}
 use Rattle.std.proofs.lemmas.Grind.{common_steps}
 use Rattle.gd_words.specs.declared.verbs.Command.TheVariants as command
 use Rattle.gd_words.specs.Words.{command_of}
@@ -54,6 +54,11 @@ pub returns-in-Ok-Some-Replay-clause-memory : goal.returns-in-Ok-Some-Replay-cla
 returns-in-Ok-Some-Replay-clause-memory g c is =
     let words : command_of c.args.words.now ≡ Some (command.Replay c.in-Ok-Some-Replay.settings) = first_of (search rules, grind (arith, common_steps)) in
     absurd (replays_words c.args.words.now c.in-Ok-Some-Replay.settings words is)
+
+pub returns-in-Ok-Some-Replay-clause-events : goal.returns-in-Ok-Some-Replay-clause-events
+returns-in-Ok-Some-Replay-clause-events g c is =
+    let path : path_of c.args.words.now ≡ option_map (λ t. t.now) c.as_ref-in-Ok-Some-Replay.result = first_of (search rules, grind (arith, common_steps)) in
+    rw path c.replay.ensures.prints
 
 pub returns-in-Ok-None-clause-events : goal.returns-in-Ok-None-clause-events
 returns-in-Ok-None-clause-events g c is =
