@@ -112,8 +112,7 @@ lines_join members may [] ys s t u k out more (none, shows) others =
     let here = shows_first members may ys s t u (k + 0) more shows others in
     subst (λ (o : List ℕ). LinesServed members may s k ys o u) (sym (ap (λ (o : List ℕ). o ++ more) none)) (subst (λ (n : ℕ). LinesServed members may s n ys more u) same here)
 lines_join members may (x ∷ xs) ys s t u k out more (before, reply, after, rest, shows, step, is, first) others =
-    let place : k + length (x ∷ xs) ≡ (k + 1) + length xs = omega arith in
-    (
+    let place : k + length (x ∷ xs) ≡ (k + 1) + length xs = omega arith in (
       before,
       reply,
       after,

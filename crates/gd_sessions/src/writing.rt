@@ -51,7 +51,12 @@ fn reason(fault: ChangeFault) -> Refusal
 }
 
 /// The reply line to a write that was refused over so many requests.
-pub(crate) fn refused_line(alloc: Global, line: u64, fault: ChangeFault, at: u32) -> Result<Vec<u8>, Memory>
+pub(crate) fn refused_line(
+    alloc: Global,
+    line: u64,
+    fault: ChangeFault,
+    at: u32,
+) -> Result<Vec<u8>, Memory>
     requires line { line < 2 ^ 63 }
     requires small { IsSmall fault }
     requires memory { fault ≢ ChangeFault.Memory }

@@ -181,7 +181,15 @@ pub fn graphd<R: Wait, S: Source, K: Sink, F: Shelf, C: Clock + Drop>(
             clock,
         ),
         Ok(Some(Command::Replay(settings))) => {
-            replay(rt, alloc, settings.file.as_ref(), source, sink, shelf, clock)
+            replay(
+                rt,
+                alloc,
+                settings.file.as_ref(),
+                source,
+                sink,
+                shelf,
+                clock,
+            )
         }
         Ok(None) => Status::Usage,
         Err(_refused) => Status::Memory,
