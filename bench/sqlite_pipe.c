@@ -1,5 +1,7 @@
 /* Answers queries over a file of tables by SQLite, a line of JSON for each line: the number of a statement, a space and what its
- * parameters are. The statements come first, one a line, until an empty line. Nothing here is part of the program. */
+ * parameters are. The statements come first, one a line, until an empty line. It keeps a copy of the tables in memory, and sends each
+ * answer on at once. With `wal` behind the file it works over the file itself, where others may be at work, by a write-ahead log that
+ * is synced at each change, and sends its answers on at each empty line. Nothing here is part of the program. */
 #include <sqlite3.h>
 #include <stdio.h>
 #include <stdlib.h>
@@ -51,31 +53,53 @@ static void answer(sqlite3 *base, sqlite3_stmt *statement, const char *given) {
         print_row(statement);
     }
     printf("]}\n");
-    fflush(stdout);
     sqlite3_reset(statement);
 }
 
-int main(int count, char **words) {
-    static char line[ROOM];
-    sqlite3 *file, *base;
-    sqlite3_stmt *statements[MOST];
-    int many = 0;
-    if (count != 2) return 2;
-    check(sqlite3_open(words[1], &file), file, SQLITE_OK);
-    check(sqlite3_open(":memory:", &base), base, SQLITE_OK);
+static sqlite3 *opened(const char *path) {
+    sqlite3 *file;
+    check(sqlite3_open(path, &file), file, SQLITE_OK);
+    return file;
+}
+
+/* A copy of the tables in memory. */
+static sqlite3 *copied(const char *path) {
+    sqlite3 *file = opened(path), *base = opened(":memory:");
     sqlite3_backup *copy = sqlite3_backup_init(base, "main", file, "main");
     if (!copy) check(SQLITE_ERROR, base, SQLITE_OK);
     check(sqlite3_backup_step(copy, -1), base, SQLITE_DONE);
     sqlite3_backup_finish(copy);
     sqlite3_close(file);
+    return base;
+}
+
+/* The file itself. */
+static sqlite3 *shared(const char *path) {
+    sqlite3 *base = opened(path);
+    sqlite3_busy_timeout(base, 10000);
+    check(sqlite3_exec(base, "pragma journal_mode = wal; pragma synchronous = full", NULL, NULL, NULL), base, SQLITE_OK);
+    return base;
+}
+
+int main(int count, char **words) {
+    static char line[ROOM];
+    sqlite3_stmt *statements[MOST];
+    int many = 0, in_rounds = count == 3 && !strcmp(words[2], "wal");
+    if (count != 2 && !in_rounds) return 2;
+    sqlite3 *base = in_rounds ? shared(words[1]) : copied(words[1]);
     while (fgets(line, ROOM, stdin) && line[0] != '\n' && many < MOST)
         check(sqlite3_prepare_v2(base, line, -1, &statements[many++], NULL), base, SQLITE_OK);
     while (fgets(line, ROOM, stdin)) {
+        if (in_rounds && line[0] == '\n') {
+            fflush(stdout);
+            continue;
+        }
         char *given = strchr(line, ' ');
         int number = atoi(line);
         line[strcspn(line, "\n")] = 0;
         if (!given || number < 0 || number >= many) return 2;
         answer(base, statements[number], given + 1);
+        if (!in_rounds) fflush(stdout);
     }
     return 0;
 }

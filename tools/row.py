@@ -84,6 +84,20 @@ def rows_of(path):
     return header, rows
 
 
+def in_rounds(lines, mark=""):
+    """Lines behind a mark, with a blank one before each line of another session than the one before: sessions of one round
+    run side by side, and a row is one line after another."""
+    out, before = [], None
+    for line in lines:
+        asked = re.match(mark + r'\{"sid":(\d+),"(?:read|write)"', line)
+        if asked and before not in (None, asked.group(1)):
+            out.append(mark)
+        if asked or line == mark:
+            before = asked.group(1) if asked else None
+        out.append(line)
+    return out
+
+
 class Case:
     """A run of the program, or one for each number of its line `each`: what it is given, and what it is to come to."""
 
@@ -127,6 +141,8 @@ class Case:
         if self.each is None:
             return [(self.name, self.file, None)]
         what, numbers, *digits = self.each
+        if what == "workers":
+            return [("%s/%s" % (self.name, n), self.file, None) for n in [numbers] + digits]
         first, last = (int(number) for number in numbers.split("-"))
         numbers = range(first, last + 1)
         if what == "cut":
@@ -139,9 +155,12 @@ class Case:
     def runs(self):
         """What the program reads, and what it is to print, for each run."""
         named = any(line.startswith("word") for line in self.given)
+        on_threads = self.each is not None and self.each[0] == "workers"
+        given = self.given if named or on_threads else in_rounds(self.given, "> ")
         for name, file, failing in self.variants():
-            lines = ["row " + name] + ([] if named else ["words serve"])
-            lines += (["file " + file.hex()] if file else []) + ([failing] if failing else []) + self.given
+            words = "words serve" + (" --workers " + name.rsplit("/", 1)[1] if on_threads else "")
+            lines = ["row " + name] + ([] if named else [words])
+            lines += (["file " + file.hex()] if file else []) + ([failing] if failing else []) + given
             yield ("\n".join(lines) + "\n").encode(), self.wanted(name)
 
     def wanted(self, name):
@@ -273,8 +292,9 @@ def main():
         if given.why:
             print(proof(["Why the row %s does not compute." % row.name], [row], "NoneIsWrong"), end="")
             return 0
-        for line, reply in row.pairs:
-            sys.stdout.buffer.write((line if given.lines else reply) + b"\n")
+        lines, replies = ([pair[part].decode("latin-1") for pair in row.pairs] for part in (0, 1))
+        for line in in_rounds(lines) if given.lines else replies:
+            sys.stdout.buffer.write(line.encode("latin-1") + b"\n")
         return 0
     known = {module_of(path) + ".antt" for path in texts()}
     for name in sorted(set(os.listdir(os.path.join(PROOFS, "rows"))) - known):

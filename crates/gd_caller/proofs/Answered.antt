@@ -1,9 +1,7 @@
 -- Reads that are answered at the greatest number that fits.
-use Rattle.std.proofs.Common.{◌≡◌, ◌≢◌, refl, ℕ, zero, suc, ◌+◌, ◌-◌, ◌<◌, ◌≤◌, ◌⊎◌, min, inl, inr, ⊎_elim, List, [], ◌∷◌, ◌++◌, length, map, take, drop, set, Option, Some, None, Result, Ok, Err, slice_get, option_map, option_and_then, sym, subst, ap, ◌∙◌, arith}
+use Rattle.std.proofs.Common.{◌≡◌, ◌≢◌, refl, ℕ, zero, suc, ◌≤◌, List, [], ◌∷◌, ◌++◌, length, take, drop, Result, Ok, Err, sym, ap, ◌∙◌, arith}
 use Rattle.std.specs.Prelude.{IfOk}
 use Rattle.std.specs.Global.{Vec}
-use Rattle.std.proofs.Common.{Global}
-use Rattle.std.proofs.lemmas.List.{map-set}
 use Rattle.gd_base.specs.declared.memory.Memory.{Memory}
 use Rattle.gd_prim.specs.declared.Batch.{Batch}
 use Rattle.gd_prim.specs.History.{prims_of}
@@ -11,25 +9,13 @@ use Rattle.gd_defs.specs.Lines.{err_line}
 use Rattle.gd_defs.specs.Reply.{reply}
 use Rattle.gd_runs.specs.Request.{ReadRequest, asks_page, reply_of}
 use Rattle.gd_runs.specs.Core as core
-use Rattle.gd_runs.specs.Side.{Kept, number_of, Told, WriteLine}
-use Rattle.gd_runs.proofs.Rounds.{no_some, some_same, get_left, get_right, reply_kept_at}
-use Rattle.gd_core_laws.specs.Bounds.{kept_of, later_number, least_later}
+use Rattle.gd_runs.proofs.Rounds.{reply_kept_at}
 use Rattle.gd_core_laws.proofs.Reading.{owes, refuses}
 use Rattle.gd_suspended.specs.declared.reading.Reading.{Reading}
 use Rattle.gd_suspended.specs.declared.fault.ReadFault.{ReadFault}
 use Rattle.gd_suspended.specs.declared.fault.ReadFault.TheVariants as fault
 use Rattle.gd_suspended.specs.Begun.{fault_at}
 use Rattle.gd_suspended.specs.Reading.{reading_view}
-use Rattle.gd_caller.specs.declared.work.ReadLine.{ReadLine}
-use Rattle.gd_caller.specs.Reads.{read_reply, AnswersOne, AnswersReads}
-
--- ---- the least number
-
-pub least_shown : (ls : List WriteLine) (outs : List Told) (k s shown : ℕ) → least_later ls outs k s shown ≤ shown
-least_shown [] outs k s shown = omega arith
-least_shown (a ∷ ls) outs k s shown = let below = least_shown ls outs k s shown in omega (arith, below)
-
--- ---- a reply at a number
 
 take_twice : (n : ℕ) (xs : List Batch) → take n (take n xs) ≡ take n xs
 take_twice zero xs = refl
@@ -74,31 +60,3 @@ read_err all view m k r f (Ok bytes) within view_is refused prints memory =
     ∙ ap (λ n. err_line (fault_at n f).0 k (fault_at n f).1) (sym long)
     ∙ refuses view (length view) k r (fault_at (length view) f) (refused memory)
     ∙ ap (λ n. reply_of view n k r) long ∙ ap (λ bs. reply_of bs m k r) view_is ∙ front_reply all m k r within
-
--- ---- replies in place of others
-
-pub set_got : {X : Type 0} (xs : List X) (i j : ℕ) (y x : X) → slice_get (set xs i y) j ≡ Some x → ((j ≡ i) × (x ≡ y)) ⊎ (slice_get xs j ≡ Some x)
-set_got [] i j y x at = no_some at
-set_got (z ∷ xs) zero zero y x at = inl (refl, sym (some_same at))
-set_got (z ∷ xs) zero (suc j) y x at = inr at
-set_got (z ∷ xs) (suc i) zero y x at = inr at
-set_got (z ∷ xs) (suc i) (suc j) y x at = ⊎_elim (λ (place, is). inl (ap suc place, is)) (λ old. inr old) (set_got xs i j y x at)
-
--- the reply stays
-pub answers_none : (first : ℕ) (batches : List Batch) (shown : ℕ) (writes : List WriteLine) (outs : List Told) (r : ReadLine) (old : List (List ℕ)) → AnswersOne first batches shown writes outs r old old
-answers_none first batches shown writes outs r old j reply at = inl at
-
-pub answers_set : (first : ℕ) (batches : List Batch) (shown : ℕ) (writes : List WriteLine) (outs : List Told) (r : ReadLine) (old new : List (List ℕ)) (place : ℕ) (reply : List ℕ) → new ≡ set old place reply → first ≤ r.line → place ≡ r.line - first
-    → reply ≡ read_reply batches shown writes outs r → AnswersOne first batches shown writes outs r old new
-answers_set first batches shown writes outs r old new place reply is low at_line told j x at = ⊎_elim
-    (λ (here, same). inr (omega (arith, here, at_line, low), same ∙ told))
-    (λ before. inl before)
-    (set_got old place j reply x (subst (λ (rs : List (List ℕ)). slice_get rs j ≡ Some x) is at))
-
--- one read more
-pub answers_more : (first : ℕ) (batches : List Batch) (shown : ℕ) (writes : List WriteLine) (outs : List Told) (reads : List ReadLine) (r : ReadLine) (old mid new : List (List ℕ)) (i : ℕ) → slice_get reads i ≡ Some r
-    → AnswersReads first batches shown writes outs reads old mid → AnswersOne first batches shown writes outs r mid new → AnswersReads first batches shown writes outs reads old new
-answers_more first batches shown writes outs reads r old mid new i there all one j x at = ⊎_elim
-    (λ before. all j x before)
-    (λ (line, is). inr (i, r, there, line, is))
-    (one j x at)

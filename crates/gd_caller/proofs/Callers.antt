@@ -1,9 +1,9 @@
 -- The caller's writes, one after another, and those of which some were left out.
-use Rattle.std.proofs.Common.{◌≡◌, refl, ℕ, zero, suc, ◌+◌, ◌<◌, ◌≤◌, ◌⊎◌, inl, inr, ⊎_elim, Bool, List, [], ◌∷◌, ◌++◌, length, Option, Some, None, slice_get, sym, subst, ap, ◌∙◌, arith, append-nil, append_assoc}
+use Rattle.std.proofs.Common.{◌≡◌, refl, ℕ, zero, suc, ◌+◌, ◌⊎◌, inl, inr, ⊎_elim, Bool, List, [], ◌∷◌, ◌++◌, length, Option, Some, None, slice_get, sym, subst, ap, ◌∙◌, append-nil, append_assoc}
 use Rattle.gd_defs.specs.Write.{WriteRequest}
 use Rattle.gd_runs.specs.Legal.{Entry, History, with_entry}
 use Rattle.gd_runs.specs.Explained.{entry_at}
-use Rattle.gd_runs.specs.Core.{State, Settles, Writable}
+use Rattle.gd_runs.specs.Core.{State, Settles}
 use Rattle.gd_runs.specs.Side.{Kept, Told, told_of, WriteLine, IsLeft, IsFresh, WriteKeeps, stores, stores_late, refuses, doubts, leaves_doubt, lacks_memory, lacks_memory_settled}
 use Rattle.gd_runs.proofs.Rounds.{no_some, some_same, get_cases, get_left, get_right, entry_cases}
 use Rattle.gd_core_laws.specs.Writes.{CallerWrites}

@@ -1,5 +1,5 @@
 -- How many replies of a round tell a failure of the disk: no more than there are writes of which that is kept.
-use Rattle.std.proofs.Common.{◌≡◌, ℕ, zero, suc, ◌+◌, ◌<◌, ◌≤◌, ◌==◌, List, [], ◌∷◌, ◌++◌, length, codes, count_by, cond, fold, Bool, true, false, if◌then◌else◌, Option, Some, None, Result, Ok, Err, slice_get, refl, sym, ap, ◌∙◌, ⊎_elim, nat_lt, arith}
+use Rattle.std.proofs.Common.{◌≡◌, ℕ, zero, suc, ◌+◌, ◌<◌, ◌≤◌, ◌==◌, List, [], ◌∷◌, length, codes, count_by, cond, fold, Bool, true, false, if◌then◌else◌, Option, Some, None, Result, Ok, Err, slice_get, refl, sym, ap, ◌∙◌, ⊎_elim, nat_lt, arith}
 use Rattle.gd_prim.specs.declared.Primitive.{Primitive}
 use Rattle.gd_prim.specs.declared.Batch.{Batch}
 use Rattle.gd_prim.specs.History.{prims_at}
@@ -15,7 +15,6 @@ use Rattle.gd_runs.specs.Request.{bad_line, bad_form}
 use Rattle.gd_runs.specs.Input.{InputFault, line_too_long, no_json, no_line, input_fault_line}
 use Rattle.gd_runs.specs.Explained.{tells_fault, fault_count, memory_line}
 use Rattle.gd_runs.specs.Side.{Kept, kept_stored, kept_late, kept_refused, kept_doubt, kept_unsettled, kept_memory, is_fault, Told}
-use Rattle.gd_runs.proofs.Rounds.{no_some, some_same}
 use Rattle.gd_core_laws.specs.Bounds.{kept_of}
 use Rattle.gd_core_laws.specs.Round.{kept_reply}
 use Rattle.gd_core_laws.proofs.Lock.{same_numbers}

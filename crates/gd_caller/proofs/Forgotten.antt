@@ -1,5 +1,5 @@
 -- Refusals that are told as want of memory: the writes are those of the caller still.
-use Rattle.std.proofs.Common.{◌≡◌, refl, ℕ, zero, suc, ◌+◌, ◌<◌, ◌≤◌, ◌⊎◌, inl, inr, ⊎_elim, Bool, List, [], ◌∷◌, ◌++◌, length, Option, Some, None, slice_get, sym, subst, ap, ◌∙◌, arith, append-nil, append_assoc, length-append}
+use Rattle.std.proofs.Common.{◌≡◌, refl, ℕ, zero, suc, inl, inr, ⊎_elim, Bool, List, [], ◌∷◌, ◌++◌, length, Some, slice_get, sym, subst, ap, ◌∙◌, arith, append-nil, append_assoc, length-append}
 use Rattle.gd_defs.specs.Write.{WriteRequest}
 use Rattle.gd_runs.specs.Core.{State}
 use Rattle.gd_runs.specs.Side.{Kept, kept_stored, kept_late, kept_refused, kept_doubt, kept_unsettled, kept_memory, number_of, entry_of, Told, told_of, WriteLine, AreInOrder, IsLeft, WriteKeeps, stores, stores_late, refuses, doubts, leaves_doubt, lacks_memory, lacks_memory_settled}

@@ -1,15 +1,14 @@
 -- Write sides after the writes that are left to the caller.
-use Rattle.std.proofs.Common.{◌≡◌, refl, ℕ, zero, suc, ◌+◌, ◌<◌, ◌≤◌, inl, inr, ⊎_elim, Bool, true, false, cond, List, [], ◌∷◌, ◌++◌, length, map, take, count_by, Option, Some, None, Result, Ok, Err, OnOk, OnErr, IsTrue, slice_get, sym, subst, ap, ◌∙◌, arith, take_all, get_or}
+use Rattle.std.proofs.Common.{◌≡◌, refl, ℕ, zero, suc, ◌+◌, ◌≤◌, inr, ⊎_elim, Bool, true, false, cond, List, [], ◌∷◌, ◌++◌, length, map, take, Option, Some, None, Result, Ok, Err, OnOk, OnErr, IsTrue, slice_get, sym, subst, ap, ◌∙◌, arith, take_all}
 use Rattle.std.proofs.lemmas.List.{map-append}
 use Rattle.std.proofs.lemmas.Grind.{fold-append}
-use Rattle.std.proofs.lemmas.Option.{slice_get-get_or}
 use Rattle.std.specs.Option.{is_some}
 use Rattle.gd_base.specs.Counts.{Rose}
 use Rattle.gd_base.specs.declared.memory.Memory.{Memory}
-use Rattle.gd_bytes.specs.Disk.{LeavesOnly}
 use Rattle.gd_disk.specs.Runs.{leaves_start, leaves_join, leaves_weaken}
-use Rattle.gd_runs.specs.Core.{State, Session}
-use Rattle.gd_runs.specs.Side.{Kept, Told, told_of, WriteLine, IsLeft, IsFresh, is_fault}
+use Rattle.gd_runs.specs.Legal.{batches}
+use Rattle.gd_runs.specs.Core.{Session}
+use Rattle.gd_runs.specs.Side.{Kept, Told, told_of, WriteLine, IsLeft, is_fault}
 use Rattle.gd_runs.proofs.Rounds.{no_some, some_same}
 use Rattle.gd_core_laws.specs.Writes.{CallerWrites}
 use Rattle.gd_core_laws.specs.Bounds.{kept_of}
@@ -17,7 +16,7 @@ use Rattle.gd_writer.specs.Parts.{Tells}
 use Rattle.gd_writer.specs.Side.{SideValue, state_of, KeepsAll, StandsForEither, Writes, GoesOn}
 use Rattle.gd_caller.specs.declared.work.WriteLine.{WriteLine as Written}
 use Rattle.gd_caller.specs.Works.{write_of}
-use Rattle.gd_caller.specs.Served.{LeftAreFresh, StandsAfterSome}
+use Rattle.gd_caller.specs.Served.{LeftAreFresh}
 use Rattle.gd_caller.specs.Writes.{RoseBy, faults_kept, StandsWritten, WritesLeft}
 use Rattle.gd_caller.proofs.Callers.{callers_join, callers_pass, left_stay_fresh}
 use Rattle.gd_caller.proofs.Came.{left_from}
@@ -146,6 +145,10 @@ written_at [] i w at = no_some at
 written_at (x ∷ ws) zero w at = ap (λ (y : Written). Some (write_of y)) (some_same at)
 written_at (x ∷ ws) (suc i) w at = written_at ws i w at
 
--- the element that a loop is at
-pub item_at : (ws : List Written) (i : ℕ) (w : Written) → i < length ws → w ≡ get_or ws i w → slice_get ws i ≡ Some w
-item_at ws i w within is = slice_get-get_or ws i w within ∙ ap Some (sym is)
+-- ---- a side whose outcomes were taken
+
+pub still_shown : {D C : Type 0} (old new : SideValue D C) → new ≡ record old { outcomes = [] } → length new.shown ≡ length old.shown
+still_shown {D = D} {C = C} old new is = ap (λ (s : SideValue D C). length s.shown) is
+
+pub still_batches : {D C : Type 0} (old new : SideValue D C) → new ≡ record old { outcomes = [] } → batches new.history ≡ batches old.history
+still_batches {D = D} {C = C} old new is = ap (λ (s : SideValue D C). batches s.history) is

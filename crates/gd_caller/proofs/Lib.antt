@@ -1,9 +1,15 @@
 pub mod Callers
 pub mod Forgotten
+pub mod ForgottenLock
 pub mod Came
+pub mod JoinedLines
+pub mod JoinedRounds
 pub mod Read
 pub mod Answered
+pub mod Least
+pub mod Sets
+pub mod Joins
 pub mod Left
 pub mod Tells
 pub mod Faults
-pub mod Rounds
+pub mod Lines

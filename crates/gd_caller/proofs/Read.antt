@@ -1,7 +1,6 @@
 -- The lines of a round, read one after another.
-use Rattle.std.proofs.Common.{◌≡◌, refl, ℕ, zero, suc, ◌+◌, ◌<◌, ◌≤◌, ◌⊎◌, inl, inr, ⊎_elim, List, [], ◌∷◌, ◌++◌, length, map, take, Option, Some, None, slice_get, sym, subst, ap, ◌∙◌, arith, append-nil, append_assoc, length-append, take_all, get_or}
+use Rattle.std.proofs.Common.{◌≡◌, refl, ℕ, zero, suc, ◌+◌, ◌<◌, ◌≤◌, inr, ⊎_elim, false, true, List, [], ◌∷◌, ◌++◌, length, map, take, Some, slice_get, sym, subst, ap, ◌∙◌, arith, append-nil, append_assoc, length-append, take_all}
 use Rattle.std.proofs.lemmas.List.{map-append, length-map}
-use Rattle.std.proofs.lemmas.Option.{slice_get-get_or}
 use Rattle.std.specs.List.{AllByRecursion}
 use Rattle.gd_runs.specs.Input.{line_from}
 use Rattle.gd_runs.specs.Explained.{Numbered, memory_line}
@@ -11,17 +10,18 @@ use Rattle.gd_input.specs.declared.line.RoundLine.{RoundLine}
 use Rattle.gd_input.specs.Line.{IsKept}
 use Rattle.gd_input.specs.Rounds.{AreKept}
 use Rattle.gd_core_laws.specs.Round.{one_write, write_lines}
+use Rattle.gd_core_laws.specs.Writes.{RisesBy}
 use Rattle.gd_core_laws.proofs.SideHistory.{only}
 use Rattle.gd_caller.specs.declared.work.ReadLine.{ReadLine}
 use Rattle.gd_caller.specs.declared.work.WriteLine.{WriteLine}
 use Rattle.gd_caller.specs.declared.work.Works.{Works}
-use Rattle.gd_caller.specs.declared.work.Asked.{Asked}
-use Rattle.gd_caller.specs.declared.work.Asked.TheVariants.{Read, Write, Told}
+use Rattle.gd_caller.specs.declared.work.LineNumber.{LineNumber}
 use Rattle.gd_caller.specs.declared.replies.RoundReply.{RoundReply}
 use Rattle.gd_caller.specs.Some.{IsSomeOf}
 use Rattle.gd_caller.specs.Served.{IsFirstReply}
+use Rattle.gd_caller.specs.Told.{no_number}
 use Rattle.gd_caller.specs.Replies.{round_text}
-use Rattle.gd_caller.specs.Works.{texts_of, write_of, IsReadOf, IsAsked, IsAskedAt, Pushes, TakesLine, IsReadWithin, IsWriteWithin, AreWithin, IsReadAmong, AreRead}
+use Rattle.gd_caller.specs.Works.{texts_of, write_of, IsReadOf, IsNoLine, IsReadAsked, IsWriteAsked, Pushes, TakesLine, IsReadWithin, IsWriteWithin, AreApart, AreWithin, IsReadAmong, AreRead}
 use Rattle.gd_caller.proofs.Callers.{some_none, some_append, some_all}
 
 -- all of a list, and of what is appended
@@ -46,6 +46,40 @@ pub all_last : {X : Type 0} (P : X → Type 0) (xs : List X) (y : X) → AllByRe
 all_last P [] y (one, rest) = one
 all_last P (x ∷ xs) y (one, rest) = all_last P xs y rest
 
+-- ---- lists that rise
+
+pub rise_none : {X : Type 0} (f : X → ℕ) → RisesBy f []
+rise_none f i j a b less at_a at_b = no_some at_a
+
+pub rise_one : {X : Type 0} (f : X → ℕ) (x : X) → RisesBy f (x ∷ [])
+rise_one f x i j a b less at_a at_b = let place = (only x j b at_b).0 in absurd (omega (arith, place, less))
+
+rise_append : {X : Type 0} (f : X → ℕ) (xs ys : List X) → RisesBy f xs → RisesBy f ys → ((i j : ℕ) (a b : X) → slice_get xs i ≡ Some a → slice_get ys j ≡ Some b → f a < f b) → RisesBy f (xs ++ ys)
+rise_append f xs ys first more between i j a b less at_a at_b = ⊎_elim
+    (λ front_a. ⊎_elim
+    (λ front_b. first i j a b less front_a front_b)
+    (λ (y, place, end_b). between i y a b front_a end_b)
+    (get_cases xs ys j b at_b))
+    (λ (x, place, end_a). ⊎_elim
+    (λ front_b. let within = get_within xs j b front_b in absurd (omega (arith, within, place, less)))
+    (λ (y, places, end_b). more x y a b (omega (arith, place, places, less)) end_a end_b)
+    (get_cases xs ys j b at_b))
+    (get_cases xs ys i a at_a)
+
+-- no read and write of a line, with those of earlier lines
+apart_append : (k : ℕ) (rs reads : List ReadLine) (ws writes : List WriteLine) → AreApart rs ws → AreApart reads writes → ((x : ℕ) (r : ReadLine) → slice_get rs x ≡ Some r → r.line < k) → ((x : ℕ) (r : ReadLine) → slice_get reads x ≡ Some r → r.line ≡ k)
+    → ((y : ℕ) (w : WriteLine) → slice_get ws y ≡ Some w → w.line < k) → ((y : ℕ) (w : WriteLine) → slice_get writes y ≡ Some w → w.line ≡ k) → AreApart (rs ++ reads) (ws ++ writes)
+apart_append k rs reads ws writes old new rs_less reads_at ws_less writes_at x y r w at_r at_w line = ⊎_elim
+    (λ front_r. ⊎_elim
+    (λ front_w. old x y r w front_r front_w line)
+    (λ (j, place, end_w). let less = rs_less x r front_r in let here = writes_at j w end_w in absurd (omega (arith, less, here, line)))
+    (get_cases ws writes y w at_w))
+    (λ (i, place, end_r). ⊎_elim
+    (λ front_w. let less = ws_less y w front_w in let here = reads_at i r end_r in absurd (omega (arith, less, here, line)))
+    (λ (j, places, end_w). new i j r w end_r end_w line)
+    (get_cases ws writes y w at_w))
+    (get_cases rs reads x r at_r)
+
 -- ---- one line
 
 pub takes_read : (k : ℕ) (bytes : List ℕ) (old new : Works) (r : ReadLine) → IsReadOf k bytes r → Pushes old new (r ∷ []) [] (memory_line r.line) → TakesLine k bytes old new
@@ -57,6 +91,7 @@ takes_read k bytes old new r asks p = record {
   writes = [];
   written = ap (map write_of) (p.writes_are ∙ append-nil old.writes.items) ∙ sym (append-nil (map write_of old.writes.items));
   some = some_none (one_write k (length bytes) (line_from bytes));
+  is_whole = λ whole. (sym p.same_whole ∙ whole, sym (ap (one_write k (length bytes)) asks.1));
   reads = r ∷ [];
   asked = p.reads_are;
   each = (asks, tt);
@@ -71,13 +106,14 @@ takes_write k bytes old new w line asks p = record {
   writes = write_of w ∷ [];
   written = ap (map write_of) p.writes_are ∙ map-append write_of old.writes.items (w ∷ []);
   some = subst (λ (ls : List side.WriteLine). IsSomeOf (write_of w ∷ []) ls) (sym asks) (some_all (write_of w ∷ []));
+  is_whole = λ whole. (sym p.same_whole ∙ whole, sym asks);
   reads = [];
   asked = p.reads_are;
   each = tt;
 }
 
-pub takes_told : (k : ℕ) (bytes : List ℕ) (old new : Works) (reply : RoundReply) → IsFirstReply k bytes (round_text reply) → Pushes old new [] [] (round_text reply) → TakesLine k bytes old new
-takes_told k bytes old new reply first p = record {
+pub takes_told : (k : ℕ) (bytes : List ℕ) (old new : Works) (reply : RoundReply) → IsNoLine bytes → IsFirstReply k bytes (round_text reply) → Pushes old new [] [] (round_text reply) → TakesLine k bytes old new
+takes_told k bytes old new reply (f, none) first p = record {
   numbers = p.numbers;
   reply = round_text reply;
   replies = p.replies;
@@ -85,15 +121,38 @@ takes_told k bytes old new reply first p = record {
   writes = [];
   written = ap (map write_of) (p.writes_are ∙ append-nil old.writes.items) ∙ sym (append-nil (map write_of old.writes.items));
   some = some_none (one_write k (length bytes) (line_from bytes));
+  is_whole = λ whole. (sym p.same_whole ∙ whole, sym (ap (one_write k (length bytes)) none));
   reads = [];
   asked = p.reads_are;
   each = tt;
 }
 
-pub within_more : (first k : ℕ) (old new : Works) (reads : List ReadLine) (writes : List WriteLine) (reply : List ℕ) → first ≤ k → AllByRecursion (λ (r : ReadLine). r.line ≡ k) reads → AllByRecursion (λ (w : WriteLine). (w.line ≡ k) × (w.bytes ≤ 262_144)) writes
-    → Pushes old new reads writes reply → AreWithin first k old → AreWithin first (k + 1) new
-within_more first k old new reads writes reply above reads_at writes_at p w =
-    let many = length-append old.numbers.items (None ∷ []) in
+-- the lines are not whole any more
+abbrev pub not_whole : Works → Works
+not_whole works = record works { whole = false }
+
+pub takes_unread : (k : ℕ) (bytes : List ℕ) (old new : Works) (line : ℕ) → line ≡ k → Pushes (not_whole old) new [] [] (memory_line line) → TakesLine k bytes old new
+takes_unread k bytes old new line at p = record {
+  numbers = p.numbers;
+  reply = memory_line line;
+  replies = p.replies;
+  first = inr (ap memory_line at);
+  writes = [];
+  written = ap (map write_of) (p.writes_are ∙ append-nil old.writes.items) ∙ sym (append-nil (map write_of old.writes.items));
+  some = some_none (one_write k (length bytes) (line_from bytes));
+  is_whole = λ whole. absurd (apart (sym p.same_whole ∙ whole));
+  reads = [];
+  asked = p.reads_are;
+  each = tt;
+}
+  where
+    apart : false ≡ true → ⊥
+    apart q = cc
+
+pub within_more : (first k : ℕ) (old new : Works) (reads : List ReadLine) (writes : List WriteLine) (reply : List ℕ) → first ≤ k → AllByRecursion (IsReadAsked k) reads → AllByRecursion (IsWriteAsked k) writes
+    → RisesBy (λ (r : ReadLine). r.line) reads → RisesBy (λ (w : WriteLine). w.line) writes → AreApart reads writes → Pushes old new reads writes reply → AreWithin first k old → AreWithin first (k + 1) new
+within_more first k old new reads writes reply above reads_at writes_at reads_rise writes_rise apart p w =
+    let many = length-append old.numbers.items (no_number ∷ []) in
     let long = ap length p.numbers in
     let count = length-append (map round_text old.replies.items) (reply ∷ []) in
     let texts = ap length p.replies in
@@ -103,21 +162,48 @@ within_more first k old new reads writes reply above reads_at writes_at p w =
     let had = w.replies in
     record {
       reads = subst (AllByRecursion (IsReadWithin first (k + 1))) (sym p.reads_are) (all_append (IsReadWithin first (k + 1)) old.reads.items reads
-          (all_weaker (IsReadWithin first k) (IsReadWithin first (k + 1)) old.reads.items (λ r is. let low = is.0 in let high = is.1 in (omega (arith, low), omega (arith, high))) w.reads)
-          (all_weaker (λ (r : ReadLine). r.line ≡ k) (IsReadWithin first (k + 1)) reads (λ r is. (omega (arith, is, above), omega (arith, is))) reads_at));
+          (all_weaker (IsReadWithin first k) (IsReadWithin first (k + 1)) old.reads.items (λ r is. let low = is.0 in let high = is.1 in (low, omega (arith, high), is.2)) w.reads)
+          (all_weaker (IsReadAsked k) (IsReadWithin first (k + 1)) reads (λ r is. let at = is.0 in (omega (arith, at, above), omega (arith, at), is.1)) reads_at));
       writes = subst (AllByRecursion (IsWriteWithin first (k + 1))) (sym p.writes_are) (all_append (IsWriteWithin first (k + 1)) old.writes.items writes
           (all_weaker (IsWriteWithin first k) (IsWriteWithin first (k + 1)) old.writes.items (λ x is. let low = is.0 in let high = is.1 in (low, omega (arith, high), is.2)) w.writes)
-          (all_weaker (λ (x : WriteLine). (x.line ≡ k) × (x.bytes ≤ 262_144)) (IsWriteWithin first (k + 1)) writes (λ x is. let at = is.0 in (omega (arith, at, above), omega (arith, at), is.1)) writes_at));
+          (all_weaker (IsWriteAsked k) (IsWriteWithin first (k + 1)) writes (λ x is. let at = is.0 in (omega (arith, at, above), omega (arith, at), is.1)) writes_at));
       numbers = omega (arith, long, many, was);
       replies = omega (arith, texts, count, before, after, had);
-      none = subst (AllByRecursion (λ (n : Option ℕ). n ≡ None)) (sym p.numbers) (all_append (λ (n : Option ℕ). n ≡ None) old.numbers.items (None ∷ []) w.none (refl, tt));
+      none = subst (AllByRecursion (λ (n : LineNumber). n ≡ no_number)) (sym p.numbers) (all_append (λ (n : LineNumber). n ≡ no_number) old.numbers.items (no_number ∷ []) w.none (refl, tt));
+      reads_rise = subst (RisesBy (λ (r : ReadLine). r.line)) (sym p.reads_are) (rise_append (λ (r : ReadLine). r.line) old.reads.items reads w.reads_rise reads_rise
+          (λ i j a b at_a at_b. let less = read_less i a at_a in let here = read_here j b at_b in omega (arith, less, here)));
+      writes_rise = subst (RisesBy (λ (x : WriteLine). x.line)) (sym p.writes_are) (rise_append (λ (x : WriteLine). x.line) old.writes.items writes w.writes_rise writes_rise
+          (λ i j a b at_a at_b. let less = write_less i a at_a in let here = write_here j b at_b in omega (arith, less, here)));
+      apart = subst (λ (rs : List ReadLine). AreApart rs new.writes.items) (sym p.reads_are) (subst (AreApart (old.reads.items ++ reads)) (sym p.writes_are)
+          (apart_append k old.reads.items reads old.writes.items writes w.apart apart read_less read_here write_less write_here));
     }
+  where
+    read_less : (x : ℕ) (r : ReadLine) → slice_get old.reads.items x ≡ Some r → r.line < k
+    read_less x r at = (all_at (IsReadWithin first k) old.reads.items x r w.reads at).1
+
+    read_here : (x : ℕ) (r : ReadLine) → slice_get reads x ≡ Some r → r.line ≡ k
+    read_here x r at = (all_at (IsReadAsked k) reads x r reads_at at).0
+
+    write_less : (y : ℕ) (v : WriteLine) → slice_get old.writes.items y ≡ Some v → v.line < k
+    write_less y v at = (all_at (IsWriteWithin first k) old.writes.items y v w.writes at).1
+
+    write_here : (y : ℕ) (v : WriteLine) → slice_get writes y ≡ Some v → v.line ≡ k
+    write_here y v at = (all_at (IsWriteAsked k) writes y v writes_at at).0
+
+pub within_read : (first k : ℕ) (old new : Works) (r : ReadLine) (reply : List ℕ) → first ≤ k → IsReadAsked k r → Pushes old new (r ∷ []) [] reply → AreWithin first k old → AreWithin first (k + 1) new
+within_read first k old new r reply above at p w = within_more first k old new (r ∷ []) [] reply above (at, tt) tt (rise_one (λ (q : ReadLine). q.line) r) (rise_none (λ (v : WriteLine). v.line)) (λ x y q v at_q at_v line. no_some at_v) p w
+
+pub within_write : (first k : ℕ) (old new : Works) (v : WriteLine) (reply : List ℕ) → first ≤ k → IsWriteAsked k v → Pushes old new [] (v ∷ []) reply → AreWithin first k old → AreWithin first (k + 1) new
+within_write first k old new v reply above at p w = within_more first k old new [] (v ∷ []) reply above tt (at, tt) (rise_none (λ (q : ReadLine). q.line)) (rise_one (λ (x : WriteLine). x.line) v) (λ x y q u at_q at_u line. no_some at_q) p w
+
+pub within_told : (first k : ℕ) (old new : Works) (reply : List ℕ) → first ≤ k → Pushes old new [] [] reply → AreWithin first k old → AreWithin first (k + 1) new
+within_told first k old new reply above p w = within_more first k old new [] [] reply above tt tt (rise_none (λ (q : ReadLine). q.line)) (rise_none (λ (v : WriteLine). v.line)) (λ x y q v at_q at_v line. no_some at_q) p w
+
+pub within_unread : (first k : ℕ) (old new : Works) (reply : List ℕ) → first ≤ k → Pushes (not_whole old) new [] [] reply → AreWithin first k old → AreWithin first (k + 1) new
+within_unread first k old new reply above p w = within_told first k (not_whole old) new reply above p
+    (record { reads = w.reads; writes = w.writes; numbers = w.numbers; replies = w.replies; none = w.none; reads_rise = w.reads_rise; writes_rise = w.writes_rise; apart = w.apart })
 
 -- ---- all lines
-
--- the element that a loop is at
-pub item_is : (ls : List RoundLine) (i : ℕ) (l : RoundLine) → i < length ls → l ≡ get_or ls i l → slice_get ls i ≡ Some l
-item_is ls i l within is = slice_get-get_or ls i l within ∙ ap Some (sym is)
 
 -- one line, as it is numbered
 record At (text : RoundLine) (given : List Numbered) (i : ℕ) : Type 0 where
@@ -152,11 +238,12 @@ count_is ls given kept = same_count ls given kept
 -- no line was read yet
 pub none_read : (first : ℕ) (given : List Numbered) (works : Works) → works.reads.items ≡ [] → works.writes.items ≡ [] → works.numbers.items ≡ [] → works.replies.items ≡ [] → AreRead first (take 0 given) works
 none_read first given works reads writes numbers replies = record {
-  numbers = λ j n is. no_some (subst (λ (xs : List (Option ℕ)). slice_get xs j ≡ Some n) numbers is);
+  numbers = λ j n is. no_some (subst (λ (xs : List LineNumber). slice_get xs j ≡ Some n) numbers is);
   many = ap length numbers;
   replies = λ j l reply there is. no_some there;
   count = ap (λ (xs : List RoundReply). length (map round_text xs)) replies;
   writes = ap (map write_of) writes;
+  whole = λ whole. ap (map write_of) writes;
   reads = subst (AllByRecursion (IsReadAmong first [])) (sym reads) tt;
 }
 
@@ -169,7 +256,10 @@ none_within first works reads writes numbers replies =
       writes = subst (AllByRecursion (IsWriteWithin first first)) (sym writes) tt;
       numbers = omega (arith, no_numbers);
       replies = omega (arith, no_replies);
-      none = subst (AllByRecursion (λ (n : Option ℕ). n ≡ None)) (sym numbers) tt;
+      none = subst (AllByRecursion (λ (n : LineNumber). n ≡ no_number)) (sym numbers) tt;
+      reads_rise = subst (RisesBy (λ (r : ReadLine). r.line)) (sym reads) (rise_none (λ (r : ReadLine). r.line));
+      writes_rise = subst (RisesBy (λ (w : WriteLine). w.line)) (sym writes) (rise_none (λ (w : WriteLine). w.line));
+      apart = λ x y r w at_r at_w line. no_some (subst (λ (rs : List ReadLine). slice_get rs x ≡ Some r) reads at_r);
     }
 
 write_lines-append : (k : ℕ) (xs ys : List Numbered) → write_lines k (xs ++ ys) ≡ write_lines k xs ++ write_lines (k + length xs) ys
@@ -188,17 +278,19 @@ length-take-at (n ∷ ns) (suc i) l at = ap suc (length-take-at ns i l at)
 more_read : (first : ℕ) (before : List Numbered) (l : Numbered) (old new : Works) → AreRead first before old → TakesLine (first + length before) l.bytes old new → AreRead first (before ++ l ∷ []) new
 more_read first before l old new r t =
     let end = length-append before (l ∷ []) in
-    let many = length-append old.numbers.items (None ∷ []) in
+    let many = length-append old.numbers.items (no_number ∷ []) in
     let long = ap length t.numbers in
     let count = length-append (map round_text old.replies.items) (t.reply ∷ []) in
     let texts = ap length t.replies in
     let was = r.many in
     let had = r.count in
+    let one = one_write (first + length before) (length l.bytes) (line_from l.bytes) in
+    let lines = write_lines-append first before (l ∷ []) ∙ ap (λ (ls : List side.WriteLine). write_lines first before ++ ls) (append-nil one) in
     record {
       numbers = λ j n is. ⊎_elim
           (λ earlier. r.numbers j n earlier)
-          (λ (i, place, this). (only None i n this).1)
-          (get_cases old.numbers.items (None ∷ []) j n (subst (λ (xs : List (Option ℕ)). slice_get xs j ≡ Some n) t.numbers is));
+          (λ (i, place, this). (only no_number i n this).1)
+          (get_cases old.numbers.items (no_number ∷ []) j n (subst (λ (xs : List LineNumber). slice_get xs j ≡ Some n) t.numbers is));
       many = omega (arith, long, many, was, end);
       replies = λ j m reply there is. ⊎_elim
           (λ earlier. ⊎_elim
@@ -215,9 +307,12 @@ more_read first before l old new r t =
           (get_cases (map round_text old.replies.items) (t.reply ∷ []) j reply (subst (λ (xs : List (List ℕ)). slice_get xs j ≡ Some reply) t.replies is)))
           (get_cases before (l ∷ []) j m there);
       count = omega (arith, texts, count, had, end);
-      writes = subst (λ (ls : List side.WriteLine). IsSomeOf (map write_of new.writes.items) ls) (sym (write_lines-append first before (l ∷ []) ∙ ap (λ (ls : List side.WriteLine). write_lines first before ++ ls) (append-nil (one_write (first + length before) (length l.bytes) (line_from l.bytes)))))
+      writes = subst (λ (ls : List side.WriteLine). IsSomeOf (map write_of new.writes.items) ls) (sym lines)
           (subst (λ (ls : List side.WriteLine). IsSomeOf ls (write_lines first before ++ one_write (first + length before) (length l.bytes) (line_from l.bytes))) (sym t.written)
           (some_append (map write_of old.writes.items) (write_lines first before) t.writes (one_write (first + length before) (length l.bytes) (line_from l.bytes)) r.writes t.some));
+      whole = λ whole.
+          let (before_whole, all) = t.is_whole whole in
+          t.written ∙ ap (λ (ls : List side.WriteLine). ls ++ t.writes) (r.whole before_whole) ∙ ap (λ (ls : List side.WriteLine). write_lines first before ++ ls) all ∙ sym lines;
       reads = subst (AllByRecursion (IsReadAmong first (before ++ l ∷ []))) (sym t.asked) (all_append (IsReadAmong first (before ++ l ∷ [])) old.reads.items t.reads
           (all_weaker (IsReadAmong first before) (IsReadAmong first (before ++ l ∷ [])) old.reads.items (λ x among. record { place = among.place; line = among.line; there = get_left before (l ∷ []) among.place among.line among.there; asks = among.asks }) r.reads)
           (all_weaker (IsReadOf (first + length before) l.bytes) (IsReadAmong first (before ++ l ∷ [])) t.reads (λ x asks. record { place = length before; line = l; there = subst (λ (n : ℕ). slice_get (before ++ l ∷ []) n ≡ Some l) (omega arith) (get_right before (l ∷ []) 0 l refl); asks = asks }) t.each));

@@ -4,6 +4,8 @@ pub mod Served
 pub mod Replies
 pub mod Works
 pub mod Reads
+pub mod Fits
 pub mod Writes
 pub mod Tells
-pub mod Round
+pub mod Worked
+pub mod Joined

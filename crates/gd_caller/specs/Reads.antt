@@ -1,22 +1,38 @@
--- What answering reads does to the replies of a round.
-use Rattle.std.specs.Prelude.{◌≡◌, ◌⊎◌, ℕ, ◌+◌, List, Some, slice_get}
+-- What answering the reads of a round does to its replies.
+use Rattle.std.specs.Prelude.{◌≡◌, ◌⊎◌, ◌≤◌, ℕ, ◌-◌, List, map, Option, Some, slice_get, slice_set}
 use Rattle.gd_prim.specs.declared.Batch.{Batch}
 use Rattle.gd_runs.specs.Request.{reply_of}
 use Rattle.gd_runs.specs.Side.{Told, WriteLine}
 use Rattle.gd_mql.specs.Requests.{read_view}
 use Rattle.gd_core_laws.specs.Bounds.{least_later}
 use Rattle.gd_caller.specs.declared.work.ReadLine.{ReadLine}
+use Rattle.gd_caller.specs.declared.work.WriteLine.{WriteLine as Written}
+use Rattle.gd_caller.specs.declared.worked.Worked.{Worked}
+use Rattle.gd_caller.specs.Works.{write_of}
+use Rattle.gd_caller.specs.Fits.{FollowsWrites}
 
 -- the reply to a read over batches, so many of which are shown, at the greatest number that fits it
 abbrev pub read_reply : List Batch → ℕ → List WriteLine → List Told → ReadLine → List ℕ
 read_reply batches shown writes outs r = reply_of batches (least_later writes outs r.line r.session shown) r.line (read_view r.request)
 
--- each reply is an old one, or the reply to this read at its line
-abbrev pub AnswersOne : ℕ → List Batch → ℕ → List WriteLine → List Told → ReadLine → List (List ℕ) → List (List ℕ) → Type 0
-AnswersOne first batches shown writes outs r old new = (j : ℕ) (reply : List ℕ) → slice_get new j ≡ Some reply
-    → (slice_get old j ≡ Some reply) ⊎ ((r.line ≡ first + j) × (reply ≡ read_reply batches shown writes outs r))
+-- What a worker kept fits a read: its number is not below the floor of its session, and has what the session's writes before it told, and is not above the number of any behind it.
+pub record FitsRead (shown : ℕ) (writes : List Written) (outs : List Told) (r : ReadLine) (floor : ℕ) (w : Worked) : Type 0 where
+  pub above : floor ≤ w.at
+  pub later : w.at ≤ least_later (map write_of writes) outs r.line r.session shown
+  pub follows : FollowsWrites outs r w.at writes
 
--- each reply is an old one, or the reply to one of these reads at its line
-abbrev pub AnswersReads : ℕ → List Batch → ℕ → List WriteLine → List Told → List ReadLine → List (List ℕ) → List (List ℕ) → Type 0
-AnswersReads first batches shown writes outs reads old new = (j : ℕ) (reply : List ℕ) → slice_get new j ≡ Some reply
-    → (slice_get old j ≡ Some reply) ⊎ ((i : ℕ) × (r : ReadLine) × (slice_get reads i ≡ Some r) × (r.line ≡ first + j) × (reply ≡ read_reply batches shown writes outs r))
+-- the reply to a read, and its number: that of the caller at the greatest number that fits, or what a worker kept of it that fits
+abbrev pub IsAnswer : List Batch → ℕ → List Written → List Told → ReadLine → Option Worked → ℕ → ℕ → List ℕ → Type 0
+IsAnswer batches shown writes outs r worked floor at reply = ((at ≡ least_later (map write_of writes) outs r.line r.session shown) × (reply ≡ read_reply batches shown (map write_of writes) outs r))
+    ⊎ ((w : Worked) × (worked ≡ Some w) × (at ≡ w.at) × (reply ≡ w.reply.items) × FitsRead shown writes outs r floor w)
+
+-- A read was answered in place of its first reply, or stays as it is for want of memory: the floor of its session is not below what it was, nor below the number of the reply.
+pub record AnswersOne (first : ℕ) (batches : List Batch) (shown : ℕ) (writes : List Written) (outs : List Told) (r : ReadLine) (worked : Option Worked) (floors floors_now : List ℕ) (texts texts_now : List (List ℕ)) : Type 0 where
+  pub floor : ℕ
+  pub there : slice_get floors r.session ≡ Some floor
+  pub at : ℕ
+  pub next : ℕ
+  pub floors_are : floors_now ≡ slice_set floors r.session next
+  pub above_floor : floor ≤ next
+  pub above_at : at ≤ next
+  pub replies : (texts_now ≡ texts) ⊎ ((reply : List ℕ) × (texts_now ≡ slice_set texts (r.line - first) reply) × IsAnswer batches shown writes outs r worked floor at reply)

@@ -1,5 +1,5 @@
 -- The replies to the lines of a round.
-use Rattle.std.specs.Prelude.{◌≡◌, ℕ, zero, suc, ◌+◌, ◌-◌, List, [], ◌∷◌, map, Result, Ok, Err}
+use Rattle.std.specs.Prelude.{ℕ, zero, suc, ◌+◌, ◌-◌, List, [], ◌∷◌, map, Result, Ok, Err}
 use Rattle.std.specs.Global.{Vec}
 use Rattle.gd_base.specs.declared.memory.Memory.{Memory}
 use Rattle.gd_runs.specs.Explained.{memory_line, late_line}

@@ -1,10 +1,11 @@
 //! What the caller of a round does: it answers the lines of a round that nobody has answered yet.
 #![tactic(auto)]
 
+pub mod joined;
 pub mod numbers;
 pub mod reads;
 pub mod replies;
-pub mod round;
 mod told;
 pub mod work;
+pub mod worked;
 pub mod writes;

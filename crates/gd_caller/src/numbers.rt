@@ -1,33 +1,33 @@
-//! The greatest number that fits a read.
-ghost use Rattle.std.specs.Prelude.{◌≡◌, ◌≤◌, ◌<◌, ◌+◌, List, length, map, option_and_then};
+//! The numbers that fit a read.
+ghost use Rattle.std.specs.Prelude.{◌≡◌, ◌≤◌, ◌<◌, ◌+◌, List, length, map, IsTrue};
 ghost use Rattle.std.specs.List.{AllByRecursion};
-ghost use Rattle.gd_runs.specs.Side.{Told, number_of};
+ghost use Rattle.gd_runs.specs.Side.{Told};
 ghost use Rattle.gd_core_laws.specs.Bounds as bounds;
 ghost use Rattle.gd_core_laws.specs.Bounds.{kept_of};
-ghost use Rattle.gd_caller.specs.Told.{AreNumbers};
+ghost use Rattle.gd_caller.specs.Told.{AreNumbers, IsNumber};
 ghost use Rattle.gd_caller.specs.Works.{write_of, IsWriteWithin};
+ghost use Rattle.gd_caller.specs.Fits.{FollowsWrite, FollowsWrites};
 
-use crate::work::{ReadLine, WriteLine};
+use crate::work::{LineNumber, ReadLine, WriteLine};
 use gd_store::store::Store;
 
 /// What stands when the reads of a round are answered: the working store, how much of it is shown, and the write lines of
-/// the round with the number of each line, the first of them line `first`.
+/// the round with the numbers of each line, the first of them line `first`.
 #[derive(Clone, Copy)]
 pub struct Standing<'a> {
     pub store: &'a Store,
     pub shown: u32,
     pub first: u64,
     pub writes: &'a [WriteLine],
-    pub numbers: &'a [Option<u32>],
+    pub numbers: &'a [LineNumber],
 }
 
 impl<'a> Standing<'a> {
-    /// The number of what a line came to.
-    fn number(&self, line: u64) -> Option<u32>
+    /// What a line came to, by numbers.
+    fn number(&self, line: u64) -> LineNumber
         requires low { self.now.first ≤ line }
         requires high { line < self.now.first + length self.now.numbers.now }
-        ensures { (outs : List Told) → AreNumbers self.now.first outs self.now.numbers.now
-            → result ≡ option_and_then number_of (kept_of outs line) }
+        ensures { (outs : List Told) → AreNumbers self.now.first outs self.now.numbers.now → IsNumber (kept_of outs line) result }
     {
         self.numbers[(line - self.first) as usize]
     }
@@ -40,7 +40,7 @@ impl<'a> Standing<'a> {
             → result ≡ bounds.later_number outs read.now.line read.now.session self.now.shown (write_of write.now) }
     {
         if read.line < write.line && write.session == read.session {
-            return self.number(write.line).unwrap_or(self.shown);
+            return self.number(write.line).number.unwrap_or(self.shown);
         }
         self.shown
     }
@@ -58,5 +58,39 @@ impl<'a> Standing<'a> {
             least = least.min(self.later_number(read, write));
         }
         least
+    }
+
+    /// Whether a number has all that a write line told a read: it is greater than its entry, where it is one of the read's
+    /// session before it that was stored and is shown.
+    fn follows(&self, read: &ReadLine, write: &WriteLine, at: u32) -> bool
+        requires within { IsWriteWithin self.now.first (self.now.first + length self.now.numbers.now) write.now }
+        ensures { (outs : List Told) → AreNumbers self.now.first outs self.now.numbers.now
+            → IsTrue result → FollowsWrite outs read.now at write.now }
+    {
+        if read.line <= write.line || write.session != read.session {
+            return true;
+        }
+        match self.number(write.line).entry {
+            Some(entry) => entry < at,
+            None => true,
+        }
+    }
+
+    /// Whether a number fits a read: it has all that the write lines of its session before it told, and is not above the
+    /// number of any behind it.
+    pub fn fits(&self, read: &ReadLine, at: u32) -> bool
+        requires within { AllByRecursion (IsWriteWithin self.now.first (self.now.first + length self.now.numbers.now)) self.now.writes.now }
+        requires shown { at ≤ self.now.shown }
+        ensures later { (outs : List Told) → AreNumbers self.now.first outs self.now.numbers.now
+            → IsTrue result → at ≤ bounds.least_later (map write_of self.now.writes.now) outs read.now.line read.now.session self.now.shown }
+        ensures follows { (outs : List Told) → AreNumbers self.now.first outs self.now.numbers.now
+            → IsTrue result → FollowsWrites outs read.now at self.now.writes.now }
+    {
+        for write in self.writes {
+            if self.later_number(read, write) < at || !self.follows(read, write, at) {
+                return false;
+            }
+        }
+        true
     }
 }

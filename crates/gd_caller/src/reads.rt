@@ -1,6 +1,7 @@
-//! The reads that are left to the caller.
-ghost use Rattle.std.specs.Prelude.{◌≡◌, ◌≤◌, ◌<◌, ◌+◌, ◌^◌, List, length, map, vec_len, slice_set, IfOk};
+//! The reads of a round.
+ghost use Rattle.std.specs.Prelude.{◌≡◌, ◌⊎◌, ◌≤◌, ◌<◌, ◌+◌, ◌-◌, ◌^◌, List, Some, None, length, map, slice_get, slice_set, IfOk, IfSome};
 ghost use Rattle.std.specs.List.{AllByRecursion};
+ghost use Rattle.gd_core_laws.specs.Writes.{RisesBy};
 ghost use Rattle.gd_runs.specs.Core as core;
 ghost use Rattle.gd_runs.specs.Request.{reply_of};
 ghost use Rattle.gd_runs.specs.Side.{Told};
@@ -8,12 +9,15 @@ ghost use Rattle.gd_mql.specs.Requests.{read_view};
 ghost use Rattle.gd_suspended.specs.Reading.{reading_view, IsGoing};
 ghost use Rattle.gd_caller.specs.Replies.{round_text};
 ghost use Rattle.gd_caller.specs.Told.{AreNumbers};
-ghost use Rattle.gd_caller.specs.Works.{write_of, IsWriteWithin, IsReadWithin};
-ghost use Rattle.gd_caller.specs.Reads.{AnswersReads, AnswersOne};
+ghost use Rattle.gd_caller.specs.Works.{write_of, IsWriteWithin, IsReadWithin, AreApart};
+ghost use Rattle.gd_caller.specs.Worked.{AreWorked};
+ghost use Rattle.gd_caller.specs.Joined.{IsOfWrites, AnswersReads};
+ghost use Rattle.gd_caller.specs.Reads.{FitsRead, AnswersOne};
 
 use crate::numbers::Standing;
 use crate::replies::RoundReply;
 use crate::work::ReadLine;
+use crate::worked::Worked;
 use gd_base::memory::Memory;
 use gd_base::steps::Steps;
 use gd_mql::request::ReadRequest;
@@ -21,6 +25,9 @@ use gd_store::store::Store;
 use gd_store::view::View;
 use gd_suspended::reading::{Progress, Reading};
 use std::alloc::Global;
+
+/// How many sessions there are.
+const SESSIONS: usize = 64;
 
 /// The reply line of a reading, whose slices have this budget.
 fn line_of<L>(
@@ -80,11 +87,70 @@ pub(crate) fn put(replies: &mut Vec<RoundReply>, at: usize, reply: RoundReply)
     replies[at] = reply;
 }
 
-/// Answers a read at the greatest number that fits it. Where there is no memory for that, its reply stays.
+/// Takes what is kept of a place, if something is.
+fn take_kept(worked: &mut Vec<Option<Worked>>, place: usize) -> Option<Worked>
+    ensures taken { IfSome result (λ w. slice_get worked.old.items place ≡ Some (Some w)) }
+    ensures left { worked.new.items ≡ slice_set worked.old.items place None }
+{
+    match worked.get_mut(place) {
+        Some(kept) => kept.take(),
+        None => None,
+    }
+}
+
+/// What a worker kept of a read, if its number fits the read, and is not below the floor of its session.
+fn fitting(
+    standing: &Standing<'_>,
+    read: &ReadLine,
+    floor: u32,
+    worked: Option<Worked>,
+) -> Option<Worked>
+    requires writes { AllByRecursion (IsWriteWithin standing.now.first (standing.now.first + length standing.now.numbers.now)) standing.now.writes.now }
+    requires shown { IfSome worked (λ w. w.at ≤ standing.now.shown) }
+    ensures same { IfSome result (λ w. worked ≡ Some w) }
+    ensures fits { (outs : List Told) → AreNumbers standing.now.first outs standing.now.numbers.now
+        → IfSome result (λ w. FitsRead standing.now.shown standing.now.writes.now outs read.now floor w) }
+{
+    match worked {
+        Some(worked) if floor <= worked.at && standing.fits(read, worked.at) => Some(worked),
+        _ => None,
+    }
+}
+
+/// Answers a read at a number. Where there is no memory for that, its reply stays.
+fn answer_at<L>(
+    alloc: Global,
+    standing: &Standing<'_>,
+    read: ReadLine,
+    at: u32,
+    budget: u64,
+    replies: &mut Vec<RoundReply>,
+    steps: &mut Steps<L>,
+)
+    requires there { at ≤ length standing.now.store.now }
+    requires read { IsReadWithin standing.now.first (standing.now.first + length replies.old.items) read }
+    requires lines { standing.now.first + length replies.old.items < 2 ^ 63 }
+    requires budget { 0 < budget }
+    ensures replies { (map round_text replies.new.items ≡ map round_text replies.old.items)
+        ⊎ (map round_text replies.new.items ≡ slice_set (map round_text replies.old.items) (read.line - standing.now.first) (reply_of standing.now.store.now at read.line (read_view read.request))) }
+    ensures count { length replies.new.items ≡ length replies.old.items }
+{
+    let place = (read.line - standing.first) as usize;
+    let line = read.line;
+    match reply_at(alloc, standing.store, at, line, read.request, budget, steps) {
+        Ok(bytes) => put(replies, place, RoundReply::Line(bytes)),
+        Err(_) => (),
+    }
+}
+
+/// Answers a read by what a worker kept of it, if that fits, and else at the greatest number that fits it. From then on
+/// the floor of its session is not below that number.
 fn answer_read<L>(
     alloc: Global,
     standing: &Standing<'_>,
     read: ReadLine,
+    worked: Option<Worked>,
+    floors: &mut [u32],
     budget: u64,
     replies: &mut Vec<RoundReply>,
     steps: &mut Steps<L>,
@@ -92,39 +158,41 @@ fn answer_read<L>(
     requires shown { standing.now.shown ≤ length standing.now.store.now }
     requires writes { AllByRecursion (IsWriteWithin standing.now.first (standing.now.first + length standing.now.numbers.now)) standing.now.writes.now }
     requires read { IsReadWithin standing.now.first (standing.now.first + length replies.old.items) read }
+    requires worked { IfSome worked (λ w. w.at ≤ standing.now.shown) }
+    requires floors { length floors.old ≡ 64 }
     requires lines { standing.now.first + length replies.old.items < 2 ^ 63 }
     requires budget { 0 < budget }
     ensures answers { (outs : List Told) → AreNumbers standing.now.first outs standing.now.numbers.now
-        → AnswersOne standing.now.first standing.now.store.now standing.now.shown (map write_of standing.now.writes.now) outs read
+        → AnswersOne standing.now.first standing.now.store.now standing.now.shown standing.now.writes.now outs read worked floors.old floors.new
         (map round_text replies.old.items) (map round_text replies.new.items) }
+    ensures floors { length floors.new ≡ 64 }
     ensures count { length replies.new.items ≡ length replies.old.items }
 {
-    let number = standing.least_later(&read);
-    let line = read.line;
-    match reply_at(
-        alloc,
-        standing.store,
-        number,
-        line,
-        read.request,
-        budget,
-        steps,
-    ) {
-        Ok(bytes) => put(
-            replies,
-            (line - standing.first) as usize,
-            RoundReply::Line(bytes),
-        ),
-        Err(_) => (),
+    let session = read.session as usize;
+    let floor = floors[session];
+    match fitting(standing, &read, floor, worked) {
+        Some(kept) => {
+            floors[session] = kept.at;
+            let place = (read.line - standing.first) as usize;
+            put(replies, place, RoundReply::Line(kept.reply));
+        }
+        None => {
+            let at = standing.least_later(&read);
+            floors[session] = floor.max(at);
+            answer_at(alloc, standing, read, at, budget, replies, steps);
+        }
     }
 }
 
-/// Answers reads, each at the greatest number that fits it, the last of them first. Where there is no memory for one, its
-/// reply stays.
-pub fn answer_reads<L>(
+/// Answers reads in the order of their lines, each by what a worker kept of it, if that fits, and else at the greatest
+/// number that fits it. Where there is no memory for one, its reply stays. No number is below `begun`, how much was shown
+/// when the round began.
+pub(crate) fn answer_reads<L>(
     alloc: Global,
     standing: &Standing<'_>,
+    begun: u32,
     mut reads: Vec<ReadLine>,
+    mut worked: Vec<Option<Worked>>,
     budget: u64,
     replies: &mut Vec<RoundReply>,
     steps: &mut Steps<L>,
@@ -132,14 +200,29 @@ pub fn answer_reads<L>(
     requires shown { standing.now.shown ≤ length standing.now.store.now }
     requires writes { AllByRecursion (IsWriteWithin standing.now.first (standing.now.first + length standing.now.numbers.now)) standing.now.writes.now }
     requires reads { AllByRecursion (IsReadWithin standing.now.first (standing.now.first + length replies.old.items)) reads.items }
+    requires rise { RisesBy (λ r. r.line) reads.items }
+    requires apart { AreApart reads.items standing.now.writes.now }
+    requires worked { AreWorked standing.now.first reads.items standing.now.store.now standing.now.shown worked.items }
     requires lines { standing.now.first + length replies.old.items < 2 ^ 63 }
     requires budget { 0 < budget }
-    ensures answers { (outs : List Told) → AreNumbers standing.now.first outs standing.now.numbers.now
-        → AnswersReads standing.now.first standing.now.store.now standing.now.shown (map write_of standing.now.writes.now) outs reads.items
+    ensures { (outs : List Told) → AreNumbers standing.now.first outs standing.now.numbers.now → AllByRecursion (IsOfWrites standing.now.writes.now) outs
+        → AnswersReads standing.now.first begun reads.items standing.now.writes.now standing.now.store.now standing.now.shown outs
         (map round_text replies.old.items) (map round_text replies.new.items) }
-    ensures count { length replies.new.items ≡ length replies.old.items }
 {
+    let mut floors = [begun; SESSIONS];
+    reads.reverse();
     while let Some(read) = reads.pop() {
-        answer_read(alloc, standing, read, budget, replies, steps);
+        let place = (read.line - standing.first) as usize;
+        let kept = take_kept(&mut worked, place);
+        answer_read(
+            alloc,
+            standing,
+            read,
+            kept,
+            &mut floors,
+            budget,
+            replies,
+            steps,
+        );
     }
 }

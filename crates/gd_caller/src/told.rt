@@ -1,5 +1,5 @@
 //! What is told of the write lines of a round.
-ghost use Rattle.std.specs.Prelude.{◌≡◌, ◌≢◌, ◌≤◌, ◌<◌, ◌+◌, ◌^◌, length, map, vec_len, IfOk};
+ghost use Rattle.std.specs.Prelude.{◌≡◌, ◌≢◌, ◌≤◌, ◌<◌, ◌+◌, ◌^◌, length, map, vec_len, None, IfOk};
 ghost use Rattle.std.specs.List.{AllByRecursion};
 ghost use Rattle.gd_defs.specs.Lines.{err_line as err_line_of};
 ghost use Rattle.gd_runs.specs.Request.{change_refusal};
@@ -12,6 +12,7 @@ ghost use Rattle.gd_caller.specs.Tells.{TellsKept, TellsOne, TellsAll, IsOutcome
 
 use crate::reads::put;
 use crate::replies::RoundReply;
+use crate::work::LineNumber;
 use gd_base::memory::Memory;
 use gd_change::fault::ChangeFault;
 use gd_reply::lines::err_line;
@@ -20,11 +21,21 @@ use gd_reply::reply::Failure;
 use gd_writer::outcome::{Outcome, WriteOf};
 use std::alloc::Global;
 
-/// The number that is told of a write line, if it has one, and its reply.
+/// What a write line came to, by numbers, and its reply.
 #[derive(Drop)]
 struct ToldWrite {
-    number: Option<u32>,
+    number: LineNumber,
     reply: RoundReply,
+}
+
+/// A number that is no entry that is shown.
+fn at_number(number: Option<u32>) -> LineNumber
+    ensures { result ≡ record { number = number; entry = None } }
+{
+    LineNumber {
+        number,
+        entry: None,
+    }
 }
 
 /// Why a write is refused, as its reply tells it.
@@ -72,11 +83,11 @@ fn told_refused(alloc: Global, line: u64, fault: ChangeFault, at: u32) -> ToldWr
 {
     match refused_line(alloc, line, fault, at) {
         Ok(bytes) => ToldWrite {
-            number: Some(at),
+            number: at_number(Some(at)),
             reply: RoundReply::Line(bytes),
         },
         Err(_) => ToldWrite {
-            number: None,
+            number: at_number(None),
             reply: RoundReply::Failed {
                 failure: Failure::NoMemory,
                 line,
@@ -93,30 +104,33 @@ fn told_of(alloc: Global, line: u64, outcome: Outcome) -> ToldWrite
 {
     match outcome {
         Outcome::Stored { entry, reply, .. } => ToldWrite {
-            number: Some(entry),
+            number: LineNumber {
+                number: Some(entry),
+                entry: Some(entry),
+            },
             reply: RoundReply::Line(reply),
         },
         Outcome::Late { entry } => ToldWrite {
-            number: Some(entry),
+            number: at_number(Some(entry)),
             reply: RoundReply::Late { line, entry },
         },
         Outcome::Refused { fault, at } => told_refused(alloc, line, fault, at),
         Outcome::Doubt { at } => ToldWrite {
-            number: Some(at),
+            number: at_number(Some(at)),
             reply: RoundReply::Failed {
                 failure: Failure::MaybeStored,
                 line,
             },
         },
         Outcome::Unsettled => ToldWrite {
-            number: None,
+            number: at_number(None),
             reply: RoundReply::Failed {
                 failure: Failure::NotStored,
                 line,
             },
         },
         Outcome::Memory => ToldWrite {
-            number: None,
+            number: at_number(None),
             reply: RoundReply::Failed {
                 failure: Failure::NoMemory,
                 line,
@@ -130,7 +144,7 @@ fn tell_one(
     alloc: Global,
     first: u64,
     written: WriteOf,
-    numbers: &mut Vec<Option<u32>>,
+    numbers: &mut Vec<LineNumber>,
     replies: &mut Vec<RoundReply>,
 )
     requires told { IsTold written.line written.outcome }
@@ -150,7 +164,7 @@ pub fn tell_all(
     alloc: Global,
     first: u64,
     mut outcomes: Vec<WriteOf>,
-    numbers: &mut Vec<Option<u32>>,
+    numbers: &mut Vec<LineNumber>,
     replies: &mut Vec<RoundReply>,
 )
     requires told { AllByRecursion (λ w. IsTold w.line w.outcome) outcomes.items }

@@ -1,11 +1,13 @@
 //! The lines of a round, once read.
-ghost use Rattle.std.specs.Prelude.{◌≡◌, ◌≢◌, ◌≤◌, ◌<◌, ◌+◌, ◌++◌, ◌∷◌, ◌^◌, ℕ, List, [], None, length, map, IfOk, OnOk, IsErr};
+ghost use Rattle.std.specs.Prelude.{◌≡◌, ◌≢◌, ◌≤◌, ◌<◌, ◌+◌, ◌++◌, ◌∷◌, ◌^◌, ℕ, List, [], length, map, true, Err, IfOk, OnOk};
 ghost use Rattle.std.specs.List.{All};
 ghost use Rattle.gd_runs.specs.Input.{input_fault_line, line_too_long};
+ghost use Rattle.gd_runs.specs.Input as input;
 ghost use Rattle.gd_runs.specs.Explained.{Numbered, memory_line};
 ghost use Rattle.gd_input.specs.Line.{IsKept, IsShort};
 ghost use Rattle.gd_input.specs.Rounds.{AreKept};
 ghost use Rattle.gd_mql.specs.Line.{fault_view};
+ghost use Rattle.gd_caller.specs.Told.{no_number};
 ghost use Rattle.gd_caller.specs.Replies.{round_text, made_text};
 ghost use Rattle.gd_caller.specs.Works.{IsAsked, IsAskedAt, Pushes, TakesLine, AreRead, AreWithin, texts_of};
 
@@ -37,23 +39,45 @@ pub struct WriteLine {
     pub bytes: u64,
 }
 
-/// What a line asks, or its reply where it asks nothing or there was no memory to read it.
+/// What a line of a round came to, by numbers: its number, if it is a write that has one, and its entry, if it is a write
+/// that was stored and is shown.
+#[derive(Clone, Copy)]
+pub struct LineNumber {
+    pub number: Option<u32>,
+    pub entry: Option<u32>,
+}
+
+/// What a line asks, or its reply where it asks nothing, or the number of a line that there was no memory to read.
 #[derive(Drop)]
 enum Asked {
     Read(ReadLine),
     Write(WriteLine),
     Told(RoundReply),
+    Unread(u64),
 }
 
-/// The lines of a round, once read: the reads and the writes among them, and a first reply to each line. It says why the
-/// line is none, or that there was no memory, and stays where nothing else is told. The number of each line is that of its
-/// write, if it is one that has a number, and none at first.
+/// The lines of a round, once read: the reads and the writes among them, each in the order of their lines, and a first
+/// reply to each line. It says why the line is none, or that there was no memory, and stays where nothing else is told. No
+/// line has a number at first. They are whole if there was memory to read each line: then no write is missing.
 #[derive(Drop)]
 pub struct Works {
     pub reads: Vec<ReadLine>,
     pub writes: Vec<WriteLine>,
-    pub numbers: Vec<Option<u32>>,
+    pub numbers: Vec<LineNumber>,
     pub replies: Vec<RoundReply>,
+    pub whole: bool,
+}
+
+impl LineNumber {
+    /// None yet.
+    pub fn none() -> LineNumber
+        ensures { result ≡ no_number }
+    {
+        LineNumber {
+            number: None,
+            entry: None,
+        }
+    }
 }
 
 /// A line that was made as the reply to a line, or that there was no memory for it.
@@ -84,21 +108,21 @@ fn too_long_reply(alloc: Global, line: u64) -> Result<Vec<u8>, Memory>
     err_line_plain(alloc, line, &Refusal::LineTooLong)
 }
 
-/// The reply to a line that is refused by its form.
-fn fault_reply(alloc: Global, line: u64, fault: LineFault) -> Result<Vec<u8>, Memory>
+/// What is told of a line that is refused by its form.
+fn fault_asked(alloc: Global, line: u64, fault: LineFault) -> Asked
     requires { line < 2 ^ 63 }
-    ensures refusal { fault ≢ LineFault.Memory
-        → IfOk result (λ reply. reply.items ≡ input_fault_line line (fault_view fault)) }
-    ensures memory { fault ≡ LineFault.Memory → IsErr result }
+    ensures refusal { (bytes : List ℕ) → (fault ≢ LineFault.Memory → input.line_from bytes ≡ Err (fault_view fault)) → IsAsked line bytes result }
+    ensures within { IsAskedAt line result }
 {
-    match fault {
+    let reply = match fault {
         LineFault::Json(fault) => err_line_plain(alloc, line, &Refusal::Json(fault)),
         LineFault::BadLine => err_line_plain(alloc, line, &Refusal::BadLine),
         LineFault::BadQuery { code, path } => {
             err_line_plain(alloc, line, &Refusal::BadQuery { code, path })
         }
-        LineFault::Memory => Err(Memory),
-    }
+        LineFault::Memory => return Asked::Unread(line),
+    };
+    Asked::Told(told(line, reply))
 }
 
 /// What a line asks, or its reply.
@@ -124,7 +148,7 @@ fn read_line(alloc: Global, line: u64, text: &RoundLine) -> Asked
             request,
             bytes: bytes.len() as u64,
         }),
-        Err(fault) => Asked::Told(told(line, fault_reply(alloc, line, fault))),
+        Err(fault) => fault_asked(alloc, line, fault),
     }
 }
 
@@ -135,12 +159,14 @@ impl Works {
         ensures writes { result.writes.items ≡ [] }
         ensures numbers { result.numbers.items ≡ [] }
         ensures replies { result.replies.items ≡ [] }
+        ensures whole { result.whole ≡ true }
     {
         Works {
             reads: Vec::new(alloc),
             writes: Vec::new(alloc),
             numbers: Vec::new(alloc),
             replies: Vec::new(alloc),
+            whole: true,
         }
     }
 
@@ -148,7 +174,7 @@ impl Works {
     fn push_reply(&mut self, reply: RoundReply) -> Result<(), Memory>
         ensures { OnOk result (Pushes self.old self.new [] [] (round_text reply)) }
     {
-        self.numbers.push(None)?;
+        self.numbers.push(LineNumber::none())?;
         self.replies.push(reply)?;
         Ok(())
     }
@@ -182,6 +208,10 @@ impl Works {
             Asked::Read(read) => self.push_read(read),
             Asked::Write(write) => self.push_write(write),
             Asked::Told(reply) => self.push_reply(reply),
+            Asked::Unread(line) => {
+                self.whole = false;
+                self.push_reply(no_memory(line))
+            }
         }
     }
 }

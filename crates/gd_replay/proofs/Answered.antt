@@ -1,5 +1,5 @@
 -- What an event comes to is what its line comes to.
-use Rattle.std.proofs.Common.{◌≡◌, ℕ, ◌<◌, List, length, Bool, Result, Ok, Err, IfOk, inl, inr, ⊎_elim, refl, sym, ap, subst, arith, lt-ltb}
+use Rattle.std.proofs.Common.{◌≡◌, ℕ, ◌<◌, List, length, Bool, false, Result, Ok, Err, IfOk, inl, inr, ⊎_elim, refl, sym, ap, subst, ◌∙◌, arith, lt-ltb}
 use Rattle.std.specs.Prelude.{if◌then◌else◌, ◌≢◌}
 use Rattle.std.specs.Global.{Vec}
 use Rattle.gd_base.specs.declared.memory.Memory.{Memory}
@@ -10,13 +10,15 @@ use Rattle.gd_mql.specs.Line.{fault_view}
 use Rattle.gd_json.specs.Reading.{json_from}
 use Rattle.gd_runs.specs.Owed.{MembersOf}
 use Rattle.gd_runs.specs.Input.{line_too_long, no_json, no_line, max_line}
-use Rattle.gd_runs.specs.Explained.{memory_line}
+use Rattle.gd_runs.specs.Explained.{memory_line, tells_fault}
 use Rattle.gd_runs.specs.Side.{IsFresh}
 use Rattle.gd_runs.specs.Core as core
 use Rattle.gd_runs.specs.Core.{Event, State}
 use Rattle.gd_runs.specs.Replay.{event_from, event_of}
 use Rattle.gd_replay_laws.specs.Built.{StepBuilt, Takes}
 use Rattle.gd_replay_laws.specs.Runs.{BuiltLine, IsBounded, AreBelow}
+use Rattle.gd_replay_laws.specs.Faults.{IsCounted}
+use Rattle.gd_replay_laws.proofs.Faults.{takes_quiet, fault_quiet, memory_quiet, quiet_counted}
 use Rattle.gd_sessions.specs.Running.{Answers, MayTake}
 use Rattle.gd_replay.specs.Lines.{TellsTooLong, TellsFault}
 
@@ -29,6 +31,14 @@ answers_more P Q (Err e) more given = (given.0, more given.0 given.1)
 pub answers_say : (P : List ℕ → Type 0) (Q : Type 0) (result : Result (Vec ℕ) Memory) → ((line : List ℕ) → P line → Q) → Answers P result → Q
 answers_say P Q (Ok bytes) says given = says bytes.items given
 answers_say P Q (Err e) says given = says given.0 given.1
+
+-- the first of two facts
+pub answers_first : (P Q : List ℕ → Type 0) (result : Result (Vec ℕ) Memory) → Answers (λ line. P line × Q line) result → Answers P result
+answers_first P Q result = answers_more (λ line. P line × Q line) P result (λ line both. both.0)
+
+-- a reply that tells no failure of the disk is counted
+pub answers_counted : (P : List ℕ → Type 0) (k before after : ℕ) (result : Result (Vec ℕ) Memory) → ((line : List ℕ) → P line → tells_fault k line ≡ false) → Answers P result → Answers (λ line. P line × IsCounted k line before after) result
+answers_counted P k before after result quiet = answers_more P (λ line. P line × IsCounted k line before after) result (λ line is. (is, quiet_counted k line before after (quiet line is)))
 
 -- want of memory, made or due
 pub answers_memory : (P : List ℕ → Type 0) (k : ℕ) (result : Result (Vec ℕ) Memory) → P (memory_line k) → IfOk result (λ bytes. bytes.items ≡ memory_line k) → Answers P result
@@ -75,4 +85,24 @@ pub long_line : (members : MembersOf) (may : ℕ → Bool) (s : State) (k : ℕ)
 long_line members may s k piece reply long tells = ⊎_elim
     (λ told. inl (line_too_long, long_is piece long, told, refl))
     (λ lacks. inr (inr (lacks, inl refl)))
+    tells
+
+-- ---- counts of faults
+
+-- opening again tells no failure of the disk
+pub reopened_counted : (members : MembersOf) (may : ℕ → Bool) (s : State) (k bytes : ℕ) (t : State) (before after : ℕ) (result : Result (Vec ℕ) Memory) → Answers (λ line. Takes members may s k bytes core.reopen line t) result
+    → Answers (λ line. Takes members may s k bytes core.reopen line t × IsCounted k line before after) result
+reopened_counted members may s k bytes t before after result = answers_counted (λ line. Takes members may s k bytes core.reopen line t) k before after result (λ line taken. takes_quiet k members may s bytes core.reopen line t tt taken)
+
+-- nor does the refusal of what is no event
+pub fault_told_quiet : (k : ℕ) (f : LineFault) (line : List ℕ) → TellsFault k f line → tells_fault k line ≡ false
+fault_told_quiet k f line tells = ⊎_elim
+    (λ told. ap (tells_fault k) told.1 ∙ fault_quiet k (fault_view f))
+    (λ lacks. ap (tells_fault k) lacks ∙ memory_quiet k)
+    tells
+
+pub long_told_quiet : (k : ℕ) (line : List ℕ) → TellsTooLong k line → tells_fault k line ≡ false
+long_told_quiet k line tells = ⊎_elim
+    (λ told. ap (tells_fault k) told ∙ fault_quiet k line_too_long)
+    (λ lacks. ap (tells_fault k) lacks ∙ memory_quiet k)
     tells

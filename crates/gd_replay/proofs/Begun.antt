@@ -12,11 +12,11 @@ use Rattle.gd_replay.specs.declared.stop.Stop.{Stop}
 use Rattle.gd_replay.specs.Runs.{PiecePrints, PieceStops, RunUpto}
 use Rattle.gd_replay.proofs.Known.{start_known, advances_none}
 
-pub begun_upto : (members : MembersOf) (may : ℕ → Bool) (loaded : List Batch) (held : Option (List ℕ)) (s : State) (reader : Held) (a : Option (List ℕ)) → reader ≡ record { bytes = []; consumed = 0 } → s ≡ opened loaded
-    → Known a (prepend_known reader.bytes a) (RunUpto members may loaded held held 0 s)
-begun_upto members may loaded held s reader a new opens =
-    subst (λ (r : Held). Known a (prepend_known r.bytes a) (RunUpto members may loaded held held 0 s)) (sym new)
-    (subst (λ (t : State). Known a (prepend_known [] a) (RunUpto members may loaded held held 0 t)) (sym opens) (start_known members may loaded held a))
+pub begun_upto : (members : MembersOf) (may : ℕ → Bool) (loaded : List Batch) (held : Option (List ℕ)) (n : ℕ) (s : State) (reader : Held) (a : Option (List ℕ)) → reader ≡ record { bytes = []; consumed = 0 } → s ≡ opened loaded
+    → Known a (prepend_known reader.bytes a) (RunUpto members may loaded held held n n 0 s)
+begun_upto members may loaded held n s reader a new opens =
+    subst (λ (r : Held). Known a (prepend_known r.bytes a) (RunUpto members may loaded held held n n 0 s)) (sym new)
+    (subst (λ (t : State). Known a (prepend_known [] a) (RunUpto members may loaded held held n n 0 t)) (sym opens) (start_known members may loaded held n a))
 
 pub begun_advances : (reader : Held) (a : Option (List ℕ)) → reader ≡ record { bytes = []; consumed = 0 } → Advances a (prepend_known reader.bytes a) 0 reader.consumed
 begun_advances reader a new = subst (λ (r : Held). Advances a (prepend_known r.bytes a) 0 r.consumed) (sym new) (advances_none a)
@@ -29,9 +29,9 @@ begun_below s loaded k opens = subst (AreBelow k) (sym opens) (opened_below k lo
 
 -- ---- by the moments of the clock that there was
 
-module _ (members : MembersOf) (given may : ℕ → Bool) (same : may ≡ given) (s : State) (k : ℕ) (piece : List ℕ) (old new : Option (List ℕ)) where
-  pub prints_by : (t : State) (n : ℕ) → PiecePrints members may s k piece t n old new → PiecePrints members given s k piece t n old new
-  prints_by t n prints = subst (λ (m : ℕ → Bool). PiecePrints members m s k piece t n old new) same prints
+module _ (members : MembersOf) (given may : ℕ → Bool) (same : may ≡ given) (s : State) (k : ℕ) (piece : List ℕ) (old new : Option (List ℕ)) (a b : ℕ) where
+  pub prints_by : (t : State) (n : ℕ) → PiecePrints members may s k piece t n old new a b → PiecePrints members given s k piece t n old new a b
+  prints_by t n prints = subst (λ (m : ℕ → Bool). PiecePrints members m s k piece t n old new a b) same prints
 
-  pub stops_by : (leaves : State → Type 0) (why : Stop) → PieceStops members may s k piece leaves why old new → PieceStops members given s k piece leaves why old new
-  stops_by leaves why stops = subst (λ (m : ℕ → Bool). PieceStops members m s k piece leaves why old new) same stops
+  pub stops_by : (leaves : State → Type 0) (why : Stop) → PieceStops members may s k piece leaves why old new a b → PieceStops members given s k piece leaves why old new a b
+  stops_by leaves why stops = subst (λ (m : ℕ → Bool). PieceStops members m s k piece leaves why old new a b) same stops

@@ -7,6 +7,7 @@ use Rattle.gd_outside.specs.declared.Failed.{Failed}
 use Rattle.gd_runs.specs.Owed.{MembersOf}
 use Rattle.gd_runs.specs.Explained.{Numbered, lines_of}
 use Rattle.gd_runs.specs.Core.{State, opened}
+use Rattle.gd_replay_laws.specs.Faults.{RoseBy}
 use Rattle.gd_input.specs.declared.fault.InputFault.{InputFault}
 use Rattle.gd_input.specs.declared.fault.InputFault.TheVariants as input
 use Rattle.gd_input.specs.declared.piece.Piece.{Piece}
@@ -22,9 +23,9 @@ use Rattle.gd_replay.proofs.Upto.{upto_start, upto_more, upto_end, upto_taken, t
 
 -- ---- the loop
 
-pub start_known : (members : MembersOf) (may : ℕ → Bool) (loaded : List Batch) (held x : Option (List ℕ)) → Known x (prepend_known [] x) (RunUpto members may loaded held held 0 (opened loaded))
-start_known members may loaded held None = tt
-start_known members may loaded held (Some x) = upto_start members may loaded held x
+pub start_known : (members : MembersOf) (may : ℕ → Bool) (loaded : List Batch) (held : Option (List ℕ)) (n : ℕ) (x : Option (List ℕ)) → Known x (prepend_known [] x) (RunUpto members may loaded held held n n 0 (opened loaded))
+start_known members may loaded held n None = tt
+start_known members may loaded held n (Some x) = upto_start members may loaded held n x
 
 -- nothing was taken yet
 pub advances_none : (a : Option (List ℕ)) → Advances a (prepend_known [] a) 0 0
@@ -52,68 +53,70 @@ taken_known (Some x) (Some y) n m advances below =
     let long = length-append advances.bytes y in
     omega (arith, parts, long, advances.counted, below)
 
-module _ (members : MembersOf) (may : ℕ → Bool) (loaded : List Batch) (old mid new : Option (List ℕ)) (k : ℕ) (s : State) where
+module _ (members : MembersOf) (may : ℕ → Bool) (loaded : List Batch) (old mid new : Option (List ℕ)) (a b c : ℕ) (k : ℕ) (s : State) where
   -- a piece more
-  pub more_known : (n : ℕ) (t : State) (x y z : Option (List ℕ)) (piece : Piece) → piece.by_newline ≡ true → Known x y (RunUpto members may loaded old mid k s) → Known y z (TakesPiece piece)
-      → ((bytes : List ℕ) → IsKept 262_144 piece.line bytes → PiecePrints members may s k bytes t n mid new) → Known x z (RunUpto members may loaded old new n t)
+  pub more_known : (n : ℕ) (t : State) (x y z : Option (List ℕ)) (piece : Piece) → piece.by_newline ≡ true → Known x y (RunUpto members may loaded old mid a b k s) → Known y z (TakesPiece piece)
+      → ((bytes : List ℕ) → IsKept 262_144 piece.line bytes → PiecePrints members may s k bytes t n mid new b c) → Known x z (RunUpto members may loaded old new a c n t)
   more_known n t None y z piece newline upto takes prints = tt
   more_known n t (Some x) None z piece newline upto takes prints = absurd upto
   more_known n t (Some x) (Some y) None piece newline upto takes prints = absurd takes
-  more_known n t (Some x) (Some y) (Some z) piece newline upto takes prints = upto_more members may loaded old mid new k n s t x y z piece upto takes newline (prints takes.line takes.kept)
+  more_known n t (Some x) (Some y) (Some z) piece newline upto takes prints = upto_more members may loaded old mid new a b c k n s t x y z piece upto takes newline (prints takes.line takes.kept)
 
   -- the last one
-  pub done_known : (leaves : State → Type 0) (n : ℕ) (t : State) (x y z : Option (List ℕ)) (piece : Piece) → piece.by_newline ≡ false → Known x y (RunUpto members may loaded old mid k s) → Known y z (TakesPiece piece)
-      → ((bytes : List ℕ) → IsKept 262_144 piece.line bytes → PiecePrints members may s k bytes t n mid new) → leaves t → IfSome x (Replays members may (λ l. l ≡ loaded) leaves old new)
+  pub done_known : (leaves : State → Type 0) (n : ℕ) (t : State) (x y z : Option (List ℕ)) (piece : Piece) → piece.by_newline ≡ false → Known x y (RunUpto members may loaded old mid a b k s) → Known y z (TakesPiece piece)
+      → ((bytes : List ℕ) → IsKept 262_144 piece.line bytes → PiecePrints members may s k bytes t n mid new b c) → leaves t → IfSome x (Replays members may (λ l. l ≡ loaded) leaves (RoseBy a c) old new)
   done_known leaves n t None y z piece last upto takes prints left = tt
   done_known leaves n t (Some x) None z piece last upto takes prints left = absurd upto
   done_known leaves n t (Some x) (Some y) None piece last upto takes prints left = absurd takes
-  done_known leaves n t (Some x) (Some y) (Some z) piece last upto takes prints left = upto_end members may loaded leaves old mid new k n s t x y z piece upto takes last (prints takes.line takes.kept) left
+  done_known leaves n t (Some x) (Some y) (Some z) piece last upto takes prints left = upto_end members may loaded leaves a c old mid new b k n s t x y z piece upto takes last (prints takes.line takes.kept) left
 
   -- a piece at which it stops
-  stops_some : (leaves : State → Type 0) (why : Stop) (x y z : List ℕ) (piece : Piece) → RunUpto members may loaded old mid k s x y → (takes : TakesPiece piece y z) → PieceStops members may s k takes.line leaves why mid new
-      → EndsAs (Err why) (Replays members may (λ l. l ≡ loaded) leaves old new x) (ReplaysTaken members may (λ l. l ≡ loaded) leaves old new x) (ReplaysFront members may (λ l. l ≡ loaded) leaves old new x) ⊥
-  stops_some leaves stop.ReadFault x y z piece upto takes stops = absurd stops
-  stops_some leaves stop.TooMuch x y z piece upto takes stops = absurd stops
-  stops_some leaves (stop.Unopened f) x y z piece upto takes stops = stops
-  stops_some leaves stop.SinkFault x y z piece upto takes stops = upto_front members may loaded leaves old mid new k s x y z piece upto takes stops
-  stops_some leaves stop.Memory x y z piece upto takes stops = upto_front members may loaded leaves old mid new k s x y z piece upto takes stops
-  stops_some leaves (stop.Lost f) x y z piece upto takes stops = upto_taken members may loaded leaves old mid new k s x y upto stops.left stops.kept
+  stops_some : (leaves : State → Type 0) (why : Stop) (x y z : List ℕ) (piece : Piece) → b ≤ c → RunUpto members may loaded old mid a b k s x y → (takes : TakesPiece piece y z) → PieceStops members may s k takes.line leaves why mid new b c
+      → EndsAs (Err why) (Replays members may (λ l. l ≡ loaded) leaves (RoseBy a c) old new x) (ReplaysTaken members may (λ l. l ≡ loaded) leaves (RoseBy a c) old new x) (ReplaysFront members may (λ l. l ≡ loaded) leaves (RoseBy a c) old new x) ⊥
+  stops_some leaves stop.ReadFault x y z piece later upto takes stops = absurd stops
+  stops_some leaves stop.TooMuch x y z piece later upto takes stops = absurd stops
+  stops_some leaves (stop.Unopened f) x y z piece later upto takes stops = stops
+  stops_some leaves stop.SinkFault x y z piece later upto takes stops = upto_front members may loaded leaves a c old mid new b k s x y z piece upto takes stops
+  stops_some leaves stop.Memory x y z piece later upto takes stops = upto_front members may loaded leaves a c old mid new b k s x y z piece upto takes stops
+  stops_some leaves (stop.Lost f) x y z piece later upto takes stops = upto_taken members may loaded leaves a c old mid new b k s x y later upto stops.left stops.kept
 
-  stops_none : (why : Stop) (a b : Type 0) (whole between within : Type 0) → between → within → IsCaused why a b → EndsAs (Err why) whole between within ⊥
-  stops_none stop.ReadFault a b whole between within p q caused = p
-  stops_none stop.TooMuch a b whole between within p q caused = p
-  stops_none (stop.Unopened f) a b whole between within p q caused = caused
-  stops_none stop.SinkFault a b whole between within p q caused = q
-  stops_none stop.Memory a b whole between within p q caused = q
-  stops_none (stop.Lost f) a b whole between within p q caused = p
+  stops_none : (why : Stop) (p q : Type 0) (whole between within : Type 0) → between → within → IsCaused why p q → EndsAs (Err why) whole between within ⊥
+  stops_none stop.ReadFault p q whole between within m n caused = m
+  stops_none stop.TooMuch p q whole between within m n caused = m
+  stops_none (stop.Unopened f) p q whole between within m n caused = caused
+  stops_none stop.SinkFault p q whole between within m n caused = n
+  stops_none stop.Memory p q whole between within m n caused = n
+  stops_none (stop.Lost f) p q whole between within m n caused = m
 
-  pub stops_known : (leaves : State → Type 0) (why : Stop) (a b : Type 0) → IsCaused why a b → (x y z : Option (List ℕ)) (piece : Piece) → Known x y (RunUpto members may loaded old mid k s) → Known y z (TakesPiece piece)
-      → ((bytes : List ℕ) → IsKept 262_144 piece.line bytes → PieceStops members may s k bytes leaves why mid new)
-      → EndsAs (Err why) (IfSome x (Replays members may (λ l. l ≡ loaded) leaves old new)) (IfSome x (ReplaysTaken members may (λ l. l ≡ loaded) leaves old new)) (IfSome x (ReplaysFront members may (λ l. l ≡ loaded) leaves old new)) ⊥
-  stops_known leaves why a b caused None y z piece upto takes stops = stops_none why a b _ _ _ tt tt caused
-  stops_known leaves why a b caused (Some x) None z piece upto takes stops = absurd upto
-  stops_known leaves why a b caused (Some x) (Some y) None piece upto takes stops = absurd takes
-  stops_known leaves why a b caused (Some x) (Some y) (Some z) piece upto takes stops = stops_some leaves why x y z piece upto takes (stops takes.line takes.kept)
+  pub stops_known : (leaves : State → Type 0) (why : Stop) (p q : Type 0) → IsCaused why p q → (x y z : Option (List ℕ)) (piece : Piece) → b ≤ c → Known x y (RunUpto members may loaded old mid a b k s) → Known y z (TakesPiece piece)
+      → ((bytes : List ℕ) → IsKept 262_144 piece.line bytes → PieceStops members may s k bytes leaves why mid new b c)
+      → EndsAs (Err why) (IfSome x (Replays members may (λ l. l ≡ loaded) leaves (RoseBy a c) old new)) (IfSome x (ReplaysTaken members may (λ l. l ≡ loaded) leaves (RoseBy a c) old new))
+      (IfSome x (ReplaysFront members may (λ l. l ≡ loaded) leaves (RoseBy a c) old new)) ⊥
+  stops_known leaves why p q caused None y z piece later upto takes stops = stops_none why p q _ _ _ tt tt caused
+  stops_known leaves why p q caused (Some x) None z piece later upto takes stops = absurd upto
+  stops_known leaves why p q caused (Some x) (Some y) None piece later upto takes stops = absurd takes
+  stops_known leaves why p q caused (Some x) (Some y) (Some z) piece later upto takes stops = stops_some leaves why x y z piece later upto takes (stops takes.line takes.kept)
 
 -- the input could not be read further
-pub input_known : (members : MembersOf) (may : ℕ → Bool) (loaded : List Batch) (leaves : State → Type 0) (old new : Option (List ℕ)) (k : ℕ) (s : State) (fault : InputFault) (x y : Option (List ℕ)) → Known x y (RunUpto members may loaded old new k s) → leaves s
-    → EndsAs (Err (stop_of fault)) (IfSome x (Replays members may (λ l. l ≡ loaded) leaves old new)) (IfSome x (ReplaysTaken members may (λ l. l ≡ loaded) leaves old new)) (IfSome x (ReplaysFront members may (λ l. l ≡ loaded) leaves old new)) ⊥
-input_known members may loaded leaves old new k s fault None y upto left = by fault
+pub input_known : (members : MembersOf) (may : ℕ → Bool) (loaded : List Batch) (leaves : State → Type 0) (old new : Option (List ℕ)) (a b : ℕ) (k : ℕ) (s : State) (fault : InputFault) (x y : Option (List ℕ)) → Known x y (RunUpto members may loaded old new a b k s) → leaves s
+    → EndsAs (Err (stop_of fault)) (IfSome x (Replays members may (λ l. l ≡ loaded) leaves (RoseBy a b) old new)) (IfSome x (ReplaysTaken members may (λ l. l ≡ loaded) leaves (RoseBy a b) old new))
+    (IfSome x (ReplaysFront members may (λ l. l ≡ loaded) leaves (RoseBy a b) old new)) ⊥
+input_known members may loaded leaves old new a b k s fault None y upto left = by fault
   where
     by : (f : InputFault) → EndsAs (Err (stop_of f)) (Unit {0}) (Unit {0}) (Unit {0}) ⊥
     by input.Failed = tt
     by input.TooMuch = tt
     by input.Memory = tt
-input_known members may loaded leaves old new k s fault (Some x) None upto left = absurd upto
-input_known members may loaded leaves old new k s fault (Some x) (Some y) upto left = by fault
+input_known members may loaded leaves old new a b k s fault (Some x) None upto left = absurd upto
+input_known members may loaded leaves old new a b k s fault (Some x) (Some y) upto left = by fault
   where
-    taken : ReplaysTaken members may (λ l. l ≡ loaded) leaves old new x
-    taken = upto_taken members may loaded leaves old new new k s x y upto left (Keeps-refl new)
+    taken : ReplaysTaken members may (λ l. l ≡ loaded) leaves (RoseBy a b) old new x
+    taken = upto_taken members may loaded leaves a b old new new b k s x y (omega arith) upto left (Keeps-refl new)
 
-    by : (f : InputFault) → EndsAs (Err (stop_of f)) (Replays members may (λ l. l ≡ loaded) leaves old new x) (ReplaysTaken members may (λ l. l ≡ loaded) leaves old new x) (ReplaysFront members may (λ l. l ≡ loaded) leaves old new x) ⊥
+    by : (f : InputFault) → EndsAs (Err (stop_of f)) (Replays members may (λ l. l ≡ loaded) leaves (RoseBy a b) old new x) (ReplaysTaken members may (λ l. l ≡ loaded) leaves (RoseBy a b) old new x) (ReplaysFront members may (λ l. l ≡ loaded) leaves (RoseBy a b) old new x) ⊥
     by input.Failed = taken
     by input.TooMuch = taken
-    by input.Memory = taken_front members may loaded leaves old new x taken
+    by input.Memory = taken_front members may loaded leaves a b old new x taken
 
 -- ---- causes
 
@@ -159,28 +162,28 @@ wider_ends (Err (stop.Unopened journal.Memory)) r s d wide l more ends = tt
 
 -- ---- the output is sent on
 
-module _ (members : MembersOf) (may : ℕ → Bool) (loads also : List Batch → Type 0) (more : (l : List Batch) → loads l → also l) (leaves : State → Type 0) (old mid new : Option (List ℕ)) (kept : Keeps mid new) where
-  accounts_on : (given : List Numbered) (output : List ℕ) → Accounts members may loads leaves given output → Accounts members may also leaves given output
-  accounts_on given output has = record { loaded = has.loaded; state = has.state; begun = more has.loaded has.begun; replies = has.replies; left = has.left }
+module _ (members : MembersOf) (may : ℕ → Bool) (loads also : List Batch → Type 0) (more : (l : List Batch) → loads l → also l) (leaves : State → Type 0) (rises wider : ℕ → Type 0) (rose : (n : ℕ) → rises n → wider n) (old mid new : Option (List ℕ)) (kept : Keeps mid new) where
+  accounts_on : (given : List Numbered) (output : List ℕ) → Accounts members may loads leaves rises given output → Accounts members may also leaves wider given output
+  accounts_on given output has = record { loaded = has.loaded; state = has.state; begun = more has.loaded has.begun; replies = has.replies; left = has.left; counted = rose _ has.counted }
 
-  whole_on : (input : List ℕ) → Replays members may loads leaves old mid input → Replays members may also leaves old new input
+  whole_on : (input : List ℕ) → Replays members may loads leaves rises old mid input → Replays members may also leaves wider old new input
   whole_on input has = record { output = has.output; accounts = accounts_on (lines_of input) has.output has.accounts; gained = Appends-kept old mid new has.output has.gained kept }
 
-  between_on : (input : List ℕ) → ReplaysTaken members may loads leaves old mid input → ReplaysTaken members may also leaves old new input
+  between_on : (input : List ℕ) → ReplaysTaken members may loads leaves rises old mid input → ReplaysTaken members may also leaves wider old new input
   between_on input has = record { taken = has.taken; output = has.output; accounts = accounts_on (take has.taken (lines_of input)) has.output has.accounts; gained = Appends-kept old mid new has.output has.gained kept }
 
-  within_on : (input : List ℕ) → ReplaysFront members may loads leaves old mid input → ReplaysFront members may also leaves old new input
+  within_on : (input : List ℕ) → ReplaysFront members may loads leaves rises old mid input → ReplaysFront members may also leaves wider old new input
   within_on input has = record { taken = has.taken; output = has.output; rest = has.rest; accounts = accounts_on (take has.taken (lines_of input)) (has.output ++ has.rest) has.accounts; gained = Appends-kept old mid new has.output has.gained kept }
 
   -- all of it, of which not all may have been sent on
-  whole_within : (input : List ℕ) → Replays members may loads leaves old mid input → ReplaysFront members may also leaves old new input
+  whole_within : (input : List ℕ) → Replays members may loads leaves rises old mid input → ReplaysFront members may also leaves wider old new input
   whole_within input has =
       let all : take (length (lines_of input)) (lines_of input) ≡ lines_of input = take_all (length (lines_of input)) (lines_of input) (omega arith) in
       record {
         taken = length (lines_of input);
         output = has.output;
         rest = [];
-        accounts = subst (λ (ls : List Numbered). Accounts members may also leaves ls (has.output ++ [])) (sym all) (subst (λ (out : List ℕ). Accounts members may also leaves (lines_of input) out) (sym (append-nil has.output)) (accounts_on (lines_of input) has.output has.accounts));
+        accounts = subst (λ (ls : List Numbered). Accounts members may also leaves wider ls (has.output ++ [])) (sym all) (subst (λ (out : List ℕ). Accounts members may also leaves wider (lines_of input) out) (sym (append-nil has.output)) (accounts_on (lines_of input) has.output has.accounts));
         gained = Appends-kept old mid new has.output has.gained kept;
       }
 
@@ -189,15 +192,15 @@ module _ (members : MembersOf) (may : ℕ → Bool) (loads also : List Batch →
   known_on P Q on (Some x) has = on x has
 
   pub sent_ends : (idle : Type 0) (x : Option (List ℕ)) (end : Result (Unit {0}) Stop) (sent : Result (Unit {0}) Failed) (result : Result (Unit {0}) Stop) → EndsSent end sent result
-      → EndsAs end (IfSome x (Replays members may loads leaves old mid)) (IfSome x (ReplaysTaken members may loads leaves old mid)) (IfSome x (ReplaysFront members may loads leaves old mid)) ⊥
-      → EndsAs result (IfSome x (Replays members may also leaves old new)) (IfSome x (ReplaysTaken members may also leaves old new)) (IfSome x (ReplaysFront members may also leaves old new)) idle
-  sent_ends idle x (Ok u) (Ok v) result is ends = rw is (known_on (Replays members may loads leaves old mid) (Replays members may also leaves old new) whole_on x ends)
-  sent_ends idle x (Ok u) (Err e) result is ends = rw is (known_on (Replays members may loads leaves old mid) (ReplaysFront members may also leaves old new) whole_within x ends)
-  sent_ends idle x (Err stop.ReadFault) sent result is ends = rw is (known_on (ReplaysTaken members may loads leaves old mid) (ReplaysTaken members may also leaves old new) between_on x ends)
-  sent_ends idle x (Err stop.TooMuch) sent result is ends = rw is (known_on (ReplaysTaken members may loads leaves old mid) (ReplaysTaken members may also leaves old new) between_on x ends)
-  sent_ends idle x (Err (stop.Lost f)) sent result is ends = rw is (known_on (ReplaysTaken members may loads leaves old mid) (ReplaysTaken members may also leaves old new) between_on x ends)
-  sent_ends idle x (Err stop.SinkFault) sent result is ends = rw is (known_on (ReplaysFront members may loads leaves old mid) (ReplaysFront members may also leaves old new) within_on x ends)
-  sent_ends idle x (Err stop.Memory) sent result is ends = rw is (known_on (ReplaysFront members may loads leaves old mid) (ReplaysFront members may also leaves old new) within_on x ends)
+      → EndsAs end (IfSome x (Replays members may loads leaves rises old mid)) (IfSome x (ReplaysTaken members may loads leaves rises old mid)) (IfSome x (ReplaysFront members may loads leaves rises old mid)) ⊥
+      → EndsAs result (IfSome x (Replays members may also leaves wider old new)) (IfSome x (ReplaysTaken members may also leaves wider old new)) (IfSome x (ReplaysFront members may also leaves wider old new)) idle
+  sent_ends idle x (Ok u) (Ok v) result is ends = rw is (known_on (Replays members may loads leaves rises old mid) (Replays members may also leaves wider old new) whole_on x ends)
+  sent_ends idle x (Ok u) (Err e) result is ends = rw is (known_on (Replays members may loads leaves rises old mid) (ReplaysFront members may also leaves wider old new) whole_within x ends)
+  sent_ends idle x (Err stop.ReadFault) sent result is ends = rw is (known_on (ReplaysTaken members may loads leaves rises old mid) (ReplaysTaken members may also leaves wider old new) between_on x ends)
+  sent_ends idle x (Err stop.TooMuch) sent result is ends = rw is (known_on (ReplaysTaken members may loads leaves rises old mid) (ReplaysTaken members may also leaves wider old new) between_on x ends)
+  sent_ends idle x (Err (stop.Lost f)) sent result is ends = rw is (known_on (ReplaysTaken members may loads leaves rises old mid) (ReplaysTaken members may also leaves wider old new) between_on x ends)
+  sent_ends idle x (Err stop.SinkFault) sent result is ends = rw is (known_on (ReplaysFront members may loads leaves rises old mid) (ReplaysFront members may also leaves wider old new) within_on x ends)
+  sent_ends idle x (Err stop.Memory) sent result is ends = rw is (known_on (ReplaysFront members may loads leaves rises old mid) (ReplaysFront members may also leaves wider old new) within_on x ends)
   sent_ends idle x (Err (stop.Unopened f)) sent result is ends = absurd ends
 
 -- at the end of the input it is at its end, whether that was sent on or not

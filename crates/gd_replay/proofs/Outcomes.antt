@@ -29,6 +29,10 @@ pub err_three : {A E : Type 0} (result : Result A E) (P Q R S : E → Type 0) �
 err_three (Ok a) P Q R S says p q r = tt
 err_three (Err e) P Q R S says p q r = says e p q r
 
+pub err_four : {A E : Type 0} (result : Result A E) (P Q R S T : E → Type 0) → ((e : E) → P e → Q e → R e → S e → T e) → IfErr result P → IfErr result Q → IfErr result R → IfErr result S → IfErr result T
+err_four (Ok a) P Q R S T says p q r s = tt
+err_four (Err e) P Q R S T says p q r s = says e p q r s
+
 pub on_err_more : {A E : Type 0} (result : Result A E) (P Q : Type 0) → (P → Q) → OnErr result P → OnErr result Q
 on_err_more (Ok a) P Q more p = tt
 on_err_more (Err e) P Q more p = more p

@@ -7,6 +7,7 @@ use Rattle.gd_base.specs.declared.memory.Memory.{Memory}
 use Rattle.gd_runs.specs.Owed.{MembersOf}
 use Rattle.gd_runs.specs.Core.{State}
 use Rattle.gd_replay_laws.specs.Runs.{BuiltLine}
+use Rattle.gd_replay_laws.specs.Faults.{IsCounted}
 use Rattle.gd_sessions.specs.Running.{Answers}
 use Rattle.gd_journal.specs.declared.fault.JournalFault.{JournalFault}
 use Rattle.gd_journal.specs.declared.fault.JournalFault.TheVariants as journal
@@ -16,25 +17,25 @@ use Rattle.gd_replay.specs.Stops.{IsHalt, IsCaused}
 use Rattle.gd_replay.specs.Runs.{GainsFront, IsDue, LinePrints, LineFront, LineStops}
 
 -- the reply was made and printed
-pub printed_line : (members : MembersOf) (may : ℕ → Bool) (s t : State) (k : ℕ) (bytes : List ℕ) (old new : Option (List ℕ)) (reply : Result (Vec ℕ) Memory) → Answers (λ line. BuiltLine members may s k bytes line t) reply
-    → MatchResult reply (λ made. Appends old new (made.items ++ 10 ∷ [])) (λ none. ⊥) → LinePrints members may s k bytes t old new
-printed_line members may s t k bytes old new (Ok made) answers printed = record { reply = made.items; line = answers; gained = printed }
-printed_line members may s t k bytes old new (Err none) answers printed = absurd printed
+pub printed_line : (members : MembersOf) (may : ℕ → Bool) (s t : State) (k : ℕ) (bytes : List ℕ) (old new : Option (List ℕ)) (a b : ℕ) (reply : Result (Vec ℕ) Memory) → Answers (λ line. BuiltLine members may s k bytes line t × IsCounted k line a b) reply
+    → MatchResult reply (λ made. Appends old new (made.items ++ 10 ∷ [])) (λ none. ⊥) → LinePrints members may s k bytes t old new a b
+printed_line members may s t k bytes old new a b (Ok made) answers printed = record { reply = made.items; line = answers.0; counted = answers.1; gained = printed }
+printed_line members may s t k bytes old new a b (Err none) answers printed = absurd printed
 
 -- or a front of it was
-front_line : (members : MembersOf) (may : ℕ → Bool) (s t : State) (k : ℕ) (bytes : List ℕ) (leaves : State → Type 0) (old new : Option (List ℕ)) (reply : Result (Vec ℕ) Memory) → Answers (λ line. BuiltLine members may s k bytes line t) reply
-    → ((line : List ℕ) → IsDue reply line → GainsFront old new (line ++ 10 ∷ [])) → leaves t → LineFront members may s k bytes leaves old new
-front_line members may s t k bytes leaves old new (Ok made) answers front left = record { reply = made.items; state = t; line = answers; left = left; front = front made.items refl }
-front_line members may s t k bytes leaves old new (Err none) answers front left = record { reply = answers.0; state = t; line = answers.1; left = left; front = front answers.0 tt }
+front_line : (members : MembersOf) (may : ℕ → Bool) (s t : State) (k : ℕ) (bytes : List ℕ) (leaves : State → Type 0) (old new : Option (List ℕ)) (a b : ℕ) (reply : Result (Vec ℕ) Memory) → Answers (λ line. BuiltLine members may s k bytes line t × IsCounted k line a b) reply
+    → ((line : List ℕ) → IsDue reply line → GainsFront old new (line ++ 10 ∷ [])) → leaves t → LineFront members may s k bytes leaves old new a b
+front_line members may s t k bytes leaves old new a b (Ok made) answers front left = record { reply = made.items; state = t; line = answers.0; counted = answers.1; left = left; front = front made.items refl }
+front_line members may s t k bytes leaves old new a b (Err none) (due, answers) front left = record { reply = due; state = t; line = answers.0; counted = answers.1; left = left; front = front due tt }
 
-pub halted_line : (members : MembersOf) (may : ℕ → Bool) (s t : State) (k : ℕ) (bytes : List ℕ) (leaves : State → Type 0) (why : Stop) (rose : Type 0) (old new : Option (List ℕ)) (reply : Result (Vec ℕ) Memory) → IsHalt why rose
-    → Answers (λ line. BuiltLine members may s k bytes line t) reply → ((line : List ℕ) → IsDue reply line → GainsFront old new (line ++ 10 ∷ [])) → leaves t → LineStops members may s k bytes leaves why old new
-halted_line members may s t k bytes leaves stop.SinkFault rose old new reply halt answers front left = front_line members may s t k bytes leaves old new reply answers front left
-halted_line members may s t k bytes leaves stop.Memory rose old new reply halt answers front left = front_line members may s t k bytes leaves old new reply answers front left
-halted_line members may s t k bytes leaves stop.ReadFault rose old new reply halt answers front left = absurd halt
-halted_line members may s t k bytes leaves stop.TooMuch rose old new reply halt answers front left = absurd halt
-halted_line members may s t k bytes leaves (stop.Unopened f) rose old new reply halt answers front left = absurd halt
-halted_line members may s t k bytes leaves (stop.Lost f) rose old new reply halt answers front left = absurd halt
+pub halted_line : (members : MembersOf) (may : ℕ → Bool) (s t : State) (k : ℕ) (bytes : List ℕ) (leaves : State → Type 0) (why : Stop) (rose : Type 0) (old new : Option (List ℕ)) (a b : ℕ) (reply : Result (Vec ℕ) Memory) → IsHalt why rose
+    → Answers (λ line. BuiltLine members may s k bytes line t × IsCounted k line a b) reply → ((line : List ℕ) → IsDue reply line → GainsFront old new (line ++ 10 ∷ [])) → leaves t → LineStops members may s k bytes leaves why old new a b
+halted_line members may s t k bytes leaves stop.SinkFault rose old new a b reply halt answers front left = front_line members may s t k bytes leaves old new a b reply answers front left
+halted_line members may s t k bytes leaves stop.Memory rose old new a b reply halt answers front left = front_line members may s t k bytes leaves old new a b reply answers front left
+halted_line members may s t k bytes leaves stop.ReadFault rose old new a b reply halt answers front left = absurd halt
+halted_line members may s t k bytes leaves stop.TooMuch rose old new a b reply halt answers front left = absurd halt
+halted_line members may s t k bytes leaves (stop.Unopened f) rose old new a b reply halt answers front left = absurd halt
+halted_line members may s t k bytes leaves (stop.Lost f) rose old new a b reply halt answers front left = absurd halt
 
 -- its cause
 pub halted_cause : (why : Stop) (rose disk_failed : Type 0) → IsHalt why rose → IsCaused why rose disk_failed

@@ -1,17 +1,19 @@
 -- A run up to some place of its input.
-use Rattle.std.proofs.Common.{◌≡◌, ℕ, ◌+◌, ◌==◌, List, [], ◌∷◌, ◌++◌, length, take, Bool, true, false, Option, refl, sym, ap, subst, ◌∙◌, arith, append_assoc, append-nil, length-append, take_all}
+use Rattle.std.proofs.Common.{◌≡◌, ℕ, ◌+◌, ◌≤◌, ◌==◌, List, [], ◌∷◌, ◌++◌, length, take, Bool, true, false, Option, refl, sym, ap, subst, ◌∙◌, arith, append_assoc, append-nil, length-append, take_all}
 use Rattle.std.specs.Prelude.{if◌then◌else◌}
 use Rattle.std.proofs.lemmas.List.{take-append-le}
 use Rattle.std.proofs.KnownBytes.{Appends-trans, Appends-nil, Appends-kept}
 use Rattle.std.specs.Io.KnownBytes.{Keeps}
 use Rattle.gd_prim.specs.declared.Batch.{Batch}
 use Rattle.gd_runs.specs.Owed.{MembersOf}
-use Rattle.gd_runs.specs.Explained.{Numbered, pieces, numbered, lines_of, max_round}
+use Rattle.gd_runs.specs.Explained.{Numbered, pieces, numbered, lines_of, max_round, faults_told}
 use Rattle.gd_runs.specs.Core.{State, opened}
 use Rattle.gd_input.specs.declared.piece.Piece.{Piece}
 use Rattle.gd_input.specs.Pieces.{TakesPiece, later_pieces}
 use Rattle.gd_replay_laws.specs.Runs.{BuiltReplies, PieceRuns, lines_at}
+use Rattle.gd_replay_laws.specs.Faults.{RoseBy, faults_from}
 use Rattle.gd_replay_laws.proofs.Joined.{runs_join}
+use Rattle.gd_replay_laws.proofs.Faults.{faults_run, rose_none, rose_then, rose_within}
 use Rattle.gd_replay.specs.Runs.{Accounts, Replays, ReplaysTaken, ReplaysFront, PiecePrints, PieceFront, RunUpto}
 
 -- ---- the lines of pieces
@@ -41,8 +43,8 @@ same_many round (c ∷ cs) = refl
 -- ---- a run
 
 module _ (members : MembersOf) (may : ℕ → Bool) (loaded : List Batch) where
-  pub upto_start : (held : Option (List ℕ)) (input : List ℕ) → RunUpto members may loaded held held 0 (opened loaded) input input
-  upto_start held input = record { round = 0; in_round = 0; given = []; output = []; lines = refl; replies = (refl, refl); many = refl; gained = Appends-nil held }
+  pub upto_start : (held : Option (List ℕ)) (n : ℕ) (input : List ℕ) → RunUpto members may loaded held held n n 0 (opened loaded) input input
+  upto_start held n input = record { round = 0; in_round = 0; given = []; output = []; lines = refl; replies = (refl, refl); many = refl; gained = Appends-nil held; rose = rose_none n n (omega arith) }
 
   -- the lines up to and with a piece print this
   replies_then : (given : List Numbered) (output rest : List ℕ) (k round : ℕ) (piece : List ℕ) (s t : State) → BuiltReplies members may (opened loaded) 0 given output s → k ≡ length given → PieceRuns members may s k piece rest t
@@ -50,6 +52,13 @@ module _ (members : MembersOf) (may : ℕ → Bool) (loaded : List Batch) where
   replies_then given output rest k round piece s t replies many runs =
       let at : k ≡ 0 + length given = omega (arith, many) in
       runs_join members may (opened loaded) s t 0 given (lines_at round piece) output rest replies (subst (λ (n : ℕ). BuiltReplies members may s n (lines_at round piece) rest t) at (runs round))
+
+  -- and tell so many faults
+  rose_piece : (given : List Numbered) (output rest : List ℕ) (k : ℕ) (s : State) (a b c : ℕ) → BuiltReplies members may (opened loaded) 0 given output s → k ≡ length given → RoseBy a b (faults_told output) → RoseBy b c (faults_from k rest)
+      → RoseBy a c (faults_told (output ++ rest))
+  rose_piece given output rest k s a b c replies many first more =
+      let at : 0 + length given ≡ k = omega (arith, many) in
+      subst (RoseBy a c) (sym (faults_run members may (opened loaded) s 0 given output rest replies ∙ ap (λ (n : ℕ). faults_told output + faults_from n rest) at)) (rose_then a b c (faults_told output) (faults_from k rest) first more)
 
   -- the lines of the input, with a piece in the middle
   lines_then : (given : List Numbered) (round in_round : ℕ) (piece : List ℕ) (ps : List (List ℕ)) (input left : List ℕ) → lines_of input ≡ given ++ numbered round in_round (pieces [] left) → pieces [] left ≡ piece ∷ ps
@@ -59,9 +68,9 @@ module _ (members : MembersOf) (may : ℕ → Bool) (loaded : List Batch) where
       ∙ (ap (λ (ls : List Numbered). given ++ ls) (behind round in_round piece ps).parts ∙ sym (append_assoc given (lines_at round piece) (numbered (behind round in_round piece ps).round_then (behind round in_round piece ps).in_then ps))))
 
   -- a piece more
-  pub upto_more : (old mid new : Option (List ℕ)) (k n : ℕ) (s t : State) (input left after : List ℕ) (piece : Piece) → RunUpto members may loaded old mid k s input left → (takes : TakesPiece piece left after) → piece.by_newline ≡ true
-      → PiecePrints members may s k takes.line t n mid new → RunUpto members may loaded old new n t input after
-  upto_more old mid new k n s t input left after piece upto takes newline prints =
+  pub upto_more : (old mid new : Option (List ℕ)) (a b c : ℕ) (k n : ℕ) (s t : State) (input left after : List ℕ) (piece : Piece) → RunUpto members may loaded old mid a b k s input left → (takes : TakesPiece piece left after) → piece.by_newline ≡ true
+      → PiecePrints members may s k takes.line t n mid new b c → RunUpto members may loaded old new a c n t input after
+  upto_more old mid new a b c k n s t input left after piece upto takes newline prints =
       let ps = pieces [] after in
       let first : pieces [] left ≡ takes.line ∷ ps = takes.first ∙ ap (λ (b : Bool). takes.line ∷ later_pieces b after) newline in
       let next = behind upto.round upto.in_round takes.line ps in
@@ -74,58 +83,65 @@ module _ (members : MembersOf) (may : ℕ → Bool) (loaded : List Batch) where
         replies = replies_then upto.given upto.output prints.output k upto.round takes.line s t upto.replies upto.many prints.runs;
         many = (let long = length-append upto.given (lines_at upto.round takes.line) in let same = same_many upto.round takes.line in omega (arith, prints.many, upto.many, long, same));
         gained = Appends-trans old mid new upto.output prints.output upto.gained prints.gained;
+        rose = rose_piece upto.given upto.output prints.output k s a b c upto.replies upto.many upto.rose prints.rose;
       }
 
   -- the front of a list that is taken whole
   take_front : (xs ys : List Numbered) → take (length xs) (xs ++ ys) ≡ xs
   take_front xs ys = take-append-le (length xs) xs ys (omega arith) ∙ take_all (length xs) xs (omega arith)
 
-  module _ (leaves : State → Type 0) where
-    accounts : (given : List Numbered) (output : List ℕ) (s : State) → BuiltReplies members may (opened loaded) 0 given output s → leaves s → Accounts members may (λ l. l ≡ loaded) leaves given output
-    accounts given output s replies left = record { loaded = loaded; state = s; begun = refl; replies = replies; left = left }
+  module _ (leaves : State → Type 0) (a c : ℕ) where
+    abbrev AccountsFor : List Numbered → List ℕ → Type 0
+    AccountsFor given output = Accounts members may (λ l. l ≡ loaded) leaves (RoseBy a c) given output
 
-    of_lines : (given lines : List Numbered) (output : List ℕ) → lines ≡ given → Accounts members may (λ l. l ≡ loaded) leaves given output → Accounts members may (λ l. l ≡ loaded) leaves lines output
-    of_lines given lines output is has = subst (λ (ls : List Numbered). Accounts members may (λ l. l ≡ loaded) leaves ls output) (sym is) has
+    accounts : (given : List Numbered) (output : List ℕ) (s : State) → BuiltReplies members may (opened loaded) 0 given output s → leaves s → RoseBy a c (faults_told output) → AccountsFor given output
+    accounts given output s replies left rose = record { loaded = loaded; state = s; begun = refl; replies = replies; left = left; counted = rose }
+
+    of_lines : (given lines : List Numbered) (output : List ℕ) → lines ≡ given → AccountsFor given output → AccountsFor lines output
+    of_lines given lines output is has = subst (λ (ls : List Numbered). AccountsFor ls output) (sym is) has
 
     front_lines : (given more : List Numbered) (input : List ℕ) → lines_of input ≡ given ++ more → take (length given) (lines_of input) ≡ given
     front_lines given more input lines = ap (take (length given)) lines ∙ take_front given more
 
     -- the last piece
-    pub upto_end : (old mid new : Option (List ℕ)) (k n : ℕ) (s t : State) (input left after : List ℕ) (piece : Piece) → RunUpto members may loaded old mid k s input left → (takes : TakesPiece piece left after) → piece.by_newline ≡ false
-        → PiecePrints members may s k takes.line t n mid new → leaves t → Replays members may (λ l. l ≡ loaded) leaves old new input
-    upto_end old mid new k n s t input left after piece upto takes last prints leave =
+    pub upto_end : (old mid new : Option (List ℕ)) (b : ℕ) (k n : ℕ) (s t : State) (input left after : List ℕ) (piece : Piece) → RunUpto members may loaded old mid a b k s input left → (takes : TakesPiece piece left after) → piece.by_newline ≡ false
+        → PiecePrints members may s k takes.line t n mid new b c → leaves t → Replays members may (λ l. l ≡ loaded) leaves (RoseBy a c) old new input
+    upto_end old mid new b k n s t input left after piece upto takes last prints leave =
         let first : pieces [] left ≡ takes.line ∷ [] = takes.first ∙ ap (λ (b : Bool). takes.line ∷ later_pieces b after) last in
         let given = upto.given ++ lines_at upto.round takes.line in
         let lines : lines_of input ≡ given = lines_then upto.given upto.round upto.in_round takes.line [] input left upto.lines first ∙ append-nil given in
         record {
           output = upto.output ++ prints.output;
           accounts = of_lines given (lines_of input) (upto.output ++ prints.output) lines
-              (accounts given (upto.output ++ prints.output) t (replies_then upto.given upto.output prints.output k upto.round takes.line s t upto.replies upto.many prints.runs) leave);
+              (accounts given (upto.output ++ prints.output) t (replies_then upto.given upto.output prints.output k upto.round takes.line s t upto.replies upto.many prints.runs) leave
+              (rose_piece upto.given upto.output prints.output k s a b c upto.replies upto.many upto.rose prints.rose));
           gained = Appends-trans old mid new upto.output prints.output upto.gained prints.gained;
         }
 
     -- nothing more
-    pub upto_taken : (old mid new : Option (List ℕ)) (k : ℕ) (s : State) (input left : List ℕ) → RunUpto members may loaded old mid k s input left → leaves s → Keeps mid new → ReplaysTaken members may (λ l. l ≡ loaded) leaves old new input
-    upto_taken old mid new k s input left upto leave kept = record {
+    pub upto_taken : (old mid new : Option (List ℕ)) (b : ℕ) (k : ℕ) (s : State) (input left : List ℕ) → b ≤ c → RunUpto members may loaded old mid a b k s input left → leaves s → Keeps mid new
+        → ReplaysTaken members may (λ l. l ≡ loaded) leaves (RoseBy a c) old new input
+    upto_taken old mid new b k s input left later upto leave kept = record {
       taken = length upto.given;
       output = upto.output;
-      accounts = of_lines upto.given (take (length upto.given) (lines_of input)) upto.output (front_lines upto.given (numbered upto.round upto.in_round (pieces [] left)) input upto.lines) (accounts upto.given upto.output s upto.replies leave);
+      accounts = of_lines upto.given (take (length upto.given) (lines_of input)) upto.output (front_lines upto.given (numbered upto.round upto.in_round (pieces [] left)) input upto.lines)
+          (accounts upto.given upto.output s upto.replies leave (rose_within a b a c (faults_told upto.output) (omega arith) later upto.rose));
       gained = Appends-kept old mid new upto.output upto.gained kept;
     }
 
-    pub taken_front : (old new : Option (List ℕ)) (input : List ℕ) → ReplaysTaken members may (λ l. l ≡ loaded) leaves old new input → ReplaysFront members may (λ l. l ≡ loaded) leaves old new input
+    pub taken_front : (old new : Option (List ℕ)) (input : List ℕ) → ReplaysTaken members may (λ l. l ≡ loaded) leaves (RoseBy a c) old new input → ReplaysFront members may (λ l. l ≡ loaded) leaves (RoseBy a c) old new input
     taken_front old new input has = record {
       taken = has.taken;
       output = has.output;
       rest = [];
-      accounts = subst (λ (out : List ℕ). Accounts members may (λ l. l ≡ loaded) leaves (take has.taken (lines_of input)) out) (sym (append-nil has.output)) has.accounts;
+      accounts = subst (λ (out : List ℕ). AccountsFor (take has.taken (lines_of input)) out) (sym (append-nil has.output)) has.accounts;
       gained = has.gained;
     }
 
     -- a front of a piece
-    pub upto_front : (old mid new : Option (List ℕ)) (k : ℕ) (s : State) (input left after : List ℕ) (piece : Piece) → RunUpto members may loaded old mid k s input left → (takes : TakesPiece piece left after)
-        → PieceFront members may s k takes.line leaves mid new → ReplaysFront members may (λ l. l ≡ loaded) leaves old new input
-    upto_front old mid new k s input left after piece upto takes front =
+    pub upto_front : (old mid new : Option (List ℕ)) (b : ℕ) (k : ℕ) (s : State) (input left after : List ℕ) (piece : Piece) → RunUpto members may loaded old mid a b k s input left → (takes : TakesPiece piece left after)
+        → PieceFront members may s k takes.line leaves mid new b c → ReplaysFront members may (λ l. l ≡ loaded) leaves (RoseBy a c) old new input
+    upto_front old mid new b k s input left after piece upto takes front =
         let given = upto.given ++ lines_at upto.round takes.line in
         let ps = later_pieces piece.by_newline after in
         let lines = lines_then upto.given upto.round upto.in_round takes.line ps input left upto.lines takes.first in
@@ -136,7 +152,8 @@ module _ (members : MembersOf) (may : ℕ → Bool) (loaded : List Batch) where
           output = upto.output ++ front.output;
           rest = front.rest;
           accounts = of_lines given (take (length given) (lines_of input)) due (front_lines given more input lines)
-              (subst (λ (out : List ℕ). Accounts members may (λ l. l ≡ loaded) leaves given out) (sym (append_assoc upto.output front.output front.rest))
-              (accounts given (upto.output ++ (front.output ++ front.rest)) front.state (replies_then upto.given upto.output (front.output ++ front.rest) k upto.round takes.line s front.state upto.replies upto.many front.runs) front.left));
+              (subst (λ (out : List ℕ). AccountsFor given out) (sym (append_assoc upto.output front.output front.rest))
+              (accounts given (upto.output ++ (front.output ++ front.rest)) front.state (replies_then upto.given upto.output (front.output ++ front.rest) k upto.round takes.line s front.state upto.replies upto.many front.runs) front.left
+              (rose_piece upto.given upto.output (front.output ++ front.rest) k s a b c upto.replies upto.many upto.rose front.rose)));
           gained = Appends-trans old mid new upto.output front.output upto.gained front.gained;
         }

@@ -7,9 +7,10 @@ use Rattle.gd_base.specs.declared.memory.Memory.{Memory}
 use Rattle.gd_prim.specs.declared.Batch.{Batch}
 use Rattle.gd_bytes.specs.File.{StandsFor}
 use Rattle.gd_runs.specs.Owed.{MembersOf}
-use Rattle.gd_runs.specs.Explained.{Numbered, pieces, numbered, lines_of}
+use Rattle.gd_runs.specs.Explained.{Numbered, pieces, numbered, lines_of, faults_told}
 use Rattle.gd_runs.specs.Core.{State, opened}
 use Rattle.gd_replay_laws.specs.Runs.{BuiltLine, BuiltReplies, PieceRuns, lines_at}
+use Rattle.gd_replay_laws.specs.Faults.{IsCounted, RoseBy, faults_from}
 use Rattle.gd_replay.specs.declared.stop.Stop.{Stop}
 use Rattle.gd_replay.specs.declared.stop.Stop.TheVariants as stop
 
@@ -17,33 +18,34 @@ use Rattle.gd_replay.specs.declared.stop.Stop.TheVariants as stop
 abbrev pub Loads : Option (List ℕ) → List Batch → Type 0
 Loads told loaded = ForSome told (λ file. StandsFor file loaded)
 
--- Lines came to this output: over a list of batches with which the run may begin, they print it and make a state, which is left.
-pub record Accounts (members : MembersOf) (may : ℕ → Bool) (loads : List Batch → Type 0) (leaves : State → Type 0) (given : List Numbered) (output : List ℕ) : Type 0 where
+-- Lines came to this output: over a list of batches with which the run may begin, they print it and make a state, which is left, and the count of faults rose by the lines that tell one.
+pub record Accounts (members : MembersOf) (may : ℕ → Bool) (loads : List Batch → Type 0) (leaves : State → Type 0) (rises : ℕ → Type 0) (given : List Numbered) (output : List ℕ) : Type 0 where
   pub loaded : List Batch
   pub state : State
   pub begun : loads loaded
   pub replies : BuiltReplies members may (opened loaded) 0 given output state
   pub left : leaves state
+  pub counted : rises (faults_told output)
 
 -- the sink gained what all lines of the input came to
-pub record Replays (members : MembersOf) (may : ℕ → Bool) (loads : List Batch → Type 0) (leaves : State → Type 0) (old new : Option (List ℕ)) (input : List ℕ) : Type 0 where
+pub record Replays (members : MembersOf) (may : ℕ → Bool) (loads : List Batch → Type 0) (leaves : State → Type 0) (rises : ℕ → Type 0) (old new : Option (List ℕ)) (input : List ℕ) : Type 0 where
   pub output : List ℕ
-  pub accounts : Accounts members may loads leaves (lines_of input) output
+  pub accounts : Accounts members may loads leaves rises (lines_of input) output
   pub gained : Appends old new output
 
 -- the sink gained what the first so many lines of the input came to
-pub record ReplaysTaken (members : MembersOf) (may : ℕ → Bool) (loads : List Batch → Type 0) (leaves : State → Type 0) (old new : Option (List ℕ)) (input : List ℕ) : Type 0 where
+pub record ReplaysTaken (members : MembersOf) (may : ℕ → Bool) (loads : List Batch → Type 0) (leaves : State → Type 0) (rises : ℕ → Type 0) (old new : Option (List ℕ)) (input : List ℕ) : Type 0 where
   pub taken : ℕ
   pub output : List ℕ
-  pub accounts : Accounts members may loads leaves (take taken (lines_of input)) output
+  pub accounts : Accounts members may loads leaves rises (take taken (lines_of input)) output
   pub gained : Appends old new output
 
 -- the sink gained a front of what the first so many lines of the input came to
-pub record ReplaysFront (members : MembersOf) (may : ℕ → Bool) (loads : List Batch → Type 0) (leaves : State → Type 0) (old new : Option (List ℕ)) (input : List ℕ) : Type 0 where
+pub record ReplaysFront (members : MembersOf) (may : ℕ → Bool) (loads : List Batch → Type 0) (leaves : State → Type 0) (rises : ℕ → Type 0) (old new : Option (List ℕ)) (input : List ℕ) : Type 0 where
   pub taken : ℕ
   pub output : List ℕ
   pub rest : List ℕ
-  pub accounts : Accounts members may loads leaves (take taken (lines_of input)) (output ++ rest)
+  pub accounts : Accounts members may loads leaves rises (take taken (lines_of input)) (output ++ rest)
   pub gained : Appends old new output
 
 -- ---- a line
@@ -60,17 +62,19 @@ abbrev pub IsDue : Result (Vec ℕ) Memory → List ℕ → Type 0
 IsDue (Ok bytes) line = line ≡ bytes.items
 IsDue (Err none) line = Unit {0}
 
--- line k came to a state, and the sink gained its reply
-pub record LinePrints (members : MembersOf) (may : ℕ → Bool) (s : State) (k : ℕ) (bytes : List ℕ) (t : State) (old new : Option (List ℕ)) : Type 0 where
+-- line k came to a state, the sink gained its reply, and a failure of the disk that it tells was counted
+pub record LinePrints (members : MembersOf) (may : ℕ → Bool) (s : State) (k : ℕ) (bytes : List ℕ) (t : State) (old new : Option (List ℕ)) (before after : ℕ) : Type 0 where
   pub reply : List ℕ
   pub line : BuiltLine members may s k bytes reply t
+  pub counted : IsCounted k reply before after
   pub gained : Appends old new (reply ++ 10 ∷ [])
 
--- line k came to a state, which is left, and the sink gained a front of its reply
-pub record LineFront (members : MembersOf) (may : ℕ → Bool) (s : State) (k : ℕ) (bytes : List ℕ) (leaves : State → Type 0) (old new : Option (List ℕ)) : Type 0 where
+-- line k came to a state, which is left, the sink gained a front of its reply, and a failure of the disk that it tells was counted
+pub record LineFront (members : MembersOf) (may : ℕ → Bool) (s : State) (k : ℕ) (bytes : List ℕ) (leaves : State → Type 0) (old new : Option (List ℕ)) (before after : ℕ) : Type 0 where
   pub reply : List ℕ
   pub state : State
   pub line : BuiltLine members may s k bytes reply state
+  pub counted : IsCounted k reply before after
   pub left : leaves state
   pub front : GainsFront old new (reply ++ 10 ∷ [])
 
@@ -80,45 +84,47 @@ pub record LineLost (s : State) (leaves : State → Type 0) (old new : Option (L
   pub kept : Keeps old new
 
 -- a line stopped a run so
-abbrev pub LineStops : MembersOf → (ℕ → Bool) → State → ℕ → List ℕ → (State → Type 0) → Stop → (old new : Option (List ℕ)) → Type 0
-LineStops members may s k bytes leaves (stop.Lost f) old new = LineLost s leaves old new
-LineStops members may s k bytes leaves stop.ReadFault old new = ⊥
-LineStops members may s k bytes leaves stop.TooMuch old new = ⊥
-LineStops members may s k bytes leaves (stop.Unopened f) old new = ⊥
-LineStops members may s k bytes leaves stop.SinkFault old new = LineFront members may s k bytes leaves old new
-LineStops members may s k bytes leaves stop.Memory old new = LineFront members may s k bytes leaves old new
+abbrev pub LineStops : MembersOf → (ℕ → Bool) → State → ℕ → List ℕ → (State → Type 0) → Stop → (old new : Option (List ℕ)) → (before after : ℕ) → Type 0
+LineStops members may s k bytes leaves (stop.Lost f) old new before after = LineLost s leaves old new
+LineStops members may s k bytes leaves stop.ReadFault old new before after = ⊥
+LineStops members may s k bytes leaves stop.TooMuch old new before after = ⊥
+LineStops members may s k bytes leaves (stop.Unopened f) old new before after = ⊥
+LineStops members may s k bytes leaves stop.SinkFault old new before after = LineFront members may s k bytes leaves old new before after
+LineStops members may s k bytes leaves stop.Memory old new before after = LineFront members may s k bytes leaves old new before after
 
 -- ---- a piece of the input
 
--- A piece of the input, where the next line is line k, came to a state and the next line to line n, and the sink gained what it printed.
-pub record PiecePrints (members : MembersOf) (may : ℕ → Bool) (s : State) (k : ℕ) (piece : List ℕ) (t : State) (n : ℕ) (old new : Option (List ℕ)) : Type 0 where
+-- A piece of the input, where the next line is line k, came to a state and the next line to line n, the sink gained what it printed, and the faults that it tells were counted.
+pub record PiecePrints (members : MembersOf) (may : ℕ → Bool) (s : State) (k : ℕ) (piece : List ℕ) (t : State) (n : ℕ) (old new : Option (List ℕ)) (before after : ℕ) : Type 0 where
   pub output : List ℕ
   pub runs : PieceRuns members may s k piece output t
   pub many : n ≡ k + length (lines_at 0 piece)
   pub gained : Appends old new output
+  pub rose : RoseBy before after (faults_from k output)
 
--- a piece of the input came to a state, which is left, and the sink gained a front of what it prints
-pub record PieceFront (members : MembersOf) (may : ℕ → Bool) (s : State) (k : ℕ) (piece : List ℕ) (leaves : State → Type 0) (old new : Option (List ℕ)) : Type 0 where
+-- a piece of the input came to a state, which is left, the sink gained a front of what it prints, and the faults that this tells were counted
+pub record PieceFront (members : MembersOf) (may : ℕ → Bool) (s : State) (k : ℕ) (piece : List ℕ) (leaves : State → Type 0) (old new : Option (List ℕ)) (before after : ℕ) : Type 0 where
   pub output : List ℕ
   pub rest : List ℕ
   pub state : State
   pub runs : PieceRuns members may s k piece (output ++ rest) state
   pub left : leaves state
   pub gained : Appends old new output
+  pub rose : RoseBy before after (faults_from k (output ++ rest))
 
 -- a piece of the input stopped a run so
-abbrev pub PieceStops : MembersOf → (ℕ → Bool) → State → ℕ → List ℕ → (State → Type 0) → Stop → (old new : Option (List ℕ)) → Type 0
-PieceStops members may s k piece leaves (stop.Lost f) old new = LineLost s leaves old new
-PieceStops members may s k piece leaves stop.ReadFault old new = ⊥
-PieceStops members may s k piece leaves stop.TooMuch old new = ⊥
-PieceStops members may s k piece leaves (stop.Unopened f) old new = ⊥
-PieceStops members may s k piece leaves stop.SinkFault old new = PieceFront members may s k piece leaves old new
-PieceStops members may s k piece leaves stop.Memory old new = PieceFront members may s k piece leaves old new
+abbrev pub PieceStops : MembersOf → (ℕ → Bool) → State → ℕ → List ℕ → (State → Type 0) → Stop → (old new : Option (List ℕ)) → (before after : ℕ) → Type 0
+PieceStops members may s k piece leaves (stop.Lost f) old new before after = LineLost s leaves old new
+PieceStops members may s k piece leaves stop.ReadFault old new before after = ⊥
+PieceStops members may s k piece leaves stop.TooMuch old new before after = ⊥
+PieceStops members may s k piece leaves (stop.Unopened f) old new before after = ⊥
+PieceStops members may s k piece leaves stop.SinkFault old new before after = PieceFront members may s k piece leaves old new before after
+PieceStops members may s k piece leaves stop.Memory old new before after = PieceFront members may s k piece leaves old new before after
 
 -- ---- on the way
 
--- Before what is left of the input stand lines that were taken: they print what the sink gained, and make a state.
-pub record RunUpto (members : MembersOf) (may : ℕ → Bool) (loaded : List Batch) (old new : Option (List ℕ)) (k : ℕ) (s : State) (input left : List ℕ) : Type 0 where
+-- Before what is left of the input stand lines that were taken: they print what the sink gained, and make a state, and the faults that they tell were counted.
+pub record RunUpto (members : MembersOf) (may : ℕ → Bool) (loaded : List Batch) (old new : Option (List ℕ)) (before after : ℕ) (k : ℕ) (s : State) (input left : List ℕ) : Type 0 where
   pub round : ℕ
   pub in_round : ℕ
   pub given : List Numbered
@@ -127,3 +133,4 @@ pub record RunUpto (members : MembersOf) (may : ℕ → Bool) (loaded : List Bat
   pub replies : BuiltReplies members may (opened loaded) 0 given output s
   pub many : k ≡ length given
   pub gained : Appends old new output
+  pub rose : RoseBy before after (faults_told output)

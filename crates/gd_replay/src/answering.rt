@@ -7,6 +7,7 @@ ghost use Rattle.gd_input.specs.Line.{IsKept, IsShort};
 ghost use Rattle.gd_writer.specs.Parts.{Tells};
 ghost use Rattle.gd_replay_laws.specs.Built.{Takes};
 ghost use Rattle.gd_replay_laws.specs.Runs.{BuiltLine, IsBounded, AreBelow};
+ghost use Rattle.gd_replay_laws.specs.Faults.{IsCounted};
 ghost use Rattle.gd_sessions.specs.Running.{core_state, Answers, GoesBy};
 ghost use Rattle.gd_replay.specs.Stops.{GoesAlong, IsLost};
 
@@ -45,7 +46,8 @@ fn carry<R: Wait, D: Disk, C: Clock, L>(
     requires bounded { IsBounded (event_view event) }
     requires below { AreBelow line (core_state running) }
     ensures takes { IfOk result (λ both. Tells (D.content running.side.log.disk) → (members : MembersOf)
-        → Answers (λ reply. Takes members (C.may running.side.clock) (core_state running) line bytes (event_view event) reply (core_state both.0)) both.1) }
+        → Answers (λ reply. Takes members (C.may running.side.clock) (core_state running) line bytes (event_view event) reply (core_state both.0)
+        × IsCounted line reply (D.faults running.side.log.disk) (D.faults both.0.side.log.disk)) both.1) }
     ensures below { IfOk result (λ both. AreBelow (line + 1) (core_state both.0)) }
     ensures along { IfOk result (λ both. GoesAlong D.content D.faults C.may running.side both.0.side) }
     ensures lost { IfErr result (λ lost. IsLost D.content D.images D.faults running.side.log.disk (core_state running) lost.0 lost.1) }
@@ -71,7 +73,8 @@ pub(crate) fn answer<R: Wait, D: Disk, C: Clock, L>(
     requires short { IsShort text }
     requires below { AreBelow line (core_state running) }
     ensures answers { IfOk result (λ both. Tells (D.content running.side.log.disk) → (members : MembersOf) (piece : List ℕ) → IsKept 262_144 text piece
-        → Answers (λ reply. BuiltLine members (C.may running.side.clock) (core_state running) line piece reply (core_state both.0)) both.1) }
+        → Answers (λ reply. BuiltLine members (C.may running.side.clock) (core_state running) line piece reply (core_state both.0)
+        × IsCounted line reply (D.faults running.side.log.disk) (D.faults both.0.side.log.disk)) both.1) }
     ensures below { IfOk result (λ both. AreBelow (line + 1) (core_state both.0)) }
     ensures along { IfOk result (λ both. GoesAlong D.content D.faults C.may running.side both.0.side) }
     ensures lost { IfErr result (λ lost. IsLost D.content D.images D.faults running.side.log.disk (core_state running) lost.0 lost.1) }

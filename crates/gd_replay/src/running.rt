@@ -76,11 +76,13 @@ fn take_line<R: Wait, D: Disk, K: Sink, C: Clock, L>(
     requires short { IsShort text }
     requires below { AreBelow line (core_state running) }
     ensures prints { IfOk result (λ next. Tells (D.content running.side.log.disk) → (members : MembersOf) (bytes : List ℕ) → IsKept 262_144 text bytes
-        → LinePrints members (C.may running.side.clock) (core_state running) line bytes (core_state next) (K.held sink.old) (K.held sink.new)) }
+        → LinePrints members (C.may running.side.clock) (core_state running) line bytes (core_state next) (K.held sink.old) (K.held sink.new)
+        (D.faults running.side.log.disk) (D.faults next.side.log.disk)) }
     ensures below { IfOk result (λ next. AreBelow (line + 1) (core_state next)) }
     ensures along { IfOk result (λ next. GoesAlong D.content D.faults C.may running.side next.side) }
     ensures stops { IfErr result (λ halt. Tells (D.content running.side.log.disk) → (members : MembersOf) (bytes : List ℕ) → IsKept 262_144 text bytes
-        → LineStops members (C.may running.side.clock) (core_state running) line bytes (Leaves (D.images halt.1)) halt.0 (K.held sink.old) (K.held sink.new)) }
+        → LineStops members (C.may running.side.clock) (core_state running) line bytes (Leaves (D.images halt.1)) halt.0 (K.held sink.old) (K.held sink.new)
+        (D.faults running.side.log.disk) (D.faults halt.1)) }
     ensures caused { IfErr result (λ halt. IsCaused halt.0 (Rose (K.faults sink.old) (K.faults sink.new)) (Rose (D.faults running.side.log.disk) (D.faults halt.1))) }
     ensures kept { IfErr result (λ halt. Tells (D.content running.side.log.disk)
         → KeepsAs (Err halt.0) (HasBatches (D.content halt.1) (D.images halt.1) (batches running.side.history)) (λ _. ⊥)) }
@@ -108,12 +110,14 @@ pub(crate) fn take_piece<R: Wait, D: Disk, K: Sink, C: Clock, L>(
     requires short { IsShort piece }
     requires below { AreBelow line (core_state running) }
     ensures prints { IfOk result (λ both. Tells (D.content running.side.log.disk) → (members : MembersOf) (bytes : List ℕ) → IsKept 262_144 piece bytes
-        → PiecePrints members (C.may running.side.clock) (core_state running) line bytes (core_state both.0) both.1 (K.held sink.old) (K.held sink.new)) }
+        → PiecePrints members (C.may running.side.clock) (core_state running) line bytes (core_state both.0) both.1 (K.held sink.old) (K.held sink.new)
+        (D.faults running.side.log.disk) (D.faults both.0.side.log.disk)) }
     ensures below { IfOk result (λ both. AreBelow both.1 (core_state both.0)) }
     ensures few { IfOk result (λ both. both.1 ≤ line + 1) }
     ensures along { IfOk result (λ both. GoesAlong D.content D.faults C.may running.side both.0.side) }
     ensures stops { IfErr result (λ halt. Tells (D.content running.side.log.disk) → (members : MembersOf) (bytes : List ℕ) → IsKept 262_144 piece bytes
-        → PieceStops members (C.may running.side.clock) (core_state running) line bytes (Leaves (D.images halt.1)) halt.0 (K.held sink.old) (K.held sink.new)) }
+        → PieceStops members (C.may running.side.clock) (core_state running) line bytes (Leaves (D.images halt.1)) halt.0 (K.held sink.old) (K.held sink.new)
+        (D.faults running.side.log.disk) (D.faults halt.1)) }
     ensures caused { IfErr result (λ halt. IsCaused halt.0 (Rose (K.faults sink.old) (K.faults sink.new)) (Rose (D.faults running.side.log.disk) (D.faults halt.1))) }
     ensures kept { IfErr result (λ halt. Tells (D.content running.side.log.disk)
         → KeepsAs (Err halt.0) (HasBatches (D.content halt.1) (D.images halt.1) (batches running.side.history)) (λ _. ⊥)) }

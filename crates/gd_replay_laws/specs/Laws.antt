@@ -1,11 +1,13 @@
 -- The laws of a run of events.
-use Rattle.std.specs.Prelude.{◌≡◌, ℕ, ◌+◌, List, ◌++◌, length, Bool, Ok}
+use Rattle.std.specs.Prelude.{◌≡◌, ℕ, ◌+◌, List, ◌++◌, length, Bool, false, Ok}
 use Rattle.gd_prim.specs.declared.Batch.{Batch}
 use Rattle.gd_runs.specs.Owed.{MembersOf}
-use Rattle.gd_runs.specs.Explained.{Numbered, lines_of}
-use Rattle.gd_runs.specs.Core.{Event, State, opened}
+use Rattle.gd_defs.specs.Write.{WriteRequest}
+use Rattle.gd_runs.specs.Explained.{Numbered, lines_of, tells_fault}
+use Rattle.gd_runs.specs.Core.{Event, write, State, opened}
 use Rattle.gd_runs.specs.Replay.{event_from, Replays}
 use Rattle.gd_replay_laws.specs.Runs.{BuiltLine, BuiltReplies, IsBounded, AreBelow, AreBuilt}
+use Rattle.gd_replay_laws.specs.Faults.{faults_from}
 
 -- A run of lines and a run of the lines behind them are a run.
 abbrev pub RunsFollow : Type 0
@@ -24,3 +26,13 @@ BuiltRunsAreReplays = (members : MembersOf) (may : ℕ → Bool) (loaded : List 
 -- The session of an event that bytes spell is one of 64, and its budget one that there may be.
 abbrev pub EventsAreBounded : Type 0
 EventsAreBounded = (bytes : List ℕ) (e : Event) → event_from bytes ≡ Ok e → IsBounded e
+
+-- Only the reply to a write tells a failure of the disk.
+abbrev pub OnlyWritesTellFaults : Type 0
+OnlyWritesTellFaults = (members : MembersOf) (may : ℕ → Bool) (s t : State) (k : ℕ) (bytes reply : List ℕ) → ((i : ℕ) (w : WriteRequest) → event_from bytes ≡ Ok (write i w) → ⊥) → BuiltLine members may s k bytes reply t
+    → tells_fault k reply ≡ false
+
+-- The failures that a run tells and those that are told behind it add up.
+abbrev pub FaultsAddUp : Type 0
+FaultsAddUp = (members : MembersOf) (may : ℕ → Bool) (s t : State) (k : ℕ) (given : List Numbered) (output rest : List ℕ) → BuiltReplies members may s k given output t
+    → faults_from k (output ++ rest) ≡ faults_from k output + faults_from (k + length given) rest

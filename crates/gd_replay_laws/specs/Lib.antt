@@ -1,3 +1,4 @@
 pub mod Built
 pub mod Runs
+pub mod Faults
 pub mod Laws

@@ -2,7 +2,7 @@
 //! whoever calls it may use the law, and code above cites its statement from `specs/Laws.antt`.
 #![tactic(auto)]
 
-ghost use Rattle.gd_replay_laws.specs.Laws.{LinesStayBelow, RunsFollow, BuiltRunsAreReplays, EventsAreBounded};
+ghost use Rattle.gd_replay_laws.specs.Laws.{LinesStayBelow, RunsFollow, BuiltRunsAreReplays, EventsAreBounded, OnlyWritesTellFaults, FaultsAddUp};
 
 /// A run of lines and a run of the lines behind them are a run.
 pub fn runs_follow()
@@ -22,4 +22,14 @@ pub fn built_runs_are_replays()
 /// The session of an event is one of 64, and the budget of a slice one that there may be.
 pub fn events_are_bounded()
     ensures { EventsAreBounded }
+{}
+
+/// The reply to a line tells a failure of the disk only where the line is a write.
+pub fn only_writes_tell_faults()
+    ensures { OnlyWritesTellFaults }
+{}
+
+/// As many lines of two outputs, one behind the other, tell a failure of the disk as of both.
+pub fn faults_add_up()
+    ensures { FaultsAddUp }
 {}

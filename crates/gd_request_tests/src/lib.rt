@@ -15,8 +15,6 @@ mod reply;
 #[cfg(test)]
 mod resolve;
 #[cfg(test)]
-mod serving;
-#[cfg(test)]
 mod suspended;
 #[cfg(test)]
 mod templates;

@@ -18,6 +18,7 @@ use std::alloc::Global;
 use std::io::{self, BufRead, BufReader, BufWriter, Write};
 use std::process::ExitCode;
 use std::sync::Wait;
+use std::thread::Threads;
 
 /// Takes a line of a text: a new case, or a line of the last one.
 fn take(alloc: Global, cases: &mut Vec<Case>, line: &str) -> Result<(), Trouble> {
@@ -41,7 +42,7 @@ fn cases<R: BufRead + Drop>(alloc: Global, text: R) -> Result<Vec<Case>, Trouble
 }
 
 /// Runs cases, one after another.
-fn run<R: Wait, W: Write>(
+fn run<R: Threads + Wait + Sync, W: Write>(
     rt: &R,
     alloc: Global,
     cases: &[Case],
@@ -56,7 +57,7 @@ fn run<R: Wait, W: Write>(
 }
 
 /// The cases of standard input, on standard output.
-fn run_all(rt: &(impl Input + Print + AllocGlobal + Wait)) -> Result<(), Trouble> {
+fn run_all(rt: &(impl Input + Print + AllocGlobal + Threads + Wait + Sync)) -> Result<(), Trouble> {
     let cases = cases(rt.alloc(), BufReader::new(rt.alloc(), rt.reader())?)?;
     let mut out = BufWriter::new(rt.alloc(), io::writer(rt))?;
     run(rt, rt.alloc(), &cases, &mut out)

@@ -10,10 +10,12 @@ use gd_disk::memory_disk::MemoryDisk;
 use gd_disk::memory_shelf::MemoryShelf;
 use gd_disk::shelf::{Shelf, ShelfFault};
 use gd_outside::clock::FixedClock;
+use gd_outside::gate::OpenGate;
 use gd_top::serve::graphd;
 use gd_top::status::Status;
 use std::alloc::Global;
 use std::sync::Wait;
+use std::thread::Threads;
 
 /// How often source, sink and shelf failed.
 #[derive(Clone, Copy)]
@@ -58,7 +60,11 @@ fn bytes_at(alloc: Global, shelf: &mut MemoryShelf, path: &Text) -> Result<Vec<u
 }
 
 /// Runs a case.
-pub(crate) fn serve<R: Wait>(rt: &R, alloc: Global, case: &Case) -> Result<Served, Trouble> {
+pub(crate) fn serve<R: Threads + Wait + Sync>(
+    rt: &R,
+    alloc: Global,
+    case: &Case,
+) -> Result<Served, Trouble> {
     let setting = &case.setting;
     let path = Text::of(alloc, PATH)?;
     let mut source = Giving::new(alloc, case)?;
@@ -72,6 +78,7 @@ pub(crate) fn serve<R: Wait>(rt: &R, alloc: Global, case: &Case) -> Result<Serve
         &mut sink,
         &mut shelf,
         FixedClock::new(setting.clock),
+        &OpenGate,
     );
     let faults = Faults {
         source: source.faults(),

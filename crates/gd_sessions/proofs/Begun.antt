@@ -11,7 +11,7 @@ use Rattle.gd_sessions.specs.Sessions.{in_session, BeginsAs}
 use Rattle.gd_sessions.specs.Held.{GoesOn}
 use Rattle.gd_sessions.proofs.Fronts.{front_reading}
 
-pub from_front : (bs : List Batch) (n : ℕ) (r : ReadRequest) → n ≤ length bs → reading_of (take n bs) (length (take n bs)) r ≡ reading_of bs n r
+from_front : (bs : List Batch) (n : ℕ) (r : ReadRequest) → n ≤ length bs → reading_of (take n bs) (length (take n bs)) r ≡ reading_of bs n r
 from_front bs n r long = ap (λ (m : ℕ). reading_of (take n bs) m r) (length-take-le n bs long) ∙ front_reading bs n r
 
 -- a reading that begins over the front

@@ -11,5 +11,3 @@ pub mod One
 pub mod Goes
 pub mod Opened
 pub mod Left
-pub mod Answered
-pub mod Lined

@@ -1,8 +1,9 @@
 -- What an event of a session does to a core.
-use Rattle.std.proofs.Common.{◌≡◌, ℕ, ◌+◌, ◌<◌, ◌≤◌, List, [], ◌++◌, length, Bool, Option, None, Result, Ok, Err, IfOk, OnErr, ◌⊎◌, inl, inr, ⊎_elim, refl, sym, ap, subst, ◌∙◌, arith}
+use Rattle.std.proofs.Common.{◌≡◌, ℕ, ◌+◌, ◌<◌, ◌≤◌, List, [], ◌++◌, length, Bool, true, Option, None, Result, Ok, Err, IfOk, OnErr, ◌⊎◌, inl, inr, ⊎_elim, refl, sym, ap, subst, ◌∙◌, arith}
 use Rattle.std.specs.Prelude.{get_or, set}
 use Rattle.std.specs.Global.{Vec}
 use Rattle.std.specs.List.{AllByRecursion}
+use Rattle.gd_base.specs.Counts.{Rose}
 use Rattle.gd_base.specs.declared.memory.Memory.{Memory}
 use Rattle.gd_runs.specs.Explained.{memory_line}
 use Rattle.std.proofs.lemmas.List.{length-set}
@@ -12,9 +13,11 @@ use Rattle.gd_runs.specs.Owed.{MembersOf}
 use Rattle.gd_runs.specs.Legal.{batches, size}
 use Rattle.gd_runs.specs.Request.{ReadRequest}
 use Rattle.gd_runs.specs.Core.{Session, State, with_session, entered, BeginStep, SliceStep, LearnStep, WriteStep}
-use Rattle.gd_runs.specs.Side.{Kept, kept_stored, kept_late, kept_refused, kept_doubt, kept_unsettled, kept_memory, WriteKeeps, lacks_memory}
+use Rattle.gd_runs.specs.Side.{Kept, kept_stored, kept_late, kept_refused, kept_doubt, kept_unsettled, kept_memory, WriteKeeps, lacks_memory, is_fault}
 use Rattle.gd_runs.proofs.Rounds.{length_batches}
 use Rattle.gd_core_laws.specs.Round.{kept_reply}
+use Rattle.gd_replay_laws.specs.Faults.{IsCounted}
+use Rattle.gd_replay_laws.proofs.Faults.{quiet_counted}
 use Rattle.gd_core_laws.proofs.Laws.{kept_writes_are_steps}
 use Rattle.gd_writer.specs.Side.{SideValue, state_of}
 use Rattle.gd_sessions.specs.declared.held.Held.{Held}
@@ -30,6 +33,15 @@ use Rattle.gd_sessions.proofs.Told.{at_session, told_state}
 -- a session that holds the same reading
 same_reading : (bs : List Batch) (shown : ℕ) (before after : Held) → after.reading ≡ before.reading → HoldsGoing bs shown before → HoldsGoing bs shown after
 same_reading bs shown before after same holds = rw same holds
+
+-- the reply to a write tells a failure of the disk only where one is kept
+kept_counted : (k : ℕ) (kept : Kept) (before after : ℕ) → (is_fault kept ≡ true → Rose before after) → IsCounted k (kept_reply k kept) before after
+kept_counted k (kept_stored e r) before after cause = quiet_counted k (kept_reply k (kept_stored e r)) before after refl
+kept_counted k (kept_late e) before after cause = quiet_counted k (kept_reply k (kept_late e)) before after refl
+kept_counted k (kept_refused f n) before after cause = quiet_counted k (kept_reply k (kept_refused f n)) before after refl
+kept_counted k (kept_doubt n) before after cause = λ tells. cause refl
+kept_counted k kept_unsettled before after cause = λ tells. cause refl
+kept_counted k kept_memory before after cause = quiet_counted k (kept_reply k kept_memory) before after refl
 
 module _ {D C : Type 0} (side : SideValue D C) (hs : List Held) (i : ℕ) (before after : Held) (lt : i < length hs) (is : before ≡ get_or hs i before) where
   abbrev old_state : State
@@ -124,10 +136,16 @@ module _ {D C : Type 0} (side : SideValue D C) (hs : List Held) (i : ℕ) (befor
       }
 
   pub writes_ok : (new : SideValue D C) (may : ℕ → Bool) (faults : D → ℕ) (k bytes : ℕ) (w : WriteRequest) (result : Result (Vec ℕ) Memory) → WritesFor may faults side k bytes w new before after result
-      → Answers (λ reply. WriteStep may old_state k bytes i w reply (state_of new (sessions_of (set hs i after)))) result
-  writes_ok new may faults k bytes w (Ok reply) does =
-      subst (λ (line : List ℕ). WriteStep may old_state k bytes i w line (state_of new (sessions_of (set hs i after)))) (sym does.reply) (run_writes new may k bytes w does.kept does.step does.told)
-  writes_ok new may faults k bytes w (Err e) does = (kept_reply k does.kept, run_writes new may k bytes w does.kept does.step does.told)
+      → Answers (λ reply. WriteStep may old_state k bytes i w reply (state_of new (sessions_of (set hs i after))) × IsCounted k reply (faults side.log.disk) (faults new.log.disk)) result
+  writes_ok new may faults k bytes w result does = by result does.reply
+    where
+      due : WriteStep may old_state k bytes i w (kept_reply k does.kept) (state_of new (sessions_of (set hs i after))) × IsCounted k (kept_reply k does.kept) (faults side.log.disk) (faults new.log.disk)
+      due = (run_writes new may k bytes w does.kept does.step does.told, kept_counted k does.kept (faults side.log.disk) (faults new.log.disk) does.fault)
+
+      by : (r : Result (Vec ℕ) Memory) → IfOk r (λ reply. reply.items ≡ kept_reply k does.kept)
+          → Answers (λ reply. WriteStep may old_state k bytes i w reply (state_of new (sessions_of (set hs i after))) × IsCounted k reply (faults side.log.disk) (faults new.log.disk)) r
+      by (Ok reply) is = subst (λ (line : List ℕ). WriteStep may old_state k bytes i w line (state_of new (sessions_of (set hs i after))) × IsCounted k line (faults side.log.disk) (faults new.log.disk)) (sym is) due
+      by (Err e) is = (kept_reply k does.kept, due)
 
   pub writes_keeps : (new : SideValue D C) (may : ℕ → Bool) (faults : D → ℕ) (k bytes : ℕ) (w : WriteRequest) (result : Result (Vec ℕ) Memory) → length side.shown ≤ length (batches side.history) → IsRunning side hs
       → WritesFor may faults side k bytes w new before after result → IsRunning new (set hs i after)

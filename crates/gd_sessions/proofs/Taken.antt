@@ -7,6 +7,8 @@ use Rattle.gd_runs.specs.Owed.{MembersOf}
 use Rattle.gd_runs.specs.Core as core
 use Rattle.gd_runs.specs.Core.{Event, State}
 use Rattle.gd_replay_laws.specs.Built.{Takes, IsUnbuilt, unbuilt_line}
+use Rattle.gd_replay_laws.specs.Faults.{IsCounted, IsNoWrite}
+use Rattle.gd_replay_laws.proofs.Faults.{takes_quiet, quiet_counted}
 use Rattle.gd_sessions.specs.Running.{Answers, OrMemory}
 
 -- the reply of a call, or want of memory for it
@@ -52,3 +54,10 @@ answers_more P Q (Err e) more (line, given) = (line, more line given)
 pub lacks_answers : (P : List ℕ → Type 0) (k : ℕ) (result : Result (Vec ℕ) Memory) → P (memory_line k) → IfOk result (λ bytes. bytes.items ≡ memory_line k) → Answers P result
 lacks_answers P k (Ok bytes) none told = subst P (sym told) none
 lacks_answers P k (Err e) none told = (memory_line k, none)
+
+-- an event that is no write: its reply tells no failure of the disk
+pub answers_quiet : (members : MembersOf) (may : ℕ → Bool) (s : State) (k bytes : ℕ) (e : Event) (t : State) (before after : ℕ) (result : Result (Vec ℕ) Memory) → IsNoWrite e → Answers (λ line. Takes members may s k bytes e line t) result
+    → Answers (λ line. Takes members may s k bytes e line t × IsCounted k line before after) result
+answers_quiet members may s k bytes e t before after result other =
+    answers_more (λ line. Takes members may s k bytes e line t) (λ line. Takes members may s k bytes e line t × IsCounted k line before after) result
+    (λ line taken. (taken, quiet_counted k line before after (takes_quiet k members may s bytes e line t other taken)))

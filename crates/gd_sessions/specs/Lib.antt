@@ -3,4 +3,3 @@ pub mod Held
 pub mod Writes
 pub mod Running
 pub mod Opened
-pub mod Served

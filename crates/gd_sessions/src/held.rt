@@ -42,7 +42,7 @@ impl Held {
     }
 
     /// The session has entered where so much is shown, and its reading has ended.
-    pub(crate) fn finish(&mut self, shown: u32)
+    fn finish(&mut self, shown: u32)
         ensures { self.new ≡ record { seen = shown; reading = None } }
     {
         self.seen = shown;

@@ -2,8 +2,6 @@
 #![tactic(auto)]
 
 mod held;
-pub mod line_reply;
 mod lines;
 pub mod running;
-mod serving;
 mod writing;

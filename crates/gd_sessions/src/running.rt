@@ -5,7 +5,6 @@ ghost use Rattle.std.specs.Option.{ForSome};
 ghost use Rattle.gd_base.specs.Counts.{Rose};
 ghost use Rattle.gd_bytes.specs.File.{meaning};
 ghost use Rattle.gd_log.specs.Opening.{Refuses};
-ghost use Rattle.gd_runs.specs.Explained.{tells_fault};
 ghost use Rattle.gd_runs.specs.Legal.{batches};
 ghost use Rattle.gd_runs.specs.Owed.{MembersOf};
 ghost use Rattle.gd_events.specs.Events.{event_view};
@@ -18,10 +17,9 @@ ghost use Rattle.gd_writer.specs.Parts.{Tells};
 ghost use Rattle.gd_writer.specs.Side.{KeepsAll, GoesOn, Begins};
 ghost use Rattle.gd_sessions.specs.Opened.{IsNew, Opens};
 ghost use Rattle.gd_replay_laws.specs.Built.{Takes, IsUnbuilt};
+ghost use Rattle.gd_replay_laws.specs.Faults.{IsCounted};
 ghost use Rattle.gd_sessions.specs.Held.{session_view, sessions_of};
 ghost use Rattle.gd_sessions.specs.Running.{core_state, StandsForState, Answers, OrMemory, MayTake, GoesBy};
-
-mod served;
 
 use crate::held::Held;
 use crate::lines::{memory_line, said, unbuilt_line};
@@ -39,7 +37,7 @@ use std::marker::Model;
 use std::sync::Wait;
 
 /// How many sessions there are, counted from 0.
-pub(crate) const SESSIONS: u32 = 64;
+const SESSIONS: u32 = 64;
 
 /// A core that is open, on one thread: what is stored, how much of it is shown, the write in doubt, and what each session
 /// has seen and reads. It is ended by `close` alone. Contracts see its write side and its sessions, and by `core_state` the
@@ -301,9 +299,9 @@ impl<D: Disk, C: Clock> Running<D, C> {
         requires bytes { bytes ≤ 262_144 }
         requires sid { sid < SESSIONS }
         requires fresh { IsFresh self.old.side.history self.old.side.doubt line }
-        ensures step { Answers (λ reply. WriteStep (C.may self.old.side.clock) (core_state self.old) line bytes sid (write_view request.now) reply (core_state self.new)) result }
+        ensures step { Answers (λ reply. WriteStep (C.may self.old.side.clock) (core_state self.old) line bytes sid (write_view request.now) reply (core_state self.new)
+            × IsCounted line reply (D.faults self.old.side.log.disk) (D.faults self.new.side.log.disk)) result }
         ensures goes { GoesOn D.content D.moment D.images D.images_since D.faults C.may self.old.side self.new.side }
-        ensures fault { IfOk result (λ reply. tells_fault line reply.items ≡ true → Rose (D.faults self.old.side.log.disk) (D.faults self.new.side.log.disk)) }
     {
         // It is said here that what is shown is a front of what is stored.
         let _shown = shown_of(&self.side);
@@ -396,7 +394,11 @@ impl<D: Disk, C: Clock> Running<D, C> {
         requires bytes { bytes ≤ 262_144 }
         requires may { MayTake self.old.side.history self.old.side.doubt line (event_view event) }
         requires goes_by { GoesBy (event_view event) }
-        ensures takes { (members : MembersOf) → Answers (λ reply. Takes members (C.may self.old.side.clock) (core_state self.old) line bytes (event_view event) reply (core_state self.new)) result }
+
+        // The reply and the new state are what the event comes to, and the reply tells a failure of the disk only where the
+        // disk's count rose.
+        ensures takes { (members : MembersOf) → Answers (λ reply. Takes members (C.may self.old.side.clock) (core_state self.old) line bytes (event_view event) reply (core_state self.new)
+            × IsCounted line reply (D.faults self.old.side.log.disk) (D.faults self.new.side.log.disk)) result }
 
         // What the disk holds stays what the core has; a stop leaves what it had before or has after.
         ensures goes { GoesOn D.content D.moment D.images D.images_since D.faults C.may self.old.side self.new.side }

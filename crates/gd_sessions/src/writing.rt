@@ -51,12 +51,7 @@ fn reason(fault: ChangeFault) -> Refusal
 }
 
 /// The reply line to a write that was refused over so many requests.
-pub(crate) fn refused_line(
-    alloc: Global,
-    line: u64,
-    fault: ChangeFault,
-    at: u32,
-) -> Result<Vec<u8>, Memory>
+fn refused_line(alloc: Global, line: u64, fault: ChangeFault, at: u32) -> Result<Vec<u8>, Memory>
     requires line { line < 2 ^ 63 }
     requires small { IsSmall fault }
     requires memory { fault ≢ ChangeFault.Memory }
@@ -82,7 +77,7 @@ fn kept_line(alloc: Global, line: u64, outcome: Outcome) -> Result<Vec<u8>, Memo
 }
 
 /// The session has seen the entry, where one is stored and shown.
-pub(crate) fn see_kept(held: &mut Held, shown: u32, outcome: &Outcome)
+fn see_kept(held: &mut Held, shown: u32, outcome: &Outcome)
     requires { IsShown shown (kept_view outcome.now) }
     ensures { IsToldKept (kept_view outcome.now) shown held.old held.new }
 {

@@ -2,7 +2,7 @@
 use gd_words::help::help_text;
 
 /// What the help names.
-static NAMED: [&str; 5] = ["serve", "--file", "--workers", "--budget", "no effect yet"];
+static NAMED: [&str; 5] = ["serve", "--file", "--workers", "--budget", "threads"];
 
 /// Whether the help names it all, in few lines.
 fn helps(text: &str) -> bool {

@@ -11,8 +11,7 @@ use Rattle.gd_input.specs.Rounds.{AreKept, TakesRound}
 use Rattle.gd_prim.specs.Builtin.{builtin}
 use Rattle.gd_prim.specs.WellFormed.{all_follow}
 use Rattle.gd_runs.specs.Core.{State, opened}
-use Rattle.gd_sessions.specs.Running.{core_state}
-use Rattle.gd_rounds.specs.Served.{RoundsValue}
+use Rattle.gd_threads.specs.Served.{RoundsValue, state_at}
 use Rattle.gd_input.specs.declared.fault.InputFault.{InputFault}
 use Rattle.gd_input.specs.declared.fault.InputFault.TheVariants as input
 use Rattle.gd_top.specs.declared.stop.Stop.{Stop}
@@ -22,7 +21,7 @@ use Rattle.gd_top.specs.Held.{HoldsAs, IsAtStart, RoseBy}
 use Rattle.gd_top.specs.Serves.{Serves, ServesFront, ServesRounds, Answers, AnswersFront, ServedUpto}
 use Rattle.gd_top.proofs.Served.{served_none, served_more, served_all, served_rounds, front_of_rounds, front_in_round}
 
-module _ (loaded : List Batch) (may now : ℕ → Bool) (follow : all_follow builtin 0 loaded ≡ true) (same : now ≡ may) (old mid new : Option (List ℕ)) (a b c : ℕ) (s : State) (k : ℕ) (t : State) (n : ℕ) where
+module _ (loaded : List Batch) (may now : ℕ → Bool) (same : now ≡ may) (old mid new : Option (List ℕ)) (a b c : ℕ) (s : State) (k : ℕ) (t : State) (n : ℕ) where
   moved : (taken : Round) (lines : List RoundLine) → lines ≡ taken.lines.items → ((texts : List (List ℕ)) → AreKept lines texts → Answers now s k t n texts mid new b c)
       → (texts : List (List ℕ)) → AreKept taken.lines.items texts → Answers may s k t n texts mid new b c
   moved taken lines is answers texts kept = subst (λ (m : ℕ → Bool). Answers m s k t n texts mid new b c) same (answers texts (subst (λ (ls : List RoundLine). AreKept ls texts) (sym is) kept))
@@ -42,7 +41,7 @@ module _ (loaded : List Batch) (may now : ℕ → Bool) (follow : all_follow bui
   done_known (Some x) None z taken lines is upto takes answers ended = absurd upto
   done_known (Some x) (Some y) None taken lines is upto takes answers ended = absurd takes
   done_known (Some x) (Some y) (Some z) taken lines is upto takes answers ended =
-      served_all loaded may follow old new a c t n x z (served_more loaded may old mid new a b c s k t n x y z taken upto takes (moved taken lines is answers)) (takes.ended ended)
+      served_all loaded may old new a c t n x z (served_more loaded may old mid new a b c s k t n x y z taken upto takes (moved taken lines is answers)) (takes.ended ended)
 
   -- a part of one
   pub part_known : (x y z : Option (List ℕ)) (taken : Round) (lines : List RoundLine) → lines ≡ taken.lines.items → Known x y (ServedUpto loaded may old mid a b s k) → Known y z (TakesRound taken)
@@ -50,25 +49,25 @@ module _ (loaded : List Batch) (may now : ℕ → Bool) (follow : all_follow bui
   part_known None y z taken lines is upto takes fronts = tt
   part_known (Some x) None z taken lines is upto takes fronts = absurd upto
   part_known (Some x) (Some y) None taken lines is upto takes fronts = absurd takes
-  part_known (Some x) (Some y) (Some z) taken lines is upto takes fronts = front_in_round loaded may follow old mid new a b c s k t x y z taken upto takes
+  part_known (Some x) (Some y) (Some z) taken lines is upto takes fronts = front_in_round loaded may old mid new a b c s k t x y z taken upto takes
       (λ texts kept. subst (λ (m : ℕ → Bool). AnswersFront m s k t texts mid new b c) same (fronts texts (subst (λ (ls : List RoundLine). AreKept ls texts) (sym is) kept)))
 
-module _ (loaded : List Batch) (may : ℕ → Bool) (follow : all_follow builtin 0 loaded ≡ true) (old new : Option (List ℕ)) (a b : ℕ) (s : State) (k : ℕ) where
+module _ (loaded : List Batch) (may : ℕ → Bool) (old new : Option (List ℕ)) (a b : ℕ) (s : State) (k : ℕ) where
   -- whole rounds
   pub rounds_known : (x y : Option (List ℕ)) → Known x y (ServedUpto loaded may old new a b s k) → IfSome x (ServesRounds may (λ l. l ≡ loaded) (HoldsAs may s) (RoseBy a b) old new)
   rounds_known None y upto = tt
   rounds_known (Some x) None upto = absurd upto
-  rounds_known (Some x) (Some y) upto = served_rounds loaded may follow old new a b s k x y upto
+  rounds_known (Some x) (Some y) upto = served_rounds loaded may old new a b s k x y upto
 
   pub front_known : (x y : Option (List ℕ)) → Known x y (ServedUpto loaded may old new a b s k) → IfSome x (ServesFront may (λ l. l ≡ loaded) (HoldsAs may s) (RoseBy a b) old new)
   front_known None y upto = tt
   front_known (Some x) None upto = absurd upto
-  front_known (Some x) (Some y) upto = front_of_rounds loaded may follow old new a b s k x y upto
+  front_known (Some x) (Some y) upto = front_of_rounds loaded may old new a b s k x y upto
 
 -- before the first round
-start_known : (loaded : List Batch) (may : ℕ → Bool) (held : Option (List ℕ)) (n : ℕ) (s : State) (k : ℕ) (x : Option (List ℕ)) → k ≡ 0 → s ≡ opened loaded → Known x (prepend_known [] x) (ServedUpto loaded may held held n n s k)
-start_known loaded may held n s k None none is = tt
-start_known loaded may held n s k (Some x) none is = served_none loaded may held n s k x none is
+start_known : (loaded : List Batch) (may : ℕ → Bool) → all_follow builtin 0 loaded ≡ true → (held : Option (List ℕ)) (n : ℕ) (s : State) (k : ℕ) (x : Option (List ℕ)) → k ≡ 0 → s ≡ opened loaded → Known x (prepend_known [] x) (ServedUpto loaded may held held n n s k)
+start_known loaded may follow held n s k None none is = tt
+start_known loaded may follow held n s k (Some x) none is = served_none loaded may follow held n s k x none is
 
 -- nothing was taken yet
 pub advances_none : (a : Option (List ℕ)) → Advances a (prepend_known [] a) 0 0
@@ -101,9 +100,9 @@ pub record Begun (loaded : List Batch) (may : ℕ → Bool) (held : Option (List
   pub bounded : IsBounded reader
 
 pub begun : {D C : Type 0} (may : ℕ → Bool) (held : Option (List ℕ)) (n : ℕ) (r : RoundsValue D C) (reader : Held) (a : Option (List ℕ)) → reader ≡ record { bytes = []; consumed = 0 } → IsAtStart r
-    → Begun r.core.side.history.loaded may held n (core_state r.core) r.lines reader a
-begun may held n r reader a new start = subst (λ (h : Held). Begun r.core.side.history.loaded may held n (core_state r.core) r.lines h a) (sym new) (record {
-  upto = start_known r.core.side.history.loaded may held n (core_state r.core) r.lines a start.none start.opened;
+    → Begun r.side.history.loaded may held n (state_at r.side) r.lines reader a
+begun may held n r reader a new start = subst (λ (h : Held). Begun r.side.history.loaded may held n (state_at r.side) r.lines h a) (sym new) (record {
+  upto = start_known r.side.history.loaded may start.follow held n (state_at r.side) r.lines a start.none start.opened;
   advances = advances_none a;
   counted = omega (arith, start.none);
   bounded = record { buffered = omega arith; taken = omega arith };

@@ -2,6 +2,7 @@ pub mod Printed
 pub mod Settled
 pub mod Kept
 pub mod Served
+pub mod Answered
 pub mod Known
 pub mod Weaker
 pub mod Complete

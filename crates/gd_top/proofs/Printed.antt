@@ -1,15 +1,15 @@
 -- Fronts of what is printed.
 use Rattle.std.proofs.Common.{◌≡◌, ℕ, zero, suc, ◌+◌, ◌<◌, ◌≤◌, List, [], ◌∷◌, ◌++◌, length, map, take, drop, slice_get, get_or, Option, Some, option_map, Result, Ok, Err, OnErr, refl, sym, ap, subst, ◌∙◌, arith, append_assoc, append-nil, take_all, codes, decimal}
 use Rattle.std.proofs.lemmas.List.{take-append-drop}
+use Rattle.std.proofs.lemmas.Grind.{flat_map-append}
 use Rattle.std.proofs.lemmas.Option.{slice_get-get_or}
 use Rattle.std.proofs.KnownBytes.{Appends-trans}
 use Rattle.std.specs.Io.KnownBytes.{Appends}
 use Rattle.gd_runs.specs.Explained.{memory_line, late_line}
 use Rattle.gd_runs.proofs.Rounds.{some_same, no_some}
-use Rattle.gd_sessions.specs.declared.line_reply.LineReply.{LineReply}
-use Rattle.gd_sessions.specs.Served.{line_text}
-use Rattle.gd_rounds.specs.Rounds.{printed, no_memory}
-use Rattle.gd_rounds.proofs.InRound.{printed-append}
+use Rattle.gd_caller.specs.declared.replies.RoundReply.{RoundReply}
+use Rattle.gd_caller.specs.Replies.{round_text, no_memory}
+use Rattle.gd_caller.specs.Served.{printed}
 use Rattle.gd_top.specs.Late.{late_front}
 use Rattle.gd_top.specs.Serves.{GainsFront}
 
@@ -40,14 +40,17 @@ pieces_line xs ys line is = sym (append_assoc xs (ys ++ 125 ∷ []) (10 ∷ []))
 
 -- ---- replies, one after another
 
+pub printed-append : (xs ys : List (List ℕ)) → printed (xs ++ ys) ≡ printed xs ++ printed ys
+printed-append xs ys = flat_map-append (λ (reply : List ℕ). reply ++ 10 ∷ []) xs ys
+
 got_map : {A B : Type 0} (f : A → B) (xs : List A) (k : ℕ) (x : A) → slice_get xs k ≡ Some x → slice_get (map f xs) k ≡ Some (f x)
 got_map f [] k x is = no_some is
 got_map f (a ∷ xs) zero x is = ap (λ o. option_map f o) is
 got_map f (a ∷ xs) (suc k) x is = got_map f xs k x is
 
 -- the reply that a loop is at
-pub reply_at : (rs : List LineReply) (i : ℕ) (r : LineReply) → i < length rs → r ≡ get_or rs i r → slice_get (map line_text rs) i ≡ Some (line_text r)
-reply_at rs i r within is = got_map line_text rs i r (slice_get-get_or rs i r within ∙ ap Some (sym is))
+pub reply_at : (rs : List RoundReply) (i : ℕ) (r : RoundReply) → i < length rs → r ≡ get_or rs i r → slice_get (map round_text rs) i ≡ Some (round_text r)
+reply_at rs i r within is = got_map round_text rs i r (slice_get-get_or rs i r within ∙ ap Some (sym is))
 
 pub passed_at : (first n k : ℕ) → k < n → slice_get (no_memory first n) k ≡ Some (memory_line (first + k))
 passed_at first zero k within = absurd (omega (arith, within))

@@ -1,5 +1,5 @@
 -- A run of events as the status tells it.
-use Rattle.std.proofs.Common.{◌≡◌, ℕ, List, [], ◌++◌, take, Bool, true, false, Option, Some, None, IfSome, Result, Ok, Err, OnOk, refl, sym, subst, ap, ◌∙◌, ◌⊎◌, inl, inr, ⊎_elim, append-nil}
+use Rattle.std.proofs.Common.{◌≡◌, ℕ, List, [], ◌++◌, take, Bool, true, false, Option, Some, None, IfSome, Result, Ok, Err, OnOk, refl, sym, subst, ap, ◌∙◌, ◌⊎◌, inl, inr, ⊎_elim, append-nil, arith}
 use Rattle.std.specs.Option.{ForSome}
 use Rattle.gd_prim.specs.declared.Batch.{Batch}
 use Rattle.gd_bytes.specs.File.{Meaning, not_store, damaged, groups, joined, meaning, StandsFor}
@@ -21,7 +21,7 @@ use Rattle.gd_top.specs.declared.status.Status.{Status}
 use Rattle.gd_top.specs.declared.status.Status.TheVariants as status
 use Rattle.gd_top.specs.Stops.{status_of_store, status_of_shelf}
 use Rattle.gd_top.specs.Ends.{IsHindered, IsIdle, Causes}
-use Rattle.gd_top.specs.Held.{MayMean, DoesMean}
+use Rattle.gd_top.specs.Held.{MayMean, DoesMean, RoseBy}
 use Rattle.gd_top.specs.Kept.{Keeps}
 use Rattle.gd_top.specs.Replays.{status_of_events, PrintsEvents}
 use Rattle.gd_top.proofs.Kept.{keeps_refused}
@@ -47,25 +47,25 @@ not_of_store f s other is = let e : true ≡ false = sym (of_store f) ∙ (ap is
 
 -- ---- what was printed
 
-module _ (members : MembersOf) (may : ℕ → Bool) (begins begins' : List Batch → Type 0) (leaves leaves' : State → Type 0)
-    (begun : (loaded : List Batch) → begins loaded → begins' loaded) (left : (s : State) → leaves s → leaves' s) where
-  accounts : (given : List Numbered) (output : List ℕ) → Accounts members may begins leaves given output → Accounts members may begins' leaves' given output
-  accounts given output a = record { loaded = a.loaded; state = a.state; begun = begun a.loaded a.begun; replies = a.replies; left = left a.state a.left }
+module _ (members : MembersOf) (may : ℕ → Bool) (begins begins' : List Batch → Type 0) (leaves leaves' : State → Type 0) (rises rises' : ℕ → Type 0)
+    (begun : (loaded : List Batch) → begins loaded → begins' loaded) (left : (s : State) → leaves s → leaves' s) (rose : (n : ℕ) → rises n → rises' n) where
+  accounts : (given : List Numbered) (output : List ℕ) → Accounts members may begins leaves rises given output → Accounts members may begins' leaves' rises' given output
+  accounts given output a = record { loaded = a.loaded; state = a.state; begun = begun a.loaded a.begun; replies = a.replies; left = left a.state a.left; counted = rose _ a.counted }
 
-  whole : (old new known : Option (List ℕ)) → IfSome known (Replays members may begins leaves old new) → IfSome known (Replays members may begins' leaves' old new)
+  whole : (old new known : Option (List ℕ)) → IfSome known (Replays members may begins leaves rises old new) → IfSome known (Replays members may begins' leaves' rises' old new)
   whole old new None r = tt
   whole old new (Some input) r = record { output = r.output; accounts = accounts (lines_of input) r.output r.accounts; gained = r.gained }
 
-  taken : (old new known : Option (List ℕ)) → IfSome known (ReplaysTaken members may begins leaves old new) → IfSome known (ReplaysTaken members may begins' leaves' old new)
+  taken : (old new known : Option (List ℕ)) → IfSome known (ReplaysTaken members may begins leaves rises old new) → IfSome known (ReplaysTaken members may begins' leaves' rises' old new)
   taken old new None r = tt
   taken old new (Some input) r = record { taken = r.taken; output = r.output; accounts = accounts (take r.taken (lines_of input)) r.output r.accounts; gained = r.gained }
 
-  front : (old new known : Option (List ℕ)) → IfSome known (ReplaysFront members may begins leaves old new) → IfSome known (ReplaysFront members may begins' leaves' old new)
+  front : (old new known : Option (List ℕ)) → IfSome known (ReplaysFront members may begins leaves rises old new) → IfSome known (ReplaysFront members may begins' leaves' rises' old new)
   front old new None r = tt
   front old new (Some input) r = record { taken = r.taken; output = r.output; rest = r.rest; accounts = accounts (take r.taken (lines_of input)) (r.output ++ r.rest) r.accounts; gained = r.gained }
 
   -- the same, said of what stands further out
-  pub events_weaker : (s : Status) (idle idle' : Type 0) (known old new : Option (List ℕ)) → (idle → idle') → PrintsEvents s members may begins leaves idle known old new → PrintsEvents s members may begins' leaves' idle' known old new
+  pub events_weaker : (s : Status) (idle idle' : Type 0) (known old new : Option (List ℕ)) → (idle → idle') → PrintsEvents s members may begins leaves rises idle known old new → PrintsEvents s members may begins' leaves' rises' idle' known old new
   events_weaker s idle idle' known old new still p = record {
     done = λ is. whole old new known (p.done is);
     between = λ is. taken old new known (p.between is);
@@ -74,29 +74,29 @@ module _ (members : MembersOf) (may : ℕ → Bool) (begins begins' : List Batch
     closed = λ is. ⊎_elim (λ i. inl (still i)) (λ r. inr (taken old new known r)) (p.closed is);
   }
 
-module _ (members : MembersOf) (may : ℕ → Bool) (begins : List Batch → Type 0) (leaves : State → Type 0) (idle : Type 0) (known old new : Option (List ℕ)) where
+module _ (members : MembersOf) (may : ℕ → Bool) (begins : List Batch → Type 0) (leaves : State → Type 0) (rises : ℕ → Type 0) (idle : Type 0) (known old new : Option (List ℕ)) where
   abbrev Whole : Type 0
-  Whole = IfSome known (Replays members may begins leaves old new)
+  Whole = IfSome known (Replays members may begins leaves rises old new)
 
   abbrev Between : Type 0
-  Between = IfSome known (ReplaysTaken members may begins leaves old new)
+  Between = IfSome known (ReplaysTaken members may begins leaves rises old new)
 
   abbrev Within : Type 0
-  Within = IfSome known (ReplaysFront members may begins leaves old new)
+  Within = IfSome known (ReplaysFront members may begins leaves rises old new)
 
   -- lines before which a run stopped, as a front of what they come to
-  as_front : (x : Option (List ℕ)) → IfSome x (ReplaysTaken members may begins leaves old new) → IfSome x (ReplaysFront members may begins leaves old new)
+  as_front : (x : Option (List ℕ)) → IfSome x (ReplaysTaken members may begins leaves rises old new) → IfSome x (ReplaysFront members may begins leaves rises old new)
   as_front None r = tt
   as_front (Some input) r = record {
     taken = r.taken;
     output = r.output;
     rest = [];
-    accounts = subst (λ (out : List ℕ). Accounts members may begins leaves (take r.taken (lines_of input)) out) (sym (append-nil r.output)) r.accounts;
+    accounts = subst (λ (out : List ℕ). Accounts members may begins leaves rises (take r.taken (lines_of input)) out) (sym (append-nil r.output)) r.accounts;
     gained = r.gained;
   }
 
   -- a store that is not opened, or is not opened again
-  closed_prints : (f : JournalFault) → idle ⊎ Between → PrintsEvents (status_of_store f) members may begins leaves idle known old new
+  closed_prints : (f : JournalFault) → idle ⊎ Between → PrintsEvents (status_of_store f) members may begins leaves rises idle known old new
   closed_prints f ends = record {
     done = λ is. absurd (not_of_store f status.Done refl is);
     between = λ is. absurd (⊎_elim (λ e. not_of_store f status.ReadFault refl e) (λ e. not_of_store f status.TooMuch refl e) is);
@@ -105,7 +105,7 @@ module _ (members : MembersOf) (may : ℕ → Bool) (begins : List Batch → Typ
     closed = λ is. ends;
   }
 
-  pub events_print : (end : Result (Unit {0}) Stop) → EndsAs end Whole Between Within idle → PrintsEvents (status_of_events end) members may begins leaves idle known old new
+  pub events_print : (end : Result (Unit {0}) Stop) → EndsAs end Whole Between Within idle → PrintsEvents (status_of_events end) members may begins leaves rises idle known old new
   events_print (Ok u) ends = record { done = λ is. ends; between = λ is. absurd (⊎_elim (λ e. cc) (λ e. cc) is); within = λ is. absurd (cc); memory = λ is. absurd (cc); closed = λ is. absurd (cc) }
   events_print (Err stop.ReadFault) ends = record { done = λ is. absurd (cc); between = λ is. ends; within = λ is. absurd (cc); memory = λ is. absurd (cc); closed = λ is. absurd (cc) }
   events_print (Err stop.TooMuch) ends = record { done = λ is. absurd (cc); between = λ is. ends; within = λ is. absurd (cc); memory = λ is. absurd (cc); closed = λ is. absurd (cc) }
@@ -115,11 +115,11 @@ module _ (members : MembersOf) (may : ℕ → Bool) (begins : List Batch → Typ
   events_print (Err (stop.Lost f)) ends = closed_prints f (inr ends)
 
   -- the shelf did not open the file
-  pub shelf_prints : (f : ShelfFault) → idle → PrintsEvents (status_of_shelf f) members may begins leaves idle known old new
+  pub shelf_prints : (f : ShelfFault) → idle → PrintsEvents (status_of_shelf f) members may begins leaves rises idle known old new
   shelf_prints shelf.Failed i = record { done = λ is. absurd (cc); between = λ is. absurd (⊎_elim (λ e. cc) (λ e. cc) is); within = λ is. absurd (cc); memory = λ is. inl i; closed = λ is. inl i }
   shelf_prints shelf.Memory i = record { done = λ is. absurd (cc); between = λ is. absurd (⊎_elim (λ e. cc) (λ e. cc) is); within = λ is. absurd (cc); memory = λ is. inl i; closed = λ is. inl i }
 
-  pub memory_prints : idle → PrintsEvents status.Memory members may begins leaves idle known old new
+  pub memory_prints : idle → PrintsEvents status.Memory members may begins leaves rises idle known old new
   memory_prints i = shelf_prints shelf.Memory i
 
 -- what was not touched
@@ -350,3 +350,7 @@ empty_causes s r k d l told is steady c = record {
   not_store_found = λ e. absurd e;
   damaged_found = λ at e. absurd e;
 }
+
+-- a count that never rises, for as many as it rose by
+pub rose_nowhere : (n faults : ℕ) → RoseBy 0 0 n → RoseBy faults faults n
+rose_nowhere n faults rose = omega (arith, rose)

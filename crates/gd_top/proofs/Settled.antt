@@ -1,27 +1,18 @@
 -- What stands for the core stands for its history.
-use Rattle.std.proofs.Common.{◌≡◌, ℕ, List, ◌++◌, Bool, Option, Some, None, IsSome, IsTrue, refl, sym, subst, ap, ◌∙◌}
+use Rattle.std.proofs.Common.{◌≡◌, ℕ, List, Bool, Option, Some, None, IsSome, IsTrue, refl, sym, subst}
 use Rattle.std.specs.Option.{ForSome, is_some}
 use Rattle.gd_prim.specs.declared.Batch.{Batch}
-use Rattle.gd_bytes.specs.File.{StandsFor, MayStandFor}
+use Rattle.gd_bytes.specs.File.{StandsFor}
 use Rattle.gd_runs.specs.Core.{State}
-use Rattle.gd_runs.specs.Legal.{Entry, History, batches}
-use Rattle.gd_runs.specs.Side.{doubt_groups}
-use Rattle.gd_runs.specs.Explained.{Numbered, Run, Holds}
-use Rattle.gd_core_laws.specs.Served.{IsServed}
-use Rattle.gd_core_laws.proofs.After.{files_hold}
+use Rattle.gd_runs.specs.Legal.{History}
+use Rattle.gd_runs.specs.Explained.{Run, Holds}
 use Rattle.gd_writer.specs.Parts.{Tells}
-use Rattle.gd_sessions.specs.Running.{StandsForState}
+use Rattle.gd_caller.specs.Served.{StandsForState}
 use Rattle.gd_top.specs.Held.{HoldsAs, Leaves, Loads}
 
 -- what holds of files holds of fewer ones
 pub holds_fewer : (may : ℕ → Bool) (h : History) (runs : List Run) (files fewer : List ℕ → Type 0) → ((file : List ℕ) → fewer file → files file) → Holds may h runs files → Holds may h runs fewer
 holds_fewer may h runs files fewer to holds = record { left = holds.left; may_be = holds.may_be; each = λ file is. holds.each file (to file is) }
-
--- what stands for a core that has served lines stands for its history
-pub holds_as : (loaded : List Batch) (may : ℕ → Bool) (given : List Numbered) (output : List ℕ) (s : State) (runs : List Run) → IsServed loaded may given output s runs → HoldsAs may s s.history runs
-holds_as loaded may given output s runs served =
-    let (may_be, each) = files_hold loaded may given output s.history runs s.doubt served.explained served.doubted in
-    record { left = s.doubt; may_be = may_be; each = each }
 
 -- ---- the file of a run
 

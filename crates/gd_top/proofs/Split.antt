@@ -5,7 +5,7 @@ use Rattle.gd_prim.specs.declared.Batch.{Batch}
 use Rattle.gd_runs.specs.Legal.{History}
 use Rattle.gd_runs.specs.Explained.{Numbered, Run, without_return, pieces, IsExplainedBy, fault_count, faults_told}
 use Rattle.gd_top.specs.Serves.{printed}
-use Rattle.gd_rounds.proofs.InRound.{fault_count-append}
+use Rattle.gd_round_laws.proofs.Counts.{fault_count-append}
 use Rattle.gd_top.proofs.Plain.{Plain, plain_reply}
 
 -- all lines are plain

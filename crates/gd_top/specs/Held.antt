@@ -9,9 +9,9 @@ use Rattle.gd_runs.specs.Core as core
 use Rattle.gd_runs.specs.Core.{State}
 use Rattle.gd_runs.specs.Legal.{History}
 use Rattle.gd_runs.specs.Explained.{Run, Holds}
-use Rattle.gd_sessions.specs.Running.{core_state, StandsForState}
-use Rattle.gd_rounds.specs.Served.{RoundsValue}
-pub use Rattle.gd_rounds.specs.Rounds.{RoseBy}
+use Rattle.gd_caller.specs.Served.{StandsForState}
+pub use Rattle.gd_caller.specs.Writes.{RoseBy}
+use Rattle.gd_threads.specs.Served.{RoundsValue, state_at}
 
 -- ---- one file, whose content is told or not
 
@@ -66,5 +66,5 @@ HoldsAs may s h runs = Holds may h runs (StandsForState s)
 -- the run is before its first line, over a store that was just opened, whose batches may follow one another
 pub record IsAtStart {D C : Type 0} (r : RoundsValue D C) : Type 0 where
   pub none : r.lines ≡ 0
-  pub opened : core_state r.core ≡ core.opened r.core.side.history.loaded
-  pub follow : all_follow builtin 0 r.core.side.history.loaded ≡ true
+  pub opened : state_at r.side ≡ core.opened r.side.history.loaded
+  pub follow : all_follow builtin 0 r.side.history.loaded ≡ true

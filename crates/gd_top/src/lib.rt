@@ -2,6 +2,7 @@
 #![tactic(auto)]
 
 pub mod opening;
+pub mod pace;
 pub mod printing;
 pub mod replay;
 pub mod rounds;

@@ -4,10 +4,11 @@ ghost use Rattle.std.specs.Option.{is_some};
 ghost use Rattle.gd_base.specs.Counts.{Rose};
 ghost use Rattle.gd_bytes.specs.Disk.{HoldsSame};
 ghost use Rattle.gd_top.specs.Ends.{IsIdle, Prints, Causes};
-ghost use Rattle.gd_sessions.specs.Running.{core_state};
+ghost use Rattle.gd_threads.specs.Served.{state_at};
 ghost use Rattle.gd_top.specs.Kept.{Keeps};
 ghost use Rattle.gd_top.specs.Held.{Loads, Leaves, MayMean, DoesMean, RoseBy, HoldsAs, IsAtStart};
 
+use crate::pace::Pace;
 use crate::rounds::serve_rounds;
 use crate::status::Status;
 use crate::steady::SteadyDisk;
@@ -15,49 +16,66 @@ use gd_base::text::Text;
 use gd_disk::disk::Disk;
 use gd_disk::shelf::Shelf;
 use gd_outside::clock::Clock;
+use gd_outside::gate::Gate;
 use gd_outside::sink::Sink;
 use gd_outside::source::Source;
-use gd_rounds::rounds::Rounds;
+use gd_threads::rounds::Rounds;
 use std::alloc::Global;
-use std::num::NonZeroU64;
 use std::sync::Wait;
+use std::thread::Threads;
 
 /// Serves the whole input, and says how that ended.
-fn serve_all<R: Wait, D: Disk, S: Source, K: Sink, C: Clock>(
+fn serve_all<
+    R: Threads + Wait + Sync,
+    D: Disk + Send,
+    S: Source,
+    K: Sink,
+    C: Clock + Send,
+    G: Gate,
+>(
     rt: &R,
     alloc: Global,
+    gate: &G,
     rounds: &mut Rounds<D, C>,
     source: &mut S,
     sink: &mut K,
 ) -> Status
     requires { IsAtStart rounds.old }
-    ensures prints { Prints result (C.may rounds.old.core.side.clock) (λ loaded. loaded ≡ rounds.old.core.side.history.loaded)
-        (HoldsAs (C.may rounds.old.core.side.clock) (core_state rounds.new.core)) (RoseBy (D.faults rounds.old.core.side.log.disk) (D.faults rounds.new.core.side.log.disk)) ⊥
+    ensures prints { Prints result (C.may rounds.old.side.clock) (λ loaded. loaded ≡ rounds.old.side.history.loaded)
+        (HoldsAs (C.may rounds.old.side.clock) (state_at rounds.new.side)) (RoseBy (D.faults rounds.old.side.log.disk) (D.faults rounds.new.side.log.disk)) ⊥
         (S.left source.old) (S.left source.new) (K.held sink.old) (K.held sink.new) }
     ensures causes { Causes result (Rose (S.faults source.old) (S.faults source.new))
         (Rose (K.faults sink.old) (K.faults sink.new)) ⊥
         (IfSome (S.left source.old) (λ input. 2 ^ 40 ≤ length input)) (λ _. ⊥) (λ _. ⊥) }
     ensures used { result ≢ Status.Usage }
-    ensures loaded { rounds.new.core.side.history.loaded ≡ rounds.old.core.side.history.loaded }
-    ensures told { is_some (D.content rounds.new.core.side.log.disk) ≡ is_some (D.content rounds.old.core.side.log.disk) }
-    ensures later { D.faults rounds.old.core.side.log.disk ≤ D.faults rounds.new.core.side.log.disk }
+    ensures loaded { rounds.new.side.history.loaded ≡ rounds.old.side.history.loaded }
+    ensures told { is_some (D.content rounds.new.side.log.disk) ≡ is_some (D.content rounds.old.side.log.disk) }
+    ensures later { D.faults rounds.old.side.log.disk ≤ D.faults rounds.new.side.log.disk }
 {
-    match serve_rounds(rt, alloc, rounds, source, sink) {
+    match serve_rounds(rt, alloc, gate, rounds, source, sink) {
         Ok(()) => Status::Done,
         Err(stop) => Status::of_stop(stop),
     }
 }
 
-/// Opens the store that a disk holds, before the first line is read, and serves the whole input over it, its reads in
-/// slices of a budget of steps. The disk is handed back, however it ends.
-fn serve_over<R: Wait, D: Disk, S: Source, K: Sink, C: Clock + Drop>(
+/// Opens the store that a disk holds, before the first line is read, and serves the whole input over it at a pace. The
+/// disk is handed back, however it ends.
+fn serve_over<
+    R: Threads + Wait + Sync,
+    D: Disk + Send,
+    S: Source,
+    K: Sink,
+    C: Clock + Send + Drop,
+    G: Gate,
+>(
     rt: &R,
     alloc: Global,
     disk: D,
-    budget: NonZeroU64,
+    pace: Pace,
     source: &mut S,
     sink: &mut K,
     clock: C,
+    gate: &G,
 ) -> (Status, D)
     ensures prints { Prints result.0 (C.may clock) (Loads (D.content disk)) (Leaves (C.may clock) (D.content disk) (D.images result.1))
         (RoseBy (D.faults disk) (D.faults result.1)) (IsIdle source.old source.new sink.old sink.new)
@@ -69,9 +87,9 @@ fn serve_over<R: Wait, D: Disk, S: Source, K: Sink, C: Clock + Drop>(
     ensures kept { Keeps (D.content disk) (D.content result.1) (D.images disk) (D.images result.1) }
     ensures later { D.faults disk ≤ D.faults result.1 }
 {
-    match Rounds::start(rt, alloc, disk, clock, budget) {
+    match Rounds::start(rt, alloc, disk, clock, pace.budget, pace.workers) {
         Ok(mut rounds) => {
-            let status = serve_all(rt, alloc, &mut rounds, source, sink);
+            let status = serve_all(rt, alloc, gate, &mut rounds, source, sink);
             let (disk, _clock) = rounds.close(rt);
             (status, disk)
         }
@@ -80,15 +98,23 @@ fn serve_over<R: Wait, D: Disk, S: Source, K: Sink, C: Clock + Drop>(
 }
 
 /// Serves the whole input over the store that a path of a shelf holds. The device is put back, however it ends.
-pub fn serve_in_file<R: Wait, S: Source, K: Sink, F: Shelf, C: Clock + Drop>(
+pub fn serve_in_file<
+    R: Threads + Wait + Sync,
+    S: Source,
+    K: Sink,
+    F: Shelf,
+    C: Clock + Send + Drop,
+    G: Gate,
+>(
     rt: &R,
     alloc: Global,
     path: &Text,
-    budget: NonZeroU64,
+    pace: Pace,
     source: &mut S,
     sink: &mut K,
     shelf: &mut F,
     clock: C,
+    gate: &G,
 ) -> Status
     requires { (other : List ℕ) → F.is_out shelf.old other ≡ false }
     ensures back { (other : List ℕ) → F.is_out shelf.new other ≡ false }
@@ -108,7 +134,7 @@ pub fn serve_in_file<R: Wait, S: Source, K: Sink, F: Shelf, C: Clock + Drop>(
 {
     match shelf.open_at(path) {
         Ok(device) => {
-            let (status, device) = serve_over(rt, alloc, device, budget, source, sink, clock);
+            let (status, device) = serve_over(rt, alloc, device, pace, source, sink, clock, gate);
             shelf.put_back(path, device);
             status
         }
@@ -117,14 +143,13 @@ pub fn serve_in_file<R: Wait, S: Source, K: Sink, F: Shelf, C: Clock + Drop>(
 }
 
 /// Serves the whole input over an empty store that is kept in memory alone.
-pub fn serve_in_memory<R: Wait, S: Source, K: Sink, C: Clock + Drop>(
-    rt: &R,
-    alloc: Global,
-    budget: NonZeroU64,
-    source: &mut S,
-    sink: &mut K,
-    clock: C,
-) -> Status
+pub fn serve_in_memory<
+    R: Threads + Wait + Sync,
+    S: Source,
+    K: Sink,
+    C: Clock + Send + Drop,
+    G: Gate,
+>(rt: &R, alloc: Global, pace: Pace, source: &mut S, sink: &mut K, clock: C, gate: &G) -> Status
     ensures prints { Prints result (C.may clock) (λ loaded. loaded ≡ []) (λ _ _. Unit {0}) (RoseBy 0 0)
         (IsIdle source.old source.new sink.old sink.new)
         (S.left source.old) (S.left source.new) (K.held sink.old) (K.held sink.new) }
@@ -135,7 +160,7 @@ pub fn serve_in_memory<R: Wait, S: Source, K: Sink, C: Clock + Drop>(
 {
     match SteadyDisk::new(alloc) {
         Ok(disk) => {
-            let (status, _disk) = serve_over(rt, alloc, disk, budget, source, sink, clock);
+            let (status, _disk) = serve_over(rt, alloc, disk, pace, source, sink, clock, gate);
             status
         }
         Err(_refused) => Status::Memory,

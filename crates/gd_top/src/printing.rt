@@ -4,16 +4,15 @@ ghost use Rattle.std.specs.Io.KnownBytes.{Appends};
 ghost use Rattle.gd_base.specs.Counts.{Rose};
 ghost use Rattle.gd_reply.specs.Replies.{failure_line};
 ghost use Rattle.gd_runs.specs.Explained.{late_line};
-ghost use Rattle.gd_sessions.specs.Served.{line_text};
-ghost use Rattle.gd_rounds.specs.Rounds.{printed, no_memory, reply_texts};
+ghost use Rattle.gd_caller.specs.Replies.{round_text, no_memory, reply_texts};
+ghost use Rattle.gd_caller.specs.Served.{printed};
 ghost use Rattle.gd_top.specs.Late.{late_front};
 ghost use Rattle.gd_top.specs.Serves.{GainsFront};
 
+use gd_caller::replies::{Replies, RoundReply};
 use gd_outside::Failed;
 use gd_outside::sink::Sink;
 use gd_reply::reply::Failure;
-use gd_rounds::replies::Replies;
-use gd_sessions::line_reply::LineReply;
 use itoa::Buffer;
 
 /// Writes all bytes.
@@ -110,23 +109,23 @@ fn print_late<K: Sink>(sink: &mut K, line: u64, entry: u32) -> Result<(), Failed
 }
 
 /// Prints a reply and its newline.
-fn print_reply<K: Sink>(sink: &mut K, reply: &LineReply) -> Result<(), Failed>
-    ensures all { OnOk result (Appends (K.held sink.old) (K.held sink.new) (line_text reply.now ++ 10 ∷ [])) }
-    ensures front { OnErr result (GainsFront (K.held sink.old) (K.held sink.new) (line_text reply.now ++ 10 ∷ [])) }
+fn print_reply<K: Sink>(sink: &mut K, reply: &RoundReply) -> Result<(), Failed>
+    ensures all { OnOk result (Appends (K.held sink.old) (K.held sink.new) (round_text reply.now ++ 10 ∷ [])) }
+    ensures front { OnErr result (GainsFront (K.held sink.old) (K.held sink.new) (round_text reply.now ++ 10 ∷ [])) }
     ensures failed { OnErr result (Rose (K.faults sink.old) (K.faults sink.new)) }
     ensures later { K.faults sink.old ≤ K.faults sink.new }
 {
     match reply {
-        LineReply::Line(line) => print_line(sink, line),
-        LineReply::Failed { failure, line } => print_failure(sink, *failure, *line),
-        LineReply::Late { line, entry } => print_late(sink, *line, *entry),
+        RoundReply::Line(line) => print_line(sink, line),
+        RoundReply::Failed { failure, line } => print_failure(sink, *failure, *line),
+        RoundReply::Late { line, entry } => print_late(sink, *line, *entry),
     }
 }
 
 /// Prints replies that were made, each with its newline.
-fn print_made<K: Sink>(sink: &mut K, replies: &[LineReply]) -> Result<(), Failed>
-    ensures all { OnOk result (Appends (K.held sink.old) (K.held sink.new) (printed (map line_text replies.now))) }
-    ensures front { OnErr result (GainsFront (K.held sink.old) (K.held sink.new) (printed (map line_text replies.now))) }
+fn print_made<K: Sink>(sink: &mut K, replies: &[RoundReply]) -> Result<(), Failed>
+    ensures all { OnOk result (Appends (K.held sink.old) (K.held sink.new) (printed (map round_text replies.now))) }
+    ensures front { OnErr result (GainsFront (K.held sink.old) (K.held sink.new) (printed (map round_text replies.now))) }
     ensures failed { OnErr result (Rose (K.faults sink.old) (K.faults sink.new)) }
     ensures later { K.faults sink.old ≤ K.faults sink.new }
 {

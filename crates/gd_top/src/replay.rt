@@ -8,7 +8,7 @@ ghost use Rattle.gd_writer.specs.Parts.{Tells};
 ghost use Rattle.gd_replay.specs.Runs.{Loads};
 ghost use Rattle.gd_replay.specs.Stops.{Leaves};
 ghost use Rattle.gd_top.specs.Ends.{IsIdle, Causes};
-ghost use Rattle.gd_top.specs.Held.{BeginsWith, MayMean, MayMeanAt, DoesMean, told_at};
+ghost use Rattle.gd_top.specs.Held.{BeginsWith, MayMean, MayMeanAt, DoesMean, RoseBy, told_at};
 ghost use Rattle.gd_top.specs.Kept.{Keeps};
 ghost use Rattle.gd_top.specs.Replays.{status_of_events, IsToldAt, LeavesAt, PrintsEvents};
 
@@ -49,7 +49,7 @@ fn replay_over<R: Wait, D: Disk, S: Source, K: Sink, C: Clock + Drop>(
     sink: &mut K,
     clock: C,
 ) -> (Status, D)
-    ensures prints { Tells (D.content disk) → (members : MembersOf) → PrintsEvents result.0 members (C.may clock) (Loads (D.content disk)) (Leaves (D.images result.1))
+    ensures prints { Tells (D.content disk) → (members : MembersOf) → PrintsEvents result.0 members (C.may clock) (Loads (D.content disk)) (Leaves (D.images result.1)) (RoseBy (D.faults disk) (D.faults result.1))
         (IsIdle source.old source.new sink.old sink.new) (S.left source.old) (K.held sink.old) (K.held sink.new) }
     ensures at_end { result.0 ≡ Status.Done → IsAtEnd (S.left source.new) }
     ensures causes { Causes result.0 (Rose (S.faults source.old) (S.faults source.new))
@@ -74,7 +74,7 @@ fn replay_in_file<R: Wait, S: Source, K: Sink, F: Shelf, C: Clock + Drop>(
 ) -> Status
     requires { (other : List ℕ) → F.is_out shelf.old other ≡ false }
     ensures back { (other : List ℕ) → F.is_out shelf.new other ≡ false }
-    ensures prints { Tells (F.content shelf.old path.now) → (members : MembersOf) → PrintsEvents result members (C.may clock) (Loads (F.content shelf.old path.now)) (Leaves (F.images shelf.new path.now))
+    ensures prints { Tells (F.content shelf.old path.now) → (members : MembersOf) → PrintsEvents result members (C.may clock) (Loads (F.content shelf.old path.now)) (Leaves (F.images shelf.new path.now)) (RoseBy (F.faults shelf.old) (F.faults shelf.new))
         (IsIdle source.old source.new sink.old sink.new) (S.left source.old) (K.held sink.old) (K.held sink.new) }
     ensures at_end { result ≡ Status.Done → IsAtEnd (S.left source.new) }
     ensures causes { Causes result (Rose (S.faults source.old) (S.faults source.new))
@@ -105,7 +105,7 @@ fn replay_in_memory<R: Wait, S: Source, K: Sink, C: Clock + Drop>(
     sink: &mut K,
     clock: C,
 ) -> Status
-    ensures prints { (members : MembersOf) → PrintsEvents result members (C.may clock) (λ loaded. loaded ≡ []) (λ _. Unit {0})
+    ensures prints { (members : MembersOf) → PrintsEvents result members (C.may clock) (λ loaded. loaded ≡ []) (λ _. Unit {0}) (RoseBy 0 0)
         (IsIdle source.old source.new sink.old sink.new) (S.left source.old) (K.held sink.old) (K.held sink.new) }
     ensures at_end { result ≡ Status.Done → IsAtEnd (S.left source.new) }
     ensures causes { Causes result (Rose (S.faults source.old) (S.faults source.new))
@@ -137,9 +137,10 @@ pub fn replay<R: Wait, S: Source, K: Sink, F: Shelf, C: Clock + Drop>(
     requires { (path : List ℕ) → F.is_out shelf.old path ≡ false }
     ensures back { (path : List ℕ) → F.is_out shelf.new path ≡ false }
 
-    // Over a file that the shelf tells, or without one, what is printed is what the definitions' core replies to the lines.
+    // Over a file that the shelf tells, or without one, what is printed is what the definitions' core replies to the lines, and
+    // the shelf counted at least as many faults as lines tell.
     ensures prints { let path = option_map (λ t. t.now) file.entry in
-        IsToldAt (F.content shelf.old) path → (members : MembersOf) → PrintsEvents result members (C.may clock) (BeginsWith (F.content shelf.old) path) (LeavesAt (F.images shelf.new) path)
+        IsToldAt (F.content shelf.old) path → (members : MembersOf) → PrintsEvents result members (C.may clock) (BeginsWith (F.content shelf.old) path) (LeavesAt (F.images shelf.new) path) (RoseBy (F.faults shelf.old) (F.faults shelf.new))
         (IsIdle source.old source.new sink.old sink.new) (S.left source.old) (K.held sink.old) (K.held sink.new) }
     ensures at_end { result ≡ Status.Done → IsAtEnd (S.left source.new) }
 

@@ -5,7 +5,7 @@ ghost use Rattle.std.specs.Option.{is_some};
 ghost use Rattle.std.specs.Io.KnownBytes.{IsAtEnd};
 ghost use Rattle.gd_base.specs.Counts.{Rose};
 ghost use Rattle.gd_input.specs.Line.{IsShort};
-ghost use Rattle.gd_sessions.specs.Running.{core_state};
+ghost use Rattle.gd_threads.specs.Served.{state_at};
 ghost use Rattle.gd_top.specs.Held.{HoldsAs, IsAtStart, RoseBy};
 ghost use Rattle.gd_top.specs.Lines.{AnswersLines};
 ghost use Rattle.gd_top.specs.Serves.{Serves, ServesFront, ServesRounds};
@@ -17,17 +17,20 @@ use gd_input::line::RoundLine;
 use gd_input::reader::Reader;
 use gd_outside::Failed;
 use gd_outside::clock::Clock;
+use gd_outside::gate::Gate;
 use gd_outside::sink::Sink;
 use gd_outside::source::Source;
-use gd_rounds::rounds::Rounds;
+use gd_threads::rounds::Rounds;
 use std::alloc::Global;
 use std::sync::Wait;
+use std::thread::Threads;
 
 /// Answers the lines of a round, prints what they come to and sends it on, also where it was not printed in full.
 /// `Failed`: a front of it is printed.
-fn answer_round<R: Wait, D: Disk, K: Sink, C: Clock>(
+fn answer_round<R: Threads + Wait + Sync, D: Disk + Send, K: Sink, C: Clock + Send, G: Gate>(
     rt: &R,
     alloc: Global,
+    gate: &G,
     rounds: &mut Rounds<D, C>,
     lines: &[RoundLine],
     sink: &mut K,
@@ -37,7 +40,7 @@ fn answer_round<R: Wait, D: Disk, K: Sink, C: Clock>(
     ensures { AnswersLines D.content D.faults C.may lines.now rounds.old rounds.new
         (K.held sink.old) (K.held sink.new) (K.faults sink.old) (K.faults sink.new) result }
 {
-    let replies = rounds.answer_round(rt, alloc, lines);
+    let replies = rounds.answer_round(rt, alloc, gate, lines);
     let printed = print_replies(sink, &replies);
     let sent = sink.flush();
     printed?;
@@ -45,41 +48,50 @@ fn answer_round<R: Wait, D: Disk, K: Sink, C: Clock>(
     Ok(())
 }
 
-/// Serves the whole input, round by round, from a run on that is before its first line. `ReadFault` and `TooMuch`:
+/// Serves the whole input, round by round, from a run on that is before its first line. Its workers are held where the
+/// gate holds them. `ReadFault` and `TooMuch`:
 /// the lines of the unfinished round were not answered. `SinkFault`, `Memory`: what was printed is a front of what was
 /// due.
-pub fn serve_rounds<R: Wait, D: Disk, S: Source, K: Sink, C: Clock>(
+pub fn serve_rounds<
+    R: Threads + Wait + Sync,
+    D: Disk + Send,
+    S: Source,
+    K: Sink,
+    C: Clock + Send,
+    G: Gate,
+>(
     rt: &R,
     alloc: Global,
+    gate: &G,
     rounds: &mut Rounds<D, C>,
     source: &mut S,
     sink: &mut K,
 ) -> Result<(), Stop>
     requires { IsAtStart rounds.old }
-    ensures done { OnOk result (IfSome (S.left source.old) (Serves (C.may rounds.old.core.side.clock)
-        (λ loaded. loaded ≡ rounds.old.core.side.history.loaded) (HoldsAs (C.may rounds.old.core.side.clock) (core_state rounds.new.core))
-        (RoseBy (D.faults rounds.old.core.side.log.disk) (D.faults rounds.new.core.side.log.disk)) (K.held sink.old) (K.held sink.new))) }
+    ensures done { OnOk result (IfSome (S.left source.old) (Serves (C.may rounds.old.side.clock)
+        (λ loaded. loaded ≡ rounds.old.side.history.loaded) (HoldsAs (C.may rounds.old.side.clock) (state_at rounds.new.side))
+        (RoseBy (D.faults rounds.old.side.log.disk) (D.faults rounds.new.side.log.disk)) (K.held sink.old) (K.held sink.new))) }
     ensures at_end { OnOk result (IsAtEnd (S.left source.new)) }
-    ensures rounds { result ≡ Err Stop.ReadFault → IfSome (S.left source.old) (ServesRounds (C.may rounds.old.core.side.clock)
-        (λ loaded. loaded ≡ rounds.old.core.side.history.loaded) (HoldsAs (C.may rounds.old.core.side.clock) (core_state rounds.new.core))
-        (RoseBy (D.faults rounds.old.core.side.log.disk) (D.faults rounds.new.core.side.log.disk)) (K.held sink.old) (K.held sink.new)) }
-    ensures rounds_taken { result ≡ Err Stop.TooMuch → IfSome (S.left source.old) (ServesRounds (C.may rounds.old.core.side.clock)
-        (λ loaded. loaded ≡ rounds.old.core.side.history.loaded) (HoldsAs (C.may rounds.old.core.side.clock) (core_state rounds.new.core))
-        (RoseBy (D.faults rounds.old.core.side.log.disk) (D.faults rounds.new.core.side.log.disk)) (K.held sink.old) (K.held sink.new)) }
-    ensures front { OnErr result (IfSome (S.left source.old) (ServesFront (C.may rounds.old.core.side.clock)
-        (λ loaded. loaded ≡ rounds.old.core.side.history.loaded) (HoldsAs (C.may rounds.old.core.side.clock) (core_state rounds.new.core))
-        (RoseBy (D.faults rounds.old.core.side.log.disk) (D.faults rounds.new.core.side.log.disk)) (K.held sink.old) (K.held sink.new))) }
-    ensures loaded { rounds.new.core.side.history.loaded ≡ rounds.old.core.side.history.loaded }
-    ensures told { is_some (D.content rounds.new.core.side.log.disk) ≡ is_some (D.content rounds.old.core.side.log.disk) }
+    ensures rounds { result ≡ Err Stop.ReadFault → IfSome (S.left source.old) (ServesRounds (C.may rounds.old.side.clock)
+        (λ loaded. loaded ≡ rounds.old.side.history.loaded) (HoldsAs (C.may rounds.old.side.clock) (state_at rounds.new.side))
+        (RoseBy (D.faults rounds.old.side.log.disk) (D.faults rounds.new.side.log.disk)) (K.held sink.old) (K.held sink.new)) }
+    ensures rounds_taken { result ≡ Err Stop.TooMuch → IfSome (S.left source.old) (ServesRounds (C.may rounds.old.side.clock)
+        (λ loaded. loaded ≡ rounds.old.side.history.loaded) (HoldsAs (C.may rounds.old.side.clock) (state_at rounds.new.side))
+        (RoseBy (D.faults rounds.old.side.log.disk) (D.faults rounds.new.side.log.disk)) (K.held sink.old) (K.held sink.new)) }
+    ensures front { OnErr result (IfSome (S.left source.old) (ServesFront (C.may rounds.old.side.clock)
+        (λ loaded. loaded ≡ rounds.old.side.history.loaded) (HoldsAs (C.may rounds.old.side.clock) (state_at rounds.new.side))
+        (RoseBy (D.faults rounds.old.side.log.disk) (D.faults rounds.new.side.log.disk)) (K.held sink.old) (K.held sink.new))) }
+    ensures loaded { rounds.new.side.history.loaded ≡ rounds.old.side.history.loaded }
+    ensures told { is_some (D.content rounds.new.side.log.disk) ≡ is_some (D.content rounds.old.side.log.disk) }
     ensures read_fault { result ≡ Err Stop.ReadFault → Rose (S.faults source.old) (S.faults source.new) }
     ensures sink_fault { result ≡ Err Stop.SinkFault → Rose (K.faults sink.old) (K.faults sink.new) }
     ensures too_much { result ≡ Err Stop.TooMuch → IfSome (S.left source.old) (λ input. 2 ^ 40 ≤ length input) }
-    ensures disk_later { D.faults rounds.old.core.side.log.disk ≤ D.faults rounds.new.core.side.log.disk }
+    ensures disk_later { D.faults rounds.old.side.log.disk ≤ D.faults rounds.new.side.log.disk }
 {
     let mut reader = Reader::new(alloc);
     loop {
         let round = reader.read_round(source)?;
-        answer_round(rt, alloc, rounds, &round.lines, sink)?;
+        answer_round(rt, alloc, gate, rounds, &round.lines, sink)?;
         if round.ended {
             return Ok(());
         }

@@ -1,7 +1,6 @@
 //! The top call.
 ghost use Rattle.std.specs.Prelude.{◌≡◌, ◌≢◌, ◌↔◌, ◌≤◌, ◌<◌, ◌⊎◌, ◌^◌, ℕ, List, length, option_map, true, false, None, Some, IfSome, IsSomeAnd};
 ghost use Rattle.std.specs.Io.KnownBytes.{IsAtEnd};
-ghost use Rattle.std.specs.NonZero.{non_zero_u64_get};
 ghost use Rattle.gd_base.specs.Counts.{Rose};
 ghost use Rattle.gd_bytes.specs.Disk.{HoldsSame};
 ghost use Rattle.gd_bytes.specs.File.{not_store, damaged};
@@ -15,40 +14,32 @@ ghost use Rattle.gd_top.specs.Replays.{IsToldAt, LeavesAt, PrintsEvents};
 ghost use Rattle.gd_top.specs.Words.{path_of, replays};
 
 use crate::opening::{serve_in_file, serve_in_memory};
+use crate::pace::Pace;
 use crate::replay::replay;
 use crate::status::Status;
 use gd_base::text::Text;
 use gd_disk::shelf::Shelf;
 use gd_outside::clock::Clock;
+use gd_outside::gate::Gate;
 use gd_outside::sink::Sink;
 use gd_outside::source::Source;
 use gd_words::reader::command;
 use gd_words::verbs::Command;
 use std::alloc::Global;
-use std::num::NonZeroU64;
 use std::sync::Wait;
+use std::thread::Threads;
 
-/// How many steps a slice of a read may take: as many as the words say, and 1 where they said 0.
-fn slice_budget(steps: u32) -> NonZeroU64
-    ensures { 0 < steps → non_zero_u64_get result ≡ steps }
-{
-    match NonZeroU64::new(u64::from(steps)) {
-        Some(budget) => budget,
-        None => NonZeroU64::MIN,
-    }
-}
-
-/// Serves the whole input over the store of a file, or, without one, over an empty store in memory. Reads go on in slices
-/// of a budget of steps.
-fn serve<R: Wait, S: Source, K: Sink, F: Shelf, C: Clock + Drop>(
+/// Serves the whole input over the store of a file, or, without one, over an empty store in memory, at a pace.
+fn serve<R: Threads + Wait + Sync, S: Source, K: Sink, F: Shelf, C: Clock + Send + Drop, G: Gate>(
     rt: &R,
     alloc: Global,
     file: Option<&Text>,
-    budget: NonZeroU64,
+    pace: Pace,
     source: &mut S,
     sink: &mut K,
     shelf: &mut F,
     clock: C,
+    gate: &G,
 ) -> Status
     requires { (path : List ℕ) → F.is_out shelf.old path ≡ false }
     ensures back { (path : List ℕ) → F.is_out shelf.new path ≡ false }
@@ -70,20 +61,28 @@ fn serve<R: Wait, S: Source, K: Sink, F: Shelf, C: Clock + Drop>(
         (F.images shelf.old other) (F.images shelf.new other) }
 {
     match file {
-        Some(path) => serve_in_file(rt, alloc, path, budget, source, sink, shelf, clock),
-        None => serve_in_memory(rt, alloc, budget, source, sink, clock),
+        Some(path) => serve_in_file(rt, alloc, path, pace, source, sink, shelf, clock, gate),
+        None => serve_in_memory(rt, alloc, pace, source, sink, clock, gate),
     }
 }
 
 /// Runs the program. With the words `serve` and its options it opens the store in the file that they name, or an empty
 /// one in memory, reads the input to its end, round by round, and prints one reply line for each line that is not
-/// blank: to a read at the dateline of the store, to a write at the moment of the clock, to any other line its
-/// refusal. Where no memory is left for a reply, the reply line that says so is printed in its place; where the disk
-/// fails at a write, the line that says so. The sink is flushed at the end of each round. The status says how the run
-/// ended. With the words `replay` and its option it opens the store so too, reads the input to its end, line by line, carries
-/// each line out as an event of the core, on one thread, and prints its reply line; the sink is flushed at the end. The device
-/// of the file is put back on the shelf, however it ended.
-pub fn graphd<R: Wait, S: Source, K: Sink, F: Shelf, C: Clock + Drop>(
+/// blank, in the order of the lines: to a read at a dateline of the store, to a write at the moment of the clock, to any
+/// other line its refusal. The sessions of a round are run by as many workers as the words say, each on a thread of its
+/// own where one can be made, and held where the gate holds them. Where no memory is left for a reply, the reply line
+/// that says so is printed in its place; where the disk fails at a write, the line that says so. The sink is flushed at
+/// the end of each round. The status says how the run ended. With the words `replay` and its option it opens the store so
+/// too, reads the input to its end, line by line, carries each line out as an event of the core, on one thread, and prints
+/// its reply line; the sink is flushed at the end. The device of the file is put back on the shelf, however it ended.
+pub fn graphd<
+    R: Threads + Wait + Sync,
+    S: Source,
+    K: Sink,
+    F: Shelf,
+    C: Clock + Send + Drop,
+    G: Gate,
+>(
     rt: &R,
     alloc: Global,
     words: &[Text],
@@ -91,6 +90,7 @@ pub fn graphd<R: Wait, S: Source, K: Sink, F: Shelf, C: Clock + Drop>(
     sink: &mut K,
     shelf: &mut F,
     clock: C,
+    gate: &G,
 ) -> Status
     requires { (path : List ℕ) → F.is_out shelf.old path ≡ false }
     ensures back { (path : List ℕ) → F.is_out shelf.new path ≡ false }
@@ -131,10 +131,10 @@ pub fn graphd<R: Wait, S: Source, K: Sink, F: Shelf, C: Clock + Drop>(
 
     // Where events are replayed, over a file that the shelf tells or without one, what was printed is what the definitions' core
     // replies to the lines, from the batches on for which the file stood, and the file is left so that it stands for the state
-    // that they make, with or without the write that is in doubt.
+    // that they make, with or without the write that is in doubt; and the shelf counted at least as many faults as lines tell.
     ensures events { replays words.now ≡ true → IsToldAt (F.content shelf.old) (path_of words.now) → (members : MembersOf)
         → PrintsEvents result members (C.may clock) (BeginsWith (F.content shelf.old) (path_of words.now)) (LeavesAt (F.images shelf.new) (path_of words.now))
-        (IsIdle source.old source.new sink.old sink.new) (S.left source.old) (K.held sink.old) (K.held sink.new) }
+        (RoseBy (F.faults shelf.old) (F.faults shelf.new)) (IsIdle source.old source.new sink.old sink.new) (S.left source.old) (K.held sink.old) (K.held sink.new) }
 
     // Each fault has its cause.
     ensures read_fault { result ≡ Status.ReadFault → Rose (S.faults source.old) (S.faults source.new) }
@@ -174,11 +174,12 @@ pub fn graphd<R: Wait, S: Source, K: Sink, F: Shelf, C: Clock + Drop>(
             rt,
             alloc,
             settings.file.as_ref(),
-            slice_budget(settings.budget),
+            Pace::new(settings.workers, settings.budget),
             source,
             sink,
             shelf,
             clock,
+            gate,
         ),
         Ok(Some(Command::Replay(settings))) => {
             replay(

@@ -16,7 +16,7 @@ replay   reads lines of JSON from standard input, each one event of the core,
 
 Options, each at most once, as --name value or --name=value:
   --file PATH     keep the store in this file; without it, in memory
-  --workers N     1 to 16 threads, 4 if not given (no effect yet)
+  --workers N     1 to 16 threads for the sessions of a round, 4 if not given
   --budget N      1 to 1000000 steps for a slice of a read, 10000 if not
                   given
 

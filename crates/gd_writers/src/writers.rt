@@ -15,8 +15,8 @@ use std::marker::{Brand, Model, PhantomData};
 use std::sync::{Mutex, Wait};
 
 /// What stood when a round began, and its lines: the table of the published copies, the numbers that the clock may give,
-/// the history, the number shown, the group in doubt and the disk's count. Whoever runs a round is generic in it, and is
-/// called with `Brand`, for which the caller picks what is named.
+/// whether the disk told its content, its moment, the history, the number shown, the group in doubt and the disk's count.
+/// Whoever runs a round is generic in it, and is called with `Brand`, for which the caller picks what is named.
 pub trait Round {
     ghost use Rattle.gd_writers.specs.Round.{Named};
 
@@ -48,7 +48,7 @@ impl<L: Round, D: Disk, C: Clock> Model for Held<L, D, C> {
 
     ghost view = { λ h. h.side };
 
-    ghost invariant = { λ h. IsLocked D.faults C.may L.named h.side };
+    ghost invariant = { λ h. IsLocked D.content D.moment D.images D.images_since D.faults C.may L.named h.side };
 }
 
 impl<L: Round, D: Disk, C: Clock> Held<L, D, C> {
@@ -96,7 +96,7 @@ impl<L: Round, D: Disk, C: Clock> Held<L, D, C> {
 
     /// A receipt of all that is shown, for a line that is stored and shown.
     fn receipt(&self, line: u64) -> Option<Receipt>
-        ensures told { IfSome result (λ receipt. IsToldLocked D.faults C.may L.named receipt) }
+        ensures told { IfSome result (λ receipt. IsToldLocked D.content D.moment D.images D.images_since D.faults C.may L.named receipt) }
     {
         self.side.receipt(line)
     }
@@ -113,7 +113,7 @@ impl<L: Round, D: Disk, C: Clock> Held<L, D, C> {
         requires of_round { IsOfRound (begun L.named) line before (write_view request.now) bytes }
         requires bytes { bytes ≤ 262_144 }
         requires line { line < 2 ^ 63 }
-        ensures told { IfOk result (λ found. IfSome found (λ receipt. IsToldLocked D.faults C.may L.named receipt)) }
+        ensures told { IfOk result (λ found. IfSome found (λ receipt. IsToldLocked D.content D.moment D.images D.images_since D.faults C.may L.named receipt)) }
     {
         if !self.is_next(line, before) {
             return Ok(self.receipt(line));
@@ -131,8 +131,10 @@ pub struct Writers<L: Round, D: Disk, C: Clock> {
 impl<L: Round, D: Disk, C: Clock> Writers<L, D, C> {
     /// A lock round a side that is as `L` names it. It takes no memory.
     pub fn new(side: WriteSide<D, C>) -> Writers<L, D, C>
-        requires { BeginsRound D.faults C.may L.named side }
+        requires { BeginsRound D.content D.moment D.faults C.may L.named side }
     {
+        // A side says here what it keeps.
+        let _stored = side.stored();
         Writers {
             held: Mutex::new(Held {
                 side,
@@ -143,7 +145,7 @@ impl<L: Round, D: Disk, C: Clock> Writers<L, D, C> {
 
     /// The side, once the round has ended, of which holds what the lock kept. It takes no memory.
     pub fn into_side(self) -> WriteSide<D, C>
-        ensures { IsLocked D.faults C.may L.named result }
+        ensures { IsLocked D.content D.moment D.images D.images_since D.faults C.may L.named result }
     {
         let Writers { held } = self;
         let Held { side, of: _ } = held.into_inner();
@@ -164,7 +166,7 @@ impl<L: Round, D: Disk, C: Clock> Writers<L, D, C> {
         requires of_round { IsOfRound (begun L.named) line before (write_view request.now) bytes }
         requires bytes { bytes ≤ 262_144 }
         requires line { line < 2 ^ 63 }
-        ensures told { IfOk result (λ found. IfSome found (λ receipt. IsToldLocked D.faults C.may L.named receipt)) }
+        ensures told { IfOk result (λ found. IfSome found (λ receipt. IsToldLocked D.content D.moment D.images D.images_since D.faults C.may L.named receipt)) }
     {
         self.held.lock(rt).write(rt, line, before, request, bytes)
     }

@@ -5,6 +5,7 @@ use gd_base::memory::Memory;
 use gd_base::text::{Text, TextFault};
 use gd_disk::file_shelf::FileShelf;
 use gd_outside::clock::StdClock;
+use gd_outside::gate::OpenGate;
 use gd_outside::stream::{StdSink, StdSource};
 use gd_top::serve::graphd;
 use gd_top::status::Status;
@@ -15,6 +16,7 @@ use std::io::BufWriter;
 use std::process::ExitCode;
 use std::rt::{Env, Files};
 use std::sync::Wait;
+use std::thread::Threads;
 use std::time::Clock;
 use std::{env, io};
 
@@ -65,7 +67,7 @@ fn say(rt: &impl Print, text: &str) -> Status {
 
 /// Serves or replays standard input over the files of the system. Replies are gathered, and written at the end of a round.
 fn serve(
-    rt: &(impl Input + Print + Clock + Files<File = File> + AllocGlobal + Wait),
+    rt: &(impl Input + Print + Clock + Files<File = File> + AllocGlobal + Threads + Wait + Sync),
     words: &[Text],
 ) -> Status {
     let Ok(writer) = BufWriter::with_capacity(rt.alloc(), OUTPUT_ROOM, io::writer(rt)) else {
@@ -82,11 +84,20 @@ fn serve(
         &mut sink,
         &mut shelf,
         StdClock::new(rt),
+        &OpenGate,
     )
 }
 
 fn run(
-    rt: &(impl Env + Input + Print + Clock + Files<File = File> + AllocGlobal + Wait),
+    rt: &(impl Env
+        + Input
+        + Print
+        + Clock
+        + Files<File = File>
+        + AllocGlobal
+        + Threads
+        + Wait
+        + Sync),
 ) -> Status {
     match words(rt) {
         Ok(words) => match said_of_itself(&words) {

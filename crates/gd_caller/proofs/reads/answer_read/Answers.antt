@@ -1,17 +1,52 @@
-use Rattle.std.proofs.Common.{◌-◌, ℕ, map, ap, refl, ◌∙◌}
+use Rattle.std.proofs.Common.{◌-◌, ℕ, inl, inr, ⊎_elim, map, get_or, refl, ap, ◌∙◌, arith}
 use Rattle.std.proofs.lemmas.List.{map-set}
+use Rattle.std.proofs.lemmas.Option.{slice_get-get_or}
 use Rattle.gd_runs.specs.Request.{reply_of}
 use Rattle.gd_mql.specs.Requests.{read_view}
 use Rattle.gd_caller.specs.declared.replies.RoundReply.TheVariants.{Line}
 use Rattle.gd_caller.specs.Replies.{round_text}
-use Rattle.gd_caller.specs.Works.{write_of}
-use Rattle.gd_caller.proofs.Answered.{answers_set}
 use Rattle.gd_caller.proofs.reads.answer_read.Goals as goal
 
-pub returns-in-Ok-clause-answers : goal.returns-in-Ok-clause-answers
-returns-in-Ok-clause-answers g c outs are =
-    let s = c.args.standing.now in
+pub returns-in-Some-clause-answers : goal.returns-in-Some-clause-answers
+returns-in-Some-clause-answers g c outs are =
     let r = c.args.read in
-    answers_set s.first s.store.now s.shown (map write_of s.writes.now) outs r (map round_text c.args.replies.now.items) (map round_text c.put.new.replies.items) (r.line - s.first) c.in-Ok.bytes.items
-    (ap (map round_text) c.put.ensures ∙ map-set round_text c.args.replies.now.items (r.line - s.first) (Line c.in-Ok.bytes)) c.requires.read.0 refl
-    (c.in-Ok.ensures ∙ ap (λ (n : ℕ). reply_of s.store.now n r.line (read_view r.request)) (c.least_later-number.ensures.least outs are))
+    let floors = c.args.floors.now in
+    let kept = c.in-Some.kept in
+    let was = c.args.replies.now.items in
+    let place = r.line - c.args.standing.now.first in
+    let fits = c.in-Some.ensures.fits outs are in
+    let many = c.requires.floors in
+    let small = c.requires.read.2 in
+    record {
+      floor = get_or floors r.session 0;
+      there = slice_get-get_or floors r.session 0 (omega (arith, many, small));
+      at = kept.at;
+      next = kept.at;
+      floors_are = refl;
+      above_floor = fits.above;
+      above_at = omega arith;
+      replies = inr (kept.reply.items, ap (map round_text) c.put.ensures ∙ map-set round_text was place (Line kept.reply), inr (kept, c.in-Some.ensures.same, refl, refl, fits));
+    }
+
+pub returns-in-None-clause-answers : goal.returns-in-None-clause-answers
+returns-in-None-clause-answers g c outs are =
+    let r = c.args.read in
+    let s = c.args.standing.now in
+    let floors = c.args.floors.now in
+    let many = c.requires.floors in
+    let small = c.requires.read.2 in
+    let most = c.max.ensures in
+    let least = c.least_later-at.ensures.least outs are in
+    record {
+      floor = get_or floors r.session 0;
+      there = slice_get-get_or floors r.session 0 (omega (arith, many, small));
+      at = c.least_later-at.result;
+      next = c.max.result;
+      floors_are = refl;
+      above_floor = omega (arith, most);
+      above_at = omega (arith, most);
+      replies = ⊎_elim
+          (λ same. inl same)
+          (λ is. inr (reply_of s.store.now c.least_later-at.result r.line (read_view r.request), is, inl (least, ap (λ (n : ℕ). reply_of s.store.now n r.line (read_view r.request)) least)))
+          c.answer_at.ensures.replies;
+    }

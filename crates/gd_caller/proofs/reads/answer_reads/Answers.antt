@@ -1,27 +1,71 @@
-use Rattle.std.proofs.Common.{◌≡◌, ◌+◌, ℕ, List, [], ◌∷◌, ◌++◌, Some, slice_get, length, map, refl, sym, subst, ◌∙◌, arith}
-use Rattle.std.specs.List.{AllByRecursion}
-use Rattle.gd_runs.proofs.Rounds.{get_left, get_right}
-use Rattle.gd_caller.specs.declared.work.ReadLine.{ReadLine}
+use Rattle.std.proofs.Common.{◌≡◌, ◌+◌, ◌-◌, ℕ, List, [], ◌∷◌, ◌++◌, Some, slice_get, length, map, replicate, reverse, sym, subst, ap, ◌∙◌, arith, length-append}
+use Rattle.std.proofs.lemmas.List.{reverse-reverse}
 use Rattle.gd_caller.specs.Replies.{round_text}
-use Rattle.gd_caller.specs.Works.{write_of, IsReadWithin}
-use Rattle.gd_caller.proofs.Answered.{answers_more}
-use Rattle.gd_caller.proofs.Read.{all_front}
+use Rattle.gd_caller.specs.Works.{IsReadWithin}
+use Rattle.gd_caller.proofs.Joins.{Joining, joining_none, joining_more, next_read, taken_worked, taken_shown, left_worked}
+use Rattle.gd_caller.proofs.Read.{all_at}
+use Rattle.gd_caller.proofs.Sets.{replicate_all}
 use Rattle.gd_caller.proofs.reads.answer_reads.Goals as goal
+
+pub loop-read-init : goal.loop-read-init
+loop-read-init g c =
+    let s = c.args.standing.now in
+    let reads = c.args.reads.items in
+    record {
+      done = [];
+      all = sym (ap reverse c.reverse.ensures.items ∙ reverse-reverse reads);
+      joining = λ outs are of. joining_none s.first c.args.begun reads s.writes.now s.store.now s.shown outs (map round_text c.args.replies.now.items) (replicate 64 c.args.begun)
+          (λ n f at. let is = replicate_all 64 n c.args.begun f at in omega (arith, is))
+          (λ x q at. (all_at (IsReadWithin s.first (s.first + length c.args.replies.now.items)) reads x q c.requires.reads at).0);
+      worked = λ j w at. at;
+      floors = omega arith;
+      count = omega arith;
+    }
+
+pub overflow_sub-place : goal.overflow_sub-place
+overflow_sub-place g c =
+    let s = c.args.standing.now in
+    let inv = c.loop-read.invariant in
+    let (at, rest) = next_read c.args.reads.items inv.done c.loop-read.reads.items c.pop.new.self.items c.in-Some.read inv.all c.in-Some.ensures.items in
+    (all_at (IsReadWithin s.first (s.first + length c.args.replies.now.items)) c.args.reads.items (length inv.done) c.in-Some.read c.requires.reads at).0
+
+pub answer_read-requires-clause-read : goal.answer_read-requires-clause-read
+answer_read-requires-clause-read g c =
+    let s = c.args.standing.now in
+    let inv = c.loop-read.invariant in
+    let (at, rest) = next_read c.args.reads.items inv.done c.loop-read.reads.items c.pop.new.self.items c.in-Some.read inv.all c.in-Some.ensures.items in
+    subst (λ (n : ℕ). IsReadWithin s.first (s.first + n) c.in-Some.read) (sym inv.count)
+    (all_at (IsReadWithin s.first (s.first + length c.args.replies.now.items)) c.args.reads.items (length inv.done) c.in-Some.read c.requires.reads at)
+
+pub answer_read-requires-clause-worked : goal.answer_read-requires-clause-worked
+answer_read-requires-clause-worked g c =
+    let s = c.args.standing.now in
+    let place = c.in-Some.read.line - s.first in
+    taken_shown s.first c.args.reads.items s.store.now s.shown place c.take_kept-kept.result
+    (taken_worked s.first c.args.reads.items s.store.now s.shown place c.loop-read.worked.items c.args.worked.items c.take_kept-kept.result c.requires.worked c.loop-read.invariant.worked c.take_kept-kept.ensures.taken)
 
 pub loop-read-preserved : goal.loop-read-preserved
 loop-read-preserved g c =
-    let inv = c.loop-read.invariant in
     let s = c.args.standing.now in
+    let inv = c.loop-read.invariant in
+    let reads = c.args.reads.items in
     let r = c.in-Some.read in
-    let rest = c.pop.new.self.items in
-    let items = c.in-Some.ensures.items in
-    let at_end : slice_get (rest ++ r ∷ []) (length rest + 0) ≡ Some r = get_right rest (r ∷ []) 0 r refl in
+    let place = r.line - s.first in
+    let (at, all) = next_read reads inv.done c.loop-read.reads.items c.pop.new.self.items r inv.all c.in-Some.ensures.items in
+    let texts = map round_text c.args.replies.now.items in
+    let now = map round_text c.loop-read.replies.items in
+    let next = map round_text c.answer_read.new.replies.items in
+    let many = length-append inv.done (r ∷ []) in
     record {
-      front = λ i q at. inv.front i q (subst (λ (l : List ReadLine). slice_get l i ≡ Some q) (sym items) (get_left rest (r ∷ []) i q at));
-      within = subst (λ (n : ℕ). AllByRecursion (IsReadWithin s.first (s.first + n)) rest) (sym c.answer_read.ensures.count)
-          (all_front (IsReadWithin s.first (s.first + length c.loop-read.replies.items)) rest (r ∷ []) (subst (AllByRecursion (IsReadWithin s.first (s.first + length c.loop-read.replies.items))) items inv.within));
-      answers = λ outs are. answers_more s.first s.store.now s.shown (map write_of s.writes.now) outs c.args.reads.items r (map round_text c.args.replies.now.items) (map round_text c.loop-read.replies.items) (map round_text c.answer_read.new.replies.items) (length rest + 0)
-          (inv.front (length rest + 0) r (subst (λ (l : List ReadLine). slice_get l (length rest + 0) ≡ Some r) (sym items) at_end))
-          (inv.answers outs are) (c.answer_read.ensures.answers outs are);
+      done = inv.done ++ r ∷ [];
+      all = all;
+      joining = λ outs are of. subst (λ (n : ℕ). Joining s.first c.args.begun reads s.writes.now s.store.now s.shown outs texts next c.answer_read.new.floors n) (omega (arith, many))
+          (joining_more s.first c.args.begun reads s.writes.now s.store.now s.shown outs texts now next c.loop-read.floors c.answer_read.new.floors (length inv.done) r c.take_kept-kept.result c.requires.rise
+          (λ x q there. (all_at (IsReadWithin s.first (s.first + length c.args.replies.now.items)) reads x q c.requires.reads there).0)
+          c.requires.apart of at
+          (taken_worked s.first reads s.store.now s.shown place c.loop-read.worked.items c.args.worked.items c.take_kept-kept.result c.requires.worked inv.worked c.take_kept-kept.ensures.taken)
+          (inv.joining outs are of) (c.answer_read.ensures.answers outs are));
+      worked = λ j w there. left_worked c.loop-read.worked.items c.args.worked.items place inv.worked j w (subst (λ (l : List _). slice_get l j ≡ Some (Some w)) c.take_kept-kept.ensures.left there);
+      floors = c.answer_read.ensures.floors;
       count = c.answer_read.ensures.count ∙ inv.count;
     }

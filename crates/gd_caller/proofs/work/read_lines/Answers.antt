@@ -1,7 +1,7 @@
-use Rattle.std.proofs.Common.{ℕ, ◌+◌, List, sym, subst, arith}
-use Rattle.gd_runs.specs.Explained.{Numbered}
-use Rattle.gd_caller.specs.Works.{IsAskedAt, TakesLine, AreWithin}
-use Rattle.gd_caller.proofs.Read.{item_is, one_read, all_read}
+use Rattle.std.proofs.Common.{ℕ, subst, arith}
+use Rattle.gd_caller.specs.Works.{TakesLine}
+use Rattle.gd_caller.proofs.Read.{one_read, all_read}
+use Rattle.gd_caller.proofs.Sets.{item_there}
 use Rattle.gd_caller.proofs.work.read_lines.Goals as goal
 
 pub loop-text-preserved : goal.loop-text-preserved
@@ -11,7 +11,7 @@ loop-text-preserved c =
     record {
       line = omega (arith, line);
       read = λ given kept. one_read c.args.first c.args.lines.now given c.loop-text.text-index c.text-item.result c.loop-text.works c.push.new.self kept
-          (item_is c.args.lines.now c.loop-text.text-index c.text-item.result c.loop-text-test.true c.text-item.is)
+          (item_there c.args.lines.now c.loop-text.text-index c.text-item.result c.loop-text-test.true c.text-item.is)
           (inv.read given kept)
           (λ bytes is. subst (λ (n : ℕ). TakesLine n bytes c.loop-text.works c.push.new.self) line
           (c.in_ok-push.ensures.takes c.loop-text.line bytes c.read_line.ensures.within (c.read_line.ensures.asked bytes is)));

@@ -4,11 +4,12 @@ use Rattle.gd_events.specs.Events.{event_view}
 use Rattle.gd_mql.specs.Line.{fault_view}
 use Rattle.gd_replay_laws.specs.Built.{Takes}
 use Rattle.gd_replay_laws.specs.Runs.{BuiltLine}
+use Rattle.gd_replay_laws.specs.Faults.{IsCounted}
 use Rattle.gd_replay_laws.proofs.Bounds.{event_bounded}
 use Rattle.gd_replay_laws.proofs.Below.{later}
 use Rattle.gd_sessions.specs.Running.{core_state}
 use Rattle.gd_replay.specs.Lines.{TellsFault, TellsTooLong}
-use Rattle.gd_replay.proofs.Answered.{answers_more, takes_line, refuses_line, long_line}
+use Rattle.gd_replay.proofs.Answered.{answers_more, answers_counted, takes_line, refuses_line, long_line, fault_told_quiet, long_told_quiet}
 use Rattle.gd_replay.proofs.Carried.{along_same}
 use Rattle.gd_replay.proofs.Outcomes.{ok_more}
 use Rattle.gd_replay.proofs.answering.answer.Goals as goal
@@ -20,27 +21,43 @@ pub returns-in-Ok-clause-answers : goal.returns-in-Ok-clause-answers
 returns-in-Ok-clause-answers g c = ok_more c.carry.result _ _
     (λ both takes. λ tells members piece kept.
     let whole = rw c.in-Bytes.is at kept in
-    answers_more (λ line. Takes members (g.C.Clock.may c.args.running.side.clock) (core_state c.args.running) c.args.line c.len.result (event_view c.in-Ok.event) line (core_state both.0))
-    (λ line. BuiltLine members (g.C.Clock.may c.args.running.side.clock) (core_state c.args.running) c.args.line piece line (core_state both.0)) both.1
-    (λ line taken. takes_line members (g.C.Clock.may c.args.running.side.clock) (core_state c.args.running) c.args.line c.len.result piece (event_view c.in-Ok.event) line (core_state both.0)
-    (subst (λ (bytes : List ℕ). event_from bytes ≡ Ok (event_view c.in-Ok.event)) (c.deref.ensures.value ∙ whole.0) c.in-Ok.ensures.asked) (omega (arith, c.len.ensures, c.in-Bytes.bytes.ok.0, ap length whole.0)) taken)
+    let may = g.C.Clock.may c.args.running.side.clock in
+    let s = core_state c.args.running in
+    let before = g.D.Disk.faults c.args.running.side.log.disk in
+    let after = g.D.Disk.faults both.0.side.log.disk in
+    answers_more (λ line. Takes members may s c.args.line c.len.result (event_view c.in-Ok.event) line (core_state both.0) × IsCounted c.args.line line before after)
+    (λ line. BuiltLine members may s c.args.line piece line (core_state both.0) × IsCounted c.args.line line before after) both.1
+    (λ line (taken, counted). (
+      takes_line members may s c.args.line c.len.result piece (event_view c.in-Ok.event) line (core_state both.0)
+          (subst (λ (bytes : List ℕ). event_from bytes ≡ Ok (event_view c.in-Ok.event)) (c.deref.ensures.value ∙ whole.0) c.in-Ok.ensures.asked) (omega (arith, c.len.ensures, c.in-Bytes.bytes.ok.0, ap length whole.0)) taken,
+      counted,
+    ))
     (takes tells members))
     c.carry.ensures.takes
 
 pub returns-in-Bytes-clause-answers : goal.returns-in-Bytes-clause-answers
 returns-in-Bytes-clause-answers g c = λ tells members piece kept.
     let whole = rw c.in-Bytes.is at kept in
-    answers_more (TellsFault c.args.line c.in-Err.fault) (λ line. BuiltLine members (g.C.Clock.may c.args.running.side.clock) (core_state c.args.running) c.args.line piece line (core_state c.args.running)) c.refuse-reply.result
-    (λ line told. refuses_line members (g.C.Clock.may c.args.running.side.clock) (core_state c.args.running) c.args.line piece c.in-Err.fault line
-    (λ some. subst (λ (bytes : List ℕ). event_from bytes ≡ Err (fault_view c.in-Err.fault)) (c.deref.ensures.value ∙ whole.0) (c.in-Err.ensures.asked some)) told)
-    c.refuse-reply.ensures
+    let may = g.C.Clock.may c.args.running.side.clock in
+    let s = core_state c.args.running in
+    let faults = g.D.Disk.faults c.args.running.side.log.disk in
+    answers_more (λ line. TellsFault c.args.line c.in-Err.fault line × IsCounted c.args.line line faults faults) (λ line. BuiltLine members may s c.args.line piece line s × IsCounted c.args.line line faults faults) c.refuse-reply.result
+    (λ line (told, counted). (
+      refuses_line members may s c.args.line piece c.in-Err.fault line
+          (λ some. subst (λ (bytes : List ℕ). event_from bytes ≡ Err (fault_view c.in-Err.fault)) (c.deref.ensures.value ∙ whole.0) (c.in-Err.ensures.asked some)) told,
+      counted,
+    ))
+    (answers_counted (TellsFault c.args.line c.in-Err.fault) c.args.line faults faults c.refuse-reply.result (fault_told_quiet c.args.line c.in-Err.fault) c.refuse-reply.ensures)
 
 pub returns-clause-answers : goal.returns-clause-answers
 returns-clause-answers g c = λ tells members piece kept.
     let long = rw c.in-TooLong.is at kept in
-    answers_more (TellsTooLong c.args.line) (λ line. BuiltLine members (g.C.Clock.may c.args.running.side.clock) (core_state c.args.running) c.args.line piece line (core_state c.args.running)) c.refuse_long-reply.result
-    (λ line told. long_line members (g.C.Clock.may c.args.running.side.clock) (core_state c.args.running) c.args.line piece line long told)
-    c.refuse_long-reply.ensures
+    let may = g.C.Clock.may c.args.running.side.clock in
+    let s = core_state c.args.running in
+    let faults = g.D.Disk.faults c.args.running.side.log.disk in
+    answers_more (λ line. TellsTooLong c.args.line line × IsCounted c.args.line line faults faults) (λ line. BuiltLine members may s c.args.line piece line s × IsCounted c.args.line line faults faults) c.refuse_long-reply.result
+    (λ line (told, counted). (long_line members may s c.args.line piece line long told, counted))
+    (answers_counted (TellsTooLong c.args.line) c.args.line faults faults c.refuse_long-reply.result (long_told_quiet c.args.line) c.refuse_long-reply.ensures)
 
 pub returns-in-Bytes-clause-below : goal.returns-in-Bytes-clause-below
 returns-in-Bytes-clause-below g c = later c.args.line (core_state c.args.running) c.requires.below

@@ -6,17 +6,23 @@ use Rattle.gd_sessions.specs.Running.{core_state, Answers}
 use Rattle.gd_replay.proofs.Carried.{anew_below, taken_below, taken_grows, along_opened, along_stepped, lost_opened}
 use Rattle.gd_replay.proofs.Kept.{hindered}
 use Rattle.gd_replay.proofs.Outcomes.{ok_more, ok_each, err_each}
-use Rattle.gd_replay.proofs.Answered.{may_take}
+use Rattle.gd_replay.proofs.Answered.{may_take, answers_first, reopened_counted}
 use Rattle.gd_replay.proofs.answering.carry.Goals as goal
 
 pub returns-then-opens_again-clause-takes : goal.returns-then-opens_again-clause-takes
-returns-then-opens_again-clause-takes g c = ok_more c.reopen.result _ _
-    (λ both takes. λ tells members. subst (λ (e : core.Event). Answers (λ line. Takes members (g.C.Clock.may c.args.running.side.clock) (core_state c.args.running) c.args.line c.args.bytes e line (core_state both.0)) both.1)
-    (sym (c.opens_again.ensures.again c.if-opens_again.true)) (takes tells members (g.C.Clock.may c.args.running.side.clock) c.args.bytes))
-    c.reopen.ensures.takes
+returns-then-opens_again-clause-takes g c =
+    let may = g.C.Clock.may c.args.running.side.clock in
+    let s = core_state c.args.running in
+    let before = g.D.Disk.faults c.args.running.side.log.disk in
+    rw (c.opens_again.ensures.again c.if-opens_again.true)
+    (ok_more c.reopen.result _ _
+    (λ both takes. λ tells members. reopened_counted members may s c.args.line c.args.bytes (core_state both.0) before (g.D.Disk.faults both.0.side.log.disk) both.1 (takes tells members may c.args.bytes))
+    c.reopen.ensures.takes)
 
 pub returns-clause-below : goal.returns-clause-below
-returns-clause-below g c = taken_below (g.C.Clock.may c.args.running.side.clock) (core_state c.args.running) c.args.line c.args.bytes (event_view c.args.event) (core_state c.step-reply.new.self) c.step-reply.result c.requires.below c.step-reply.ensures.takes
+returns-clause-below g c =
+    taken_below (g.C.Clock.may c.args.running.side.clock) (core_state c.args.running) c.args.line c.args.bytes (event_view c.args.event) (core_state c.step-reply.new.self) c.step-reply.result c.requires.below
+    (λ members. answers_first _ _ c.step-reply.result (c.step-reply.ensures.takes members))
 
 pub returns-then-opens_again-clause-below : goal.returns-then-opens_again-clause-below
 returns-then-opens_again-clause-below g c = ok_more c.reopen.result _ _ (λ both anew. anew_below c.args.line (core_state c.args.running) (core_state both.0) both.0.side.history.loaded c.requires.below anew) c.reopen.ensures.anew
@@ -37,7 +43,8 @@ returns-then-opens_again-clause-lost g c = err_each c.reopen.result _ _ _ _ _ _
 
 pub returns-clause-along : goal.returns-clause-along
 returns-clause-along g c = along_stepped g.D.Disk.content g.D.Disk.faults g.C.Clock.may g.D.Disk.moment g.D.Disk.images g.D.Disk.images_since c.args.running.side c.step-reply.new.self.side c.step-reply.ensures.goes
-    (taken_grows (g.C.Clock.may c.args.running.side.clock) (core_state c.args.running) c.args.line c.args.bytes (event_view c.args.event) (core_state c.step-reply.new.self) c.step-reply.result c.step-reply.ensures.takes)
+    (taken_grows (g.C.Clock.may c.args.running.side.clock) (core_state c.args.running) c.args.line c.args.bytes (event_view c.args.event) (core_state c.step-reply.new.self) c.step-reply.result
+    (λ members. answers_first _ _ c.step-reply.result (c.step-reply.ensures.takes members)))
 
 pub step-reply-requires-clause-may : goal.step-reply-requires-clause-may
 step-reply-requires-clause-may g c = may_take (core_state c.args.running) c.args.line (event_view c.args.event) c.requires.below c.requires.bounded

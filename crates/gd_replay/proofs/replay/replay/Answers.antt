@@ -4,6 +4,8 @@ use Rattle.gd_prim.specs.declared.Batch.{Batch}
 use Rattle.gd_runs.specs.Legal.{batches}
 use Rattle.gd_runs.specs.Core.{State}
 use Rattle.gd_writer.specs.Parts.{Tells}
+use Rattle.gd_replay_laws.specs.Faults.{RoseBy}
+use Rattle.gd_replay_laws.proofs.Faults.{rose_within}
 use Rattle.gd_replay.specs.Kept.{HasBatches}
 use Rattle.gd_replay.specs.Stops.{Leaves, EndsAs}
 use Rattle.gd_replay.specs.Runs.{Loads, Replays, ReplaysTaken, ReplaysFront}
@@ -23,9 +25,14 @@ returns-in-Ok-clause-ends g c = λ tells members.
     let mid = g.K.Sink.held c.replay_lines-end.new.sink in
     let new = g.K.Sink.held c.flush-sent.new.self in
     let x = g.S.Source.left c.args.source.now in
+    let before = g.D.Disk.faults c.args.disk in
+    let opened = g.D.Disk.faults running.side.log.disk in
+    let after = g.D.Disk.faults c.replay_lines-end.result.1 in
     let idle : Type 0 = (c.replay_lines-end.new.source ≡ c.args.source.now) × (c.flush-sent.new.self ≡ c.args.sink.now) in
-    subst (λ (m : ℕ → Bool). EndsAs c.sent_on.result (IfSome x (Replays members m (Loads content) leaves old new)) (IfSome x (ReplaysTaken members m (Loads content) leaves old new)) (IfSome x (ReplaysFront members m (Loads content) leaves old new)) idle) begins.clock
-    (sent_ends members (g.C.Clock.may running.side.clock) (λ l. l ≡ running.side.history.loaded) (Loads content) (λ l is. subst (λ (bs : List Batch). Loads content bs) (sym is) begins.means) leaves old mid new c.flush-sent.ensures.bytes idle x
+    subst (λ (m : ℕ → Bool). EndsAs c.sent_on.result (IfSome x (Replays members m (Loads content) leaves (RoseBy before after) old new)) (IfSome x (ReplaysTaken members m (Loads content) leaves (RoseBy before after) old new))
+    (IfSome x (ReplaysFront members m (Loads content) leaves (RoseBy before after) old new)) idle) begins.clock
+    (sent_ends members (g.C.Clock.may running.side.clock) (λ l. l ≡ running.side.history.loaded) (Loads content) (λ l is. subst (λ (bs : List Batch). Loads content bs) (sym is) begins.means) leaves
+    (RoseBy opened after) (RoseBy before after) (λ n rose. rose_within opened after before after n c.in-Ok.ensures.disk.later (omega arith) rose) old mid new c.flush-sent.ensures.bytes idle x
     c.replay_lines-end.result.0 c.flush-sent.result c.sent_on.result c.sent_on.ensures
     (c.replay_lines-end.ensures.ends (subst (λ (told : Bool). IsTrue told) (sym c.in-Ok.ensures.disk.told) tells) members))
 

@@ -15,7 +15,7 @@ loop-piece-init g c =
     let left = g.S.Source.left c.args.source.now in
     let new = c.new-reader.ensures in
     record {
-      upto = λ tells members. begun_upto members (g.C.Clock.may c.args.running.side.clock) c.args.running.side.history.loaded (g.K.Sink.held c.args.sink.now) (core_state c.args.running) c.new-reader.result left new c.requires;
+      upto = λ tells members. begun_upto members (g.C.Clock.may c.args.running.side.clock) c.args.running.side.history.loaded (g.K.Sink.held c.args.sink.now) (g.D.Disk.faults c.args.running.side.log.disk) (core_state c.args.running) c.new-reader.result left new c.requires;
       advances = begun_advances c.new-reader.result left new;
       counted = omega arith;
       below = begun_below (core_state c.args.running) c.args.running.side.history.loaded 0 c.requires;
@@ -36,12 +36,15 @@ loop-piece-preserved g c =
     let new = g.K.Sink.held c.take_piece.new.sink in
     let k = c.loop-piece.line in
     let s = core_state c.loop-piece.current in
+    let begun = g.D.Disk.faults c.args.running.side.log.disk in
+    let before = g.D.Disk.faults c.loop-piece.current.side.log.disk in
+    let after = g.D.Disk.faults c.in-Ok-take_piece.next.side.log.disk in
     let x = g.S.Source.left c.args.source.now in
     let y = prepend_known c.loop-piece.reader.bytes (g.S.Source.left c.loop-piece.source) in
     let z = prepend_known c.read_line.new.self.bytes (g.S.Source.left c.read_line.new.source) in
     record {
-      upto = λ tells members. more_known members given loaded old mid new k s c.in-Ok-take_piece.count (core_state c.in-Ok-take_piece.next) x y z c.in-Ok.piece c.if-by_newline.true (inv.upto tells members) c.in-Ok.ensures.line
-          (λ bytes kept. prints_by members given may inv.along.clock s k bytes mid new (core_state c.in-Ok-take_piece.next) c.in-Ok-take_piece.count
+      upto = λ tells members. more_known members given loaded old mid new begun before after k s c.in-Ok-take_piece.count (core_state c.in-Ok-take_piece.next) x y z c.in-Ok.piece c.if-by_newline.true (inv.upto tells members) c.in-Ok.ensures.line
+          (λ bytes kept. prints_by members given may inv.along.clock s k bytes mid new before after (core_state c.in-Ok-take_piece.next) c.in-Ok-take_piece.count
           (c.in-Ok-take_piece.ensures.prints (tells_on g.D.Disk.content g.D.Disk.faults g.C.Clock.may c.args.running.side c.loop-piece.current.side inv.along tells) members bytes kept));
       advances = advances_then x y z c.loop-piece.reader.consumed c.read_line.new.self.consumed inv.advances c.read_line.ensures.advances;
       counted = (let forward = c.in-Ok.ensures.forward c.if-by_newline.true in let few = c.in-Ok-take_piece.ensures.few in omega (arith, inv.counted, forward, few));
@@ -63,14 +66,17 @@ returns-else-by_newline-clause-ends g c = λ tells members.
     let new = g.K.Sink.held c.take_piece.new.sink in
     let k = c.loop-piece.line in
     let s = core_state c.loop-piece.current in
+    let begun = g.D.Disk.faults c.args.running.side.log.disk in
+    let before = g.D.Disk.faults c.loop-piece.current.side.log.disk in
+    let after = g.D.Disk.faults c.in-Ok-take_piece.next.side.log.disk in
     let x = g.S.Source.left c.args.source.now in
     let y = prepend_known c.loop-piece.reader.bytes (g.S.Source.left c.loop-piece.source) in
     let z = prepend_known c.read_line.new.self.bytes (g.S.Source.left c.read_line.new.source) in
     let now = tells_on g.D.Disk.content g.D.Disk.faults g.C.Clock.may c.args.running.side c.loop-piece.current.side inv.along tells in
     let then = tells_on g.D.Disk.content g.D.Disk.faults g.C.Clock.may c.loop-piece.current.side c.in-Ok-take_piece.next.side c.in-Ok-take_piece.ensures.along now in
     rw c.ended.ensures.parts
-    (done_known members given loaded old mid new k s (Leaves (g.D.Disk.images c.in-Ok-take_piece.next.side.log.disk)) c.in-Ok-take_piece.count (core_state c.in-Ok-take_piece.next) x y z c.in-Ok.piece c.if-by_newline.false (inv.upto tells members) c.in-Ok.ensures.line
-    (λ bytes kept. prints_by members given may inv.along.clock s k bytes mid new (core_state c.in-Ok-take_piece.next) c.in-Ok-take_piece.count (c.in-Ok-take_piece.ensures.prints now members bytes kept))
+    (done_known members given loaded old mid new begun before after k s (Leaves (g.D.Disk.images c.in-Ok-take_piece.next.side.log.disk)) c.in-Ok-take_piece.count (core_state c.in-Ok-take_piece.next) x y z c.in-Ok.piece c.if-by_newline.false (inv.upto tells members) c.in-Ok.ensures.line
+    (λ bytes kept. prints_by members given may inv.along.clock s k bytes mid new before after (core_state c.in-Ok-take_piece.next) c.in-Ok-take_piece.count (c.in-Ok-take_piece.ensures.prints now members bytes kept))
     (c.ended.ensures.holds then))
 
 pub returns-in-Err-take_piece-clause-ends : goal.returns-in-Err-take_piece-clause-ends
@@ -84,12 +90,15 @@ returns-in-Err-take_piece-clause-ends g c = λ tells members.
     let new = g.K.Sink.held c.take_piece.new.sink in
     let k = c.loop-piece.line in
     let s = core_state c.loop-piece.current in
+    let begun = g.D.Disk.faults c.args.running.side.log.disk in
+    let before = g.D.Disk.faults c.loop-piece.current.side.log.disk in
+    let after = g.D.Disk.faults c.in-Err-take_piece.disk in
     let x = g.S.Source.left c.args.source.now in
     let y = prepend_known c.loop-piece.reader.bytes (g.S.Source.left c.loop-piece.source) in
     let z = prepend_known c.read_line.new.self.bytes (g.S.Source.left c.read_line.new.source) in
     let now = tells_on g.D.Disk.content g.D.Disk.faults g.C.Clock.may c.args.running.side c.loop-piece.current.side inv.along tells in
-    stops_known members given loaded old mid new k s (Leaves (g.D.Disk.images c.in-Err-take_piece.disk)) c.in-Err-take_piece.stop _ _ c.in-Err-take_piece.ensures.caused x y z c.in-Ok.piece (inv.upto tells members) c.in-Ok.ensures.line
-    (λ bytes kept. stops_by members given may inv.along.clock s k bytes mid new (Leaves (g.D.Disk.images c.in-Err-take_piece.disk)) c.in-Err-take_piece.stop (c.in-Err-take_piece.ensures.stops now members bytes kept))
+    stops_known members given loaded old mid new begun before after k s (Leaves (g.D.Disk.images c.in-Err-take_piece.disk)) c.in-Err-take_piece.stop _ _ c.in-Err-take_piece.ensures.caused x y z c.in-Ok.piece c.in-Err-take_piece.ensures.disk (inv.upto tells members) c.in-Ok.ensures.line
+    (λ bytes kept. stops_by members given may inv.along.clock s k bytes mid new before after (Leaves (g.D.Disk.images c.in-Err-take_piece.disk)) c.in-Err-take_piece.stop (c.in-Err-take_piece.ensures.stops now members bytes kept))
 
 pub returns-in-Err-take_piece-clause-caused : goal.returns-in-Err-take_piece-clause-caused
 returns-in-Err-take_piece-clause-caused g c =
@@ -102,7 +111,8 @@ pub returns-in-Err-clause-ends : goal.returns-in-Err-clause-ends
 returns-in-Err-clause-ends g c = λ tells members.
     let inv = c.loop-piece.invariant in
     rw c.stopped.ensures.parts
-    (input_known members (g.C.Clock.may c.args.running.side.clock) c.args.running.side.history.loaded (Leaves (g.D.Disk.images c.loop-piece.current.side.log.disk)) (g.K.Sink.held c.args.sink.now) (g.K.Sink.held c.loop-piece.sink) c.loop-piece.line (core_state c.loop-piece.current) c.in-Err.fault
+    (input_known members (g.C.Clock.may c.args.running.side.clock) c.args.running.side.history.loaded (Leaves (g.D.Disk.images c.loop-piece.current.side.log.disk)) (g.K.Sink.held c.args.sink.now) (g.K.Sink.held c.loop-piece.sink)
+    (g.D.Disk.faults c.args.running.side.log.disk) (g.D.Disk.faults c.loop-piece.current.side.log.disk) c.loop-piece.line (core_state c.loop-piece.current) c.in-Err.fault
     (g.S.Source.left c.args.source.now) (prepend_known c.loop-piece.reader.bytes (g.S.Source.left c.loop-piece.source)) (inv.upto tells members)
     (c.stopped.ensures.holds (tells_on g.D.Disk.content g.D.Disk.faults g.C.Clock.may c.args.running.side c.loop-piece.current.side inv.along tells)))
 

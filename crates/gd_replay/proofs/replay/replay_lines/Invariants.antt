@@ -13,7 +13,7 @@ use Rattle.gd_replay.proofs.replay.replay_lines.Given as goal
 abbrev pub invariant-loop-piece : goal.invariant-loop-piece
 invariant-loop-piece g l = record {
   upto : Tells (g.D.Disk.content l.fn.running.side.log.disk) → (members : MembersOf) → Known (g.S.Source.left l.fn.source) (prepend_known l.reader.bytes (g.S.Source.left l.source))
-      (RunUpto members (g.C.Clock.may l.fn.running.side.clock) l.fn.running.side.history.loaded (g.K.Sink.held l.fn.sink) (g.K.Sink.held l.sink) l.line (core_state l.current));
+      (RunUpto members (g.C.Clock.may l.fn.running.side.clock) l.fn.running.side.history.loaded (g.K.Sink.held l.fn.sink) (g.K.Sink.held l.sink) (g.D.Disk.faults l.fn.running.side.log.disk) (g.D.Disk.faults l.current.side.log.disk) l.line (core_state l.current));
   advances : Advances (g.S.Source.left l.fn.source) (prepend_known l.reader.bytes (g.S.Source.left l.source)) 0 l.reader.consumed;
   counted : l.line ≤ l.reader.consumed;
   below : AreBelow l.line (core_state l.current);

@@ -5,12 +5,12 @@ use Rattle.gd_writer.specs.Parts.{Tells}
 use Rattle.gd_replay_laws.specs.Runs.{AreBelow}
 use Rattle.gd_sessions.specs.Running.{RunningValue, core_state}
 use Rattle.gd_replay.specs.Stops.{Leaves, GoesAlong}
-use Rattle.gd_replay.specs.Runs.{LinePrints}
+use Rattle.gd_replay.specs.Runs.{LinePrints, LineStops}
 use Rattle.gd_replay.proofs.Carried.{tells_on}
 use Rattle.gd_replay.proofs.Grown.{grows_same}
 use Rattle.gd_replay.proofs.Kept.{leaves_has, halted_keeps}
 use Rattle.gd_replay.proofs.Taken.{printed_line, halted_line, halted_cause}
-use Rattle.gd_replay.proofs.Outcomes.{ok_two, ok_more, err_three, err_more}
+use Rattle.gd_replay.proofs.Outcomes.{ok_two, ok_more, err_three, err_four, err_more}
 use Rattle.gd_replay.proofs.running.take_line.Goals as goal
 
 pub returns-in-Ok-clause-prints : goal.returns-in-Ok-clause-prints
@@ -19,10 +19,12 @@ returns-in-Ok-clause-prints g c =
     let s = core_state c.args.running in
     let old = g.K.Sink.held c.args.sink.now in
     let new = g.K.Sink.held c.print_reply.new.sink in
+    let faults = g.D.Disk.faults in
+    let before = faults c.args.running.side.log.disk in
     ok_two c.print_reply.result _ _ _
     (λ next is printed. λ tells members bytes kept.
-    subst (λ (r : RunningValue _ _). LinePrints members may s c.args.line bytes (core_state r) old new) (sym is)
-    (printed_line members may s (core_state c.in-Ok.running) c.args.line bytes old new c.in-Ok.reply (c.in-Ok.ensures.answers tells members bytes kept) printed))
+    subst (λ (r : RunningValue _ _). LinePrints members may s c.args.line bytes (core_state r) old new before (faults r.side.log.disk)) (sym is)
+    (printed_line members may s (core_state c.in-Ok.running) c.args.line bytes old new before (faults c.in-Ok.running.side.log.disk) c.in-Ok.reply (c.in-Ok.ensures.answers tells members bytes kept) printed))
     c.print_reply.ensures.same c.print_reply.ensures.printed
 
 pub returns-in-Ok-clause-below : goal.returns-in-Ok-clause-below
@@ -37,11 +39,15 @@ returns-in-Ok-clause-stops g c =
     let s = core_state c.args.running in
     let old = g.K.Sink.held c.args.sink.now in
     let new = g.K.Sink.held c.print_reply.new.sink in
-    err_three c.print_reply.result _ _ _ _
-    (λ halt why front holds. λ tells members bytes kept.
-    halted_line members may s (core_state c.in-Ok.running) c.args.line bytes (Leaves (g.D.Disk.images halt.1)) halt.0 (Rose (g.K.Sink.faults c.args.sink.now) (g.K.Sink.faults c.print_reply.new.sink)) old new c.in-Ok.reply why
-    (c.in-Ok.ensures.answers tells members bytes kept) front (holds (tells_on g.D.Disk.content g.D.Disk.faults g.C.Clock.may c.args.running.side c.in-Ok.running.side c.in-Ok.ensures.along tells)))
-    c.print_reply.ensures.halt c.print_reply.ensures.front c.print_reply.ensures.holds
+    let faults = g.D.Disk.faults in
+    let before = faults c.args.running.side.log.disk in
+    let rose = Rose (g.K.Sink.faults c.args.sink.now) (g.K.Sink.faults c.print_reply.new.sink) in
+    err_four c.print_reply.result _ _ _ _ _
+    (λ halt why front disk holds. λ tells members bytes kept.
+    subst (λ d. LineStops members may s c.args.line bytes (Leaves (g.D.Disk.images halt.1)) halt.0 old new before (faults d)) (sym disk)
+    (halted_line members may s (core_state c.in-Ok.running) c.args.line bytes (Leaves (g.D.Disk.images halt.1)) halt.0 rose old new before (faults c.in-Ok.running.side.log.disk) c.in-Ok.reply why
+    (c.in-Ok.ensures.answers tells members bytes kept) front (holds (tells_on g.D.Disk.content g.D.Disk.faults g.C.Clock.may c.args.running.side c.in-Ok.running.side c.in-Ok.ensures.along tells))))
+    c.print_reply.ensures.halt c.print_reply.ensures.front c.print_reply.ensures.disk c.print_reply.ensures.holds
 
 pub returns-in-Ok-clause-caused : goal.returns-in-Ok-clause-caused
 returns-in-Ok-clause-caused g c = err_more c.print_reply.result _ _

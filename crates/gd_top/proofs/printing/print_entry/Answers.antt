@@ -1,6 +1,5 @@
-use Rattle.std.proofs.Common.{◌≡◌, [], ◌∷◌, List, ℕ, take, decimal, codes, subst, ◌∙◌}
+use Rattle.std.proofs.Common.{◌≡◌, List, ℕ, take, decimal, codes, subst, ◌∙◌}
 use Rattle.std.specs.Io.KnownBytes.{Appends}
-use Rattle.gd_top.specs.Serves.{GainsFront}
 use Rattle.gd_top.proofs.Printed.{at_err, front_of, front_first, front_second}
 use Rattle.gd_top.proofs.printing.print_entry.Goals as goal
 

@@ -1,4 +1,4 @@
-use Rattle.std.proofs.Common.{[], ◌∷◌, ◌++◌, List, ℕ, decimal, codes, subst}
+use Rattle.std.proofs.Common.{[], ◌∷◌, ◌++◌, decimal, codes, subst}
 use Rattle.std.specs.Io.KnownBytes.{Appends}
 use Rattle.std.proofs.KnownBytes.{Appends-trans}
 use Rattle.gd_top.specs.Late.{late_front}

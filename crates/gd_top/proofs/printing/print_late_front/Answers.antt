@@ -1,4 +1,4 @@
-use Rattle.std.proofs.Common.{◌++◌, List, ℕ, decimal, codes}
+use Rattle.std.proofs.Common.{◌++◌, decimal, codes}
 use Rattle.std.proofs.KnownBytes.{Appends-trans}
 use Rattle.gd_top.proofs.Printed.{at_err, front_of, front_first, front_second}
 use Rattle.gd_top.proofs.printing.print_late_front.Goals as goal

@@ -3,9 +3,10 @@ use Rattle.gd_writer.specs.Parts.{Tells}
 use Rattle.gd_replay.specs.Runs.{Loads}
 use Rattle.gd_replay.specs.Stops.{Leaves}
 use Rattle.gd_top.specs.Ends.{IsIdle}
+use Rattle.gd_top.specs.Held.{RoseBy}
 use Rattle.gd_top.proofs.Kept.{keeps_nothing, keeps_shelved}
 use Rattle.gd_top.proofs.Replayed.{events_weaker, shelf_prints}
-use Rattle.gd_top.proofs.Weaker.{causes_same, rose_device}
+use Rattle.gd_top.proofs.Weaker.{causes_same, rose_added, rose_device}
 use Rattle.gd_top.proofs.replay.replay_in_file.Goals as goal
 
 pub returns-in-Ok-clause-prints : goal.returns-in-Ok-clause-prints
@@ -17,8 +18,13 @@ returns-in-Ok-clause-prints g c = λ tells members.
     let path = c.args.path.now in
     let source = c.args.source.now in
     let sink = c.args.sink.now in
-    events_weaker members (g.C.Clock.may c.args.clock) (Loads (d.content c.in-Ok.device)) (Loads (f.content c.args.shelf.now path)) (Leaves (d.images run.result.1)) (Leaves (f.images c.put_back.new.self path))
+    let old = f.faults c.args.shelf.now in
+    let new = f.faults c.put_back.new.self in
+    let before = d.faults c.in-Ok.device in
+    let after = d.faults run.result.1 in
+    events_weaker members (g.C.Clock.may c.args.clock) (Loads (d.content c.in-Ok.device)) (Loads (f.content c.args.shelf.now path)) (Leaves (d.images run.result.1)) (Leaves (f.images c.put_back.new.self path)) (RoseBy before after) (RoseBy old new)
     (λ loaded loads. subst (λ (told : Option (List ℕ)). Loads told loaded) holds.content loads) (λ s leaves file is. leaves file (c.put_back.ensures.holds.fewer file is))
+    (λ n. rose_added old (f.faults c.open_at.new.self) new before after n c.open_at.ensures.later c.in-Ok.ensures.count c.put_back.ensures.count)
     run.result.0 (IsIdle source run.new.source sink run.new.sink) (IsIdle source run.new.source sink run.new.sink) (g.S.Source.left source) (g.K.Sink.held sink) (g.K.Sink.held run.new.sink) (λ idle. idle)
     (run.ensures.prints (subst (λ (told : Option (List ℕ)). Tells told) (sym holds.content) tells) members)
 
@@ -45,7 +51,8 @@ returns-in-Err-clause-prints g c = λ tells members.
     let source = c.args.source.now in
     let sink = c.args.sink.now in
     rw c.of_shelf.ensures
-    (shelf_prints members (g.C.Clock.may c.args.clock) (Loads (g.F.Shelf.content c.args.shelf.now c.args.path.now)) (Leaves (g.F.Shelf.images c.open_at.new.self c.args.path.now)) (IsIdle source source sink sink) (g.S.Source.left source) (g.K.Sink.held sink) (g.K.Sink.held sink)
+    (shelf_prints members (g.C.Clock.may c.args.clock) (Loads (g.F.Shelf.content c.args.shelf.now c.args.path.now)) (Leaves (g.F.Shelf.images c.open_at.new.self c.args.path.now))
+    (RoseBy (g.F.Shelf.faults c.args.shelf.now) (g.F.Shelf.faults c.open_at.new.self)) (IsIdle source source sink sink) (g.S.Source.left source) (g.K.Sink.held sink) (g.K.Sink.held sink)
     c.in-Err.fault (record { source = refl; sink = refl }))
 
 pub returns-in-Err-clause-kept : goal.returns-in-Err-clause-kept

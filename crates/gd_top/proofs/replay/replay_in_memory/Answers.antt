@@ -4,6 +4,7 @@ use Rattle.gd_writer.specs.Parts.{Tells}
 use Rattle.gd_replay.specs.Runs.{Loads}
 use Rattle.gd_replay.specs.Stops.{Leaves}
 use Rattle.gd_top.specs.Ends.{IsIdle}
+use Rattle.gd_top.specs.Held.{RoseBy}
 use Rattle.gd_top.proofs.Replayed.{events_weaker, memory_prints, empty_loads, empty_causes}
 use Rattle.gd_top.proofs.replay.replay_in_memory.Goals as goal
 
@@ -14,8 +15,8 @@ returns-in-Ok-clause-prints g c = λ members.
     let sink = c.args.sink.now in
     let disk = c.in-Ok.disk in
     let empty = c.in-Ok.ensures in
-    events_weaker members (g.C.Clock.may c.args.clock) (Loads (content_of disk)) (λ loaded. loaded ≡ []) (Leaves (images_of run.result.1)) (λ s. Unit {0})
-    (empty_loads (content_of disk) empty) (λ s leaves. tt)
+    events_weaker members (g.C.Clock.may c.args.clock) (Loads (content_of disk)) (λ loaded. loaded ≡ []) (Leaves (images_of run.result.1)) (λ s. Unit {0}) (RoseBy 0 0) (RoseBy 0 0)
+    (empty_loads (content_of disk) empty) (λ s leaves. tt) (λ n rose. rose)
     run.result.0 (IsIdle source run.new.source sink run.new.sink) (IsIdle source run.new.source sink run.new.sink) (g.S.Source.left source) (g.K.Sink.held sink) (g.K.Sink.held run.new.sink) (λ idle. idle)
     (run.ensures.prints (subst (λ (told : Option (List ℕ)). Tells told) (sym empty) refl) members)
 
@@ -26,4 +27,4 @@ pub returns-in-Err-clause-prints : goal.returns-in-Err-clause-prints
 returns-in-Err-clause-prints g c = λ members.
     let source = c.args.source.now in
     let sink = c.args.sink.now in
-    memory_prints members (g.C.Clock.may c.args.clock) (λ loaded. loaded ≡ []) (λ s. Unit {0}) (IsIdle source source sink sink) (g.S.Source.left source) (g.K.Sink.held sink) (g.K.Sink.held sink) (record { source = refl; sink = refl })
+    memory_prints members (g.C.Clock.may c.args.clock) (λ loaded. loaded ≡ []) (λ s. Unit {0}) (RoseBy 0 0) (IsIdle source source sink sink) (g.S.Source.left source) (g.K.Sink.held sink) (g.K.Sink.held sink) (record { source = refl; sink = refl })

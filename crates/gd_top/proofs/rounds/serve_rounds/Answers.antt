@@ -1,13 +1,13 @@
 use Rattle.std.proofs.Common.{◌^◌, ◌∙◌, refl, arith}
 use Rattle.std.specs.Io.KnownBytes.{prepend_known}
-use Rattle.gd_sessions.specs.Running.{core_state}
+use Rattle.gd_threads.specs.Served.{state_at}
 use Rattle.gd_top.proofs.Printed.{at_err}
 use Rattle.gd_top.proofs.Known.{more_known, done_known, part_known, rounds_known, front_known, taken_known, counted_on, input_too_much, begun}
 use Rattle.gd_top.proofs.rounds.serve_rounds.Goals as goal
 
 pub loop-round-init : goal.loop-round-init
 loop-round-init g c =
-    let start = begun (g.C.Clock.may c.args.rounds.now.core.side.clock) (g.K.Sink.held c.args.sink.now) (g.D.Disk.faults c.args.rounds.now.core.side.log.disk) c.args.rounds.now c.new-reader.result (g.S.Source.left c.args.source.now) c.new-reader.ensures c.requires in
+    let start = begun (g.C.Clock.may c.args.rounds.now.side.clock) (g.K.Sink.held c.args.sink.now) (g.D.Disk.faults c.args.rounds.now.side.log.disk) c.args.rounds.now c.new-reader.result (g.S.Source.left c.args.source.now) c.new-reader.ensures c.requires in
     record {
       upto = start.upto;
       advances = start.advances;
@@ -23,20 +23,20 @@ loop-round-init g c =
 
 pub returns-in_err-round-clause-rounds : goal.returns-in_err-round-clause-rounds
 returns-in_err-round-clause-rounds g c is =
-    rounds_known c.args.rounds.now.core.side.history.loaded (g.C.Clock.may c.args.rounds.now.core.side.clock) c.requires.follow (g.K.Sink.held c.args.sink.now) (g.K.Sink.held c.loop-round.sink)
-    (g.D.Disk.faults c.args.rounds.now.core.side.log.disk) (g.D.Disk.faults c.loop-round.rounds.core.side.log.disk) (core_state c.loop-round.rounds.core) c.loop-round.rounds.lines (g.S.Source.left c.args.source.now)
+    rounds_known c.args.rounds.now.side.history.loaded (g.C.Clock.may c.args.rounds.now.side.clock) (g.K.Sink.held c.args.sink.now) (g.K.Sink.held c.loop-round.sink)
+    (g.D.Disk.faults c.args.rounds.now.side.log.disk) (g.D.Disk.faults c.loop-round.rounds.side.log.disk) (state_at c.loop-round.rounds.side) c.loop-round.rounds.lines (g.S.Source.left c.args.source.now)
     (prepend_known c.loop-round.reader.bytes (g.S.Source.left c.loop-round.source)) c.loop-round.invariant.upto
 
 pub returns-in_err-round-clause-rounds_taken : goal.returns-in_err-round-clause-rounds_taken
 returns-in_err-round-clause-rounds_taken g c is =
-    rounds_known c.args.rounds.now.core.side.history.loaded (g.C.Clock.may c.args.rounds.now.core.side.clock) c.requires.follow (g.K.Sink.held c.args.sink.now) (g.K.Sink.held c.loop-round.sink)
-    (g.D.Disk.faults c.args.rounds.now.core.side.log.disk) (g.D.Disk.faults c.loop-round.rounds.core.side.log.disk) (core_state c.loop-round.rounds.core) c.loop-round.rounds.lines (g.S.Source.left c.args.source.now)
+    rounds_known c.args.rounds.now.side.history.loaded (g.C.Clock.may c.args.rounds.now.side.clock) (g.K.Sink.held c.args.sink.now) (g.K.Sink.held c.loop-round.sink)
+    (g.D.Disk.faults c.args.rounds.now.side.log.disk) (g.D.Disk.faults c.loop-round.rounds.side.log.disk) (state_at c.loop-round.rounds.side) c.loop-round.rounds.lines (g.S.Source.left c.args.source.now)
     (prepend_known c.loop-round.reader.bytes (g.S.Source.left c.loop-round.source)) c.loop-round.invariant.upto
 
 pub returns-in_err-round-clause-front : goal.returns-in_err-round-clause-front
 returns-in_err-round-clause-front g c = at_err c.from_residual.result
-    (front_known c.args.rounds.now.core.side.history.loaded (g.C.Clock.may c.args.rounds.now.core.side.clock) c.requires.follow (g.K.Sink.held c.args.sink.now) (g.K.Sink.held c.loop-round.sink)
-    (g.D.Disk.faults c.args.rounds.now.core.side.log.disk) (g.D.Disk.faults c.loop-round.rounds.core.side.log.disk) (core_state c.loop-round.rounds.core) c.loop-round.rounds.lines (g.S.Source.left c.args.source.now)
+    (front_known c.args.rounds.now.side.history.loaded (g.C.Clock.may c.args.rounds.now.side.clock) (g.K.Sink.held c.args.sink.now) (g.K.Sink.held c.loop-round.sink)
+    (g.D.Disk.faults c.args.rounds.now.side.log.disk) (g.D.Disk.faults c.loop-round.rounds.side.log.disk) (state_at c.loop-round.rounds.side) c.loop-round.rounds.lines (g.S.Source.left c.args.source.now)
     (prepend_known c.loop-round.reader.bytes (g.S.Source.left c.loop-round.source)) c.loop-round.invariant.upto)
 
 pub returns-in_err-round-clause-too_much : goal.returns-in_err-round-clause-too_much
@@ -47,17 +47,17 @@ returns-in_err-round-clause-too_much g c is =
 
 pub returns-in_err-answer_round-clause-front : goal.returns-in_err-answer_round-clause-front
 returns-in_err-answer_round-clause-front g c = at_err c.from_residual-in_err-answer_round.result
-    (part_known c.args.rounds.now.core.side.history.loaded (g.C.Clock.may c.args.rounds.now.core.side.clock) (g.C.Clock.may c.loop-round.rounds.core.side.clock) c.requires.follow c.loop-round.invariant.clock (g.K.Sink.held c.args.sink.now) (g.K.Sink.held c.loop-round.sink) (g.K.Sink.held c.answer_round.new.sink)
-    (g.D.Disk.faults c.args.rounds.now.core.side.log.disk) (g.D.Disk.faults c.loop-round.rounds.core.side.log.disk) (g.D.Disk.faults c.answer_round.new.rounds.core.side.log.disk)
-    (core_state c.loop-round.rounds.core) c.loop-round.rounds.lines (core_state c.answer_round.new.rounds.core) c.answer_round.new.rounds.lines (g.S.Source.left c.args.source.now)
+    (part_known c.args.rounds.now.side.history.loaded (g.C.Clock.may c.args.rounds.now.side.clock) (g.C.Clock.may c.loop-round.rounds.side.clock) c.loop-round.invariant.clock (g.K.Sink.held c.args.sink.now) (g.K.Sink.held c.loop-round.sink) (g.K.Sink.held c.answer_round.new.sink)
+    (g.D.Disk.faults c.args.rounds.now.side.log.disk) (g.D.Disk.faults c.loop-round.rounds.side.log.disk) (g.D.Disk.faults c.answer_round.new.rounds.side.log.disk)
+    (state_at c.loop-round.rounds.side) c.loop-round.rounds.lines (state_at c.answer_round.new.rounds.side) c.answer_round.new.rounds.lines (g.S.Source.left c.args.source.now)
     (prepend_known c.loop-round.reader.bytes (g.S.Source.left c.loop-round.source)) (prepend_known c.read_round.new.self.bytes (g.S.Source.left c.read_round.new.source))
     c.in_ok-round.round c.deref.result.now c.deref.ensures.value c.loop-round.invariant.upto c.in_ok-round.ensures.round c.in_err-answer_round.ensures.front)
 
 pub returns-then-round-clause-done : goal.returns-then-round-clause-done
 returns-then-round-clause-done g c =
-    done_known c.args.rounds.now.core.side.history.loaded (g.C.Clock.may c.args.rounds.now.core.side.clock) (g.C.Clock.may c.loop-round.rounds.core.side.clock) c.requires.follow c.loop-round.invariant.clock (g.K.Sink.held c.args.sink.now) (g.K.Sink.held c.loop-round.sink) (g.K.Sink.held c.answer_round.new.sink)
-    (g.D.Disk.faults c.args.rounds.now.core.side.log.disk) (g.D.Disk.faults c.loop-round.rounds.core.side.log.disk) (g.D.Disk.faults c.answer_round.new.rounds.core.side.log.disk)
-    (core_state c.loop-round.rounds.core) c.loop-round.rounds.lines (core_state c.answer_round.new.rounds.core) c.answer_round.new.rounds.lines (g.S.Source.left c.args.source.now)
+    done_known c.args.rounds.now.side.history.loaded (g.C.Clock.may c.args.rounds.now.side.clock) (g.C.Clock.may c.loop-round.rounds.side.clock) c.loop-round.invariant.clock (g.K.Sink.held c.args.sink.now) (g.K.Sink.held c.loop-round.sink) (g.K.Sink.held c.answer_round.new.sink)
+    (g.D.Disk.faults c.args.rounds.now.side.log.disk) (g.D.Disk.faults c.loop-round.rounds.side.log.disk) (g.D.Disk.faults c.answer_round.new.rounds.side.log.disk)
+    (state_at c.loop-round.rounds.side) c.loop-round.rounds.lines (state_at c.answer_round.new.rounds.side) c.answer_round.new.rounds.lines (g.S.Source.left c.args.source.now)
     (prepend_known c.loop-round.reader.bytes (g.S.Source.left c.loop-round.source)) (prepend_known c.read_round.new.self.bytes (g.S.Source.left c.read_round.new.source))
     c.in_ok-round.round c.deref.result.now c.deref.ensures.value c.loop-round.invariant.upto c.in_ok-round.ensures.round c.in_ok-answer_round.ensures.all c.if-round.true
 
@@ -75,9 +75,9 @@ returns-then-round-clause-told g c = c.answer_round.ensures.told ∙ c.loop-roun
 
 pub loop-round-preserved : goal.loop-round-preserved
 loop-round-preserved g c = record {
-  upto = more_known c.args.rounds.now.core.side.history.loaded (g.C.Clock.may c.args.rounds.now.core.side.clock) (g.C.Clock.may c.loop-round.rounds.core.side.clock) c.requires.follow c.loop-round.invariant.clock (g.K.Sink.held c.args.sink.now) (g.K.Sink.held c.loop-round.sink) (g.K.Sink.held c.answer_round.new.sink)
-      (g.D.Disk.faults c.args.rounds.now.core.side.log.disk) (g.D.Disk.faults c.loop-round.rounds.core.side.log.disk) (g.D.Disk.faults c.answer_round.new.rounds.core.side.log.disk)
-      (core_state c.loop-round.rounds.core) c.loop-round.rounds.lines (core_state c.answer_round.new.rounds.core) c.answer_round.new.rounds.lines (g.S.Source.left c.args.source.now)
+  upto = more_known c.args.rounds.now.side.history.loaded (g.C.Clock.may c.args.rounds.now.side.clock) (g.C.Clock.may c.loop-round.rounds.side.clock) c.loop-round.invariant.clock (g.K.Sink.held c.args.sink.now) (g.K.Sink.held c.loop-round.sink) (g.K.Sink.held c.answer_round.new.sink)
+      (g.D.Disk.faults c.args.rounds.now.side.log.disk) (g.D.Disk.faults c.loop-round.rounds.side.log.disk) (g.D.Disk.faults c.answer_round.new.rounds.side.log.disk)
+      (state_at c.loop-round.rounds.side) c.loop-round.rounds.lines (state_at c.answer_round.new.rounds.side) c.answer_round.new.rounds.lines (g.S.Source.left c.args.source.now)
       (prepend_known c.loop-round.reader.bytes (g.S.Source.left c.loop-round.source)) (prepend_known c.read_round.new.self.bytes (g.S.Source.left c.read_round.new.source))
       c.in_ok-round.round c.deref.result.now c.deref.ensures.value c.loop-round.invariant.upto c.in_ok-round.ensures.round c.in_ok-answer_round.ensures.all;
   advances = c.read_round.ensures.since (g.S.Source.left c.args.source.now) 0 c.loop-round.invariant.advances;

@@ -3,23 +3,23 @@ use Rattle.std.specs.Option.{is_some}
 use Rattle.std.specs.Io.KnownBytes.{prepend_known}
 use Rattle.gd_input.specs.Held.{IsBounded}
 use Rattle.gd_input.specs.Pieces.{Known, Advances}
-use Rattle.gd_sessions.specs.Running.{core_state}
+use Rattle.gd_threads.specs.Served.{state_at}
 use Rattle.gd_top.specs.Serves.{ServedUpto}
 use Rattle.gd_top.proofs.rounds.serve_rounds.Given as goal
 
 abbrev pub invariant-loop-round : goal.invariant-loop-round
 invariant-loop-round g l = record {
-  upto : Known (g.S.Source.left l.fn.source) (prepend_known l.reader.bytes (g.S.Source.left l.source)) (ServedUpto l.fn.rounds.core.side.history.loaded (g.C.Clock.may l.fn.rounds.core.side.clock) (g.K.Sink.held l.fn.sink) (g.K.Sink.held l.sink)
-      (g.D.Disk.faults l.fn.rounds.core.side.log.disk) (g.D.Disk.faults l.rounds.core.side.log.disk) (core_state l.rounds.core) l.rounds.lines);
+  upto : Known (g.S.Source.left l.fn.source) (prepend_known l.reader.bytes (g.S.Source.left l.source)) (ServedUpto l.fn.rounds.side.history.loaded (g.C.Clock.may l.fn.rounds.side.clock) (g.K.Sink.held l.fn.sink) (g.K.Sink.held l.sink)
+      (g.D.Disk.faults l.fn.rounds.side.log.disk) (g.D.Disk.faults l.rounds.side.log.disk) (state_at l.rounds.side) l.rounds.lines);
   advances : Advances (g.S.Source.left l.fn.source) (prepend_known l.reader.bytes (g.S.Source.left l.source)) 0 l.reader.consumed;
   counted : l.rounds.lines ≤ 256 * l.reader.consumed;
-  loaded : l.rounds.core.side.history.loaded ≡ l.fn.rounds.core.side.history.loaded;
-  told : is_some (g.D.Disk.content l.rounds.core.side.log.disk) ≡ is_some (g.D.Disk.content l.fn.rounds.core.side.log.disk);
-  clock : g.C.Clock.may l.rounds.core.side.clock ≡ g.C.Clock.may l.fn.rounds.core.side.clock;
+  loaded : l.rounds.side.history.loaded ≡ l.fn.rounds.side.history.loaded;
+  told : is_some (g.D.Disk.content l.rounds.side.log.disk) ≡ is_some (g.D.Disk.content l.fn.rounds.side.log.disk);
+  clock : g.C.Clock.may l.rounds.side.clock ≡ g.C.Clock.may l.fn.rounds.side.clock;
   bounded : IsBounded l.reader;
   source_later : g.S.Source.faults l.fn.source ≤ g.S.Source.faults l.source;
   sink_later : g.K.Sink.faults l.fn.sink ≤ g.K.Sink.faults l.sink;
-  disk_later : g.D.Disk.faults l.fn.rounds.core.side.log.disk ≤ g.D.Disk.faults l.rounds.core.side.log.disk;
+  disk_later : g.D.Disk.faults l.fn.rounds.side.log.disk ≤ g.D.Disk.faults l.rounds.side.log.disk;
 }
 
 abbrev pub decreases-loop-round : goal.decreases-loop-round

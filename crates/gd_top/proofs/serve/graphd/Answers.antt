@@ -1,9 +1,9 @@
-use Rattle.std.proofs.Common.{◌≡◌, List, ℕ, Some, None, option_map, rules, arith, refl}
+use Rattle.std.proofs.Common.{◌≡◌, Some, None, option_map, rules, arith, refl}
 use Rattle.std.proofs.lemmas.Grind.{common_steps}
 use Rattle.gd_words.specs.declared.verbs.Command.TheVariants as command
 use Rattle.gd_words.specs.Words.{command_of}
 use Rattle.gd_top.specs.Ends.{IsIdle}
-use Rattle.gd_top.specs.Held.{BeginsWith}
+use Rattle.gd_top.specs.Held.{BeginsWith, RoseBy}
 use Rattle.gd_top.specs.Replays.{LeavesAt}
 use Rattle.gd_top.specs.Words.{path_of}
 use Rattle.gd_top.proofs.Commands.{serves_words, replays_words, no_words}
@@ -70,4 +70,4 @@ returns-in-Err-clause-events g c is told members =
     let source = c.args.source.now in
     let sink = c.args.sink.now in
     memory_prints members (g.C.Clock.may c.args.clock) (BeginsWith (g.F.Shelf.content c.args.shelf.now) (path_of c.args.words.now)) (LeavesAt (g.F.Shelf.images c.args.shelf.now) (path_of c.args.words.now))
-    (IsIdle source source sink sink) (g.S.Source.left source) (g.K.Sink.held sink) (g.K.Sink.held sink) (record { source = refl; sink = refl })
+    (RoseBy (g.F.Shelf.faults c.args.shelf.now) (g.F.Shelf.faults c.args.shelf.now)) (IsIdle source source sink sink) (g.S.Source.left source) (g.K.Sink.held sink) (g.K.Sink.held sink) (record { source = refl; sink = refl })

@@ -1,6 +1,6 @@
 use Rattle.std.proofs.Common.{map, arith}
 use Rattle.gd_caller.specs.Works.{write_of}
-use Rattle.gd_caller.proofs.Answered.{least_shown}
+use Rattle.gd_caller.proofs.Least.{least_shown}
 use Rattle.gd_caller.proofs.numbers.Standing.least_later.Goals as goal
 
 pub loop-write-init : goal.loop-write-init

@@ -1,0 +1,73 @@
+//! A round whose writes were carried out, and whose workers answered some of its reads.
+ghost use Rattle.std.specs.Prelude.{◌≡◌, ◌<◌, ◌+◌, ◌^◌, [], length, map};
+ghost use Rattle.std.specs.List.{AllByRecursion};
+ghost use Rattle.gd_runs.specs.Legal.{batches};
+ghost use Rattle.gd_caller.specs.Replies.{round_text};
+ghost use Rattle.gd_caller.specs.Works.{AreWithin};
+ghost use Rattle.gd_caller.specs.Worked.{AreWorked};
+ghost use Rattle.gd_caller.specs.Joined.{IsOfWrites, AnswersJoined};
+
+use crate::numbers::Standing;
+use crate::reads::answer_reads;
+use crate::replies::RoundReply;
+use crate::told::tell_all;
+use crate::work::Works;
+use crate::worked::Worked;
+use gd_base::steps::Steps;
+use gd_disk::disk::Disk;
+use gd_outside::clock::Clock;
+use gd_writer::side::WriteSide;
+use std::alloc::Global;
+
+/// Tells what was kept of the writes of a round, the first of whose lines is line `first`, and answers its reads: each by
+/// what a worker kept of it at its place, if that fits, and else over the working store at the greatest number that fits
+/// it, in slices of a budget of steps. No read is answered by a worker below `begun`, how much was shown when the round
+/// began. Where there is no memory for a reply, the line has the one that says so. Nothing is kept of a write from then on.
+pub fn answer_joined<D: Disk, C: Clock, L>(
+    alloc: Global,
+    side: &mut WriteSide<D, C>,
+    first: u64,
+    begun: u32,
+    works: Works,
+    worked: Vec<Option<Worked>>,
+    budget: u64,
+    steps: &mut Steps<L>,
+) -> Vec<RoundReply>
+    requires within { AreWithin first (first + length works.numbers.items) works }
+    requires outcomes { AllByRecursion (IsOfWrites works.writes.items) side.old.outcomes }
+    requires worked { AreWorked first works.reads.items (batches side.old.history) (length side.old.shown) worked.items }
+    requires lines { first + length works.numbers.items < 2 ^ 63 }
+    requires budget { 0 < budget }
+    ensures side { side.new ≡ record side.old { outcomes = [] } }
+    ensures answers { AnswersJoined first begun works side.old (map round_text result.items) }
+{
+    // A side says here what it keeps.
+    let _stored = side.stored();
+    let Works {
+        reads,
+        writes,
+        mut numbers,
+        mut replies,
+        ..
+    } = works;
+    let outcomes = side.take_outcomes(alloc);
+    tell_all(alloc, first, outcomes, &mut numbers, &mut replies);
+    let standing = Standing {
+        store: side.store(),
+        shown: side.shown(),
+        first,
+        writes: writes.as_slice(),
+        numbers: numbers.as_slice(),
+    };
+    answer_reads(
+        alloc,
+        &standing,
+        begun,
+        reads,
+        worked,
+        budget,
+        &mut replies,
+        steps,
+    );
+    replies
+}

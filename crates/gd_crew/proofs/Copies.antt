@@ -1,0 +1,149 @@
+-- Jobs that are copied one after another.
+use Rattle.std.proofs.Common.{◌≡◌, refl, ℕ, zero, suc, ◌+◌, ◌<◌, ◌≤◌, ◌==◌, Bool, true, false, cond, List, [], ◌∷◌, ◌++◌, length, map, take, filter, Some, Ok, slice_get, sym, subst, ap, ◌∙◌, arith, append-nil, append_assoc, get_or, take_all}
+use Rattle.std.specs.List.{AllByRecursion}
+use Rattle.std.proofs.lemmas.List.{map-append}
+use Rattle.std.proofs.lemmas.Option.{slice_get-get_or}
+use Rattle.std.proofs.lemmas.List.Elements.{filter-append}
+use Rattle.gd_runs.specs.Request.{Line, ReadRequest, read, write}
+use Rattle.gd_defs.specs.Write as defs
+use Rattle.gd_runs.specs.Side as side
+use Rattle.gd_runs.proofs.Rounds.{no_some, some_same}
+use Rattle.gd_core_laws.specs.Round.{one_write}
+use Rattle.gd_core_laws.proofs.Lock.{same_numbers}
+use Rattle.gd_core_laws.proofs.Reading.{same_number}
+use Rattle.gd_mql.specs.Requests.{read_view, write_view}
+use Rattle.gd_caller.specs.declared.work.ReadLine.{ReadLine}
+use Rattle.gd_caller.specs.declared.work.WriteLine.{WriteLine}
+use Rattle.gd_caller.specs.declared.work.Works.{Works}
+use Rattle.gd_caller.specs.Works.{write_of, IsReadWithin, IsWriteWithin}
+use Rattle.gd_caller.specs.Writes.{MayBeWritten}
+use Rattle.gd_caller.proofs.Read.{all_append, all_weaker}
+use Rattle.gd_workers.specs.declared.job.Job.{Job}
+use Rattle.gd_workers.specs.Runs.{JobValue, writes}
+use Rattle.gd_workers.specs.Seated.{job_view}
+use Rattle.gd_crew.specs.Jobs.{IsJob, job_of_read, job_of_write, AreJobs, AreJobsOf, Adds, MayBeRead, AreNumbered}
+
+pub writes_append : (xs ys : List JobValue) → writes (xs ++ ys) ≡ writes xs ++ writes ys
+writes_append [] ys = refl
+writes_append (x ∷ xs) ys = ap (λ (ls : List side.WriteLine). one_write x.line x.bytes (Ok x.work) ++ ls) (writes_append xs ys) ∙ sym (append_assoc (one_write x.line x.bytes (Ok x.work)) (writes xs) (writes ys))
+
+-- the write lines among these of a session
+abbrev pub own : ℕ → List WriteLine → List WriteLine
+own sid ws = filter (λ w. w.session == sid) ws
+
+-- ---- a job more
+
+pub adds_none : (reads : List ReadLine) (js : List JobValue) → Adds reads [] js js
+adds_none reads js = record { writes_are = sym (append-nil (writes js)); each = λ all. all }
+
+pub adds_then : (reads : List ReadLine) (xs ys : List WriteLine) (a b c : List JobValue) → Adds reads xs a b → Adds reads ys b c → Adds reads (xs ++ ys) a c
+adds_then reads xs ys a b c p q = record {
+  writes_are = q.writes_are ∙ (ap (λ (ls : List side.WriteLine). ls ++ map write_of ys) p.writes_are ∙ (append_assoc (writes a) (map write_of xs) (map write_of ys) ∙ ap (λ (ls : List side.WriteLine). writes a ++ ls) (sym (map-append write_of xs ys))));
+  each = λ all. q.each (p.each all);
+}
+
+not_read : (s t : ℕ) (w : defs.WriteRequest) (q : ReadRequest) → write s w ≡ read t q → ⊥
+not_read s t w q e = cc
+
+request_of : ReadRequest → Line → ReadRequest
+request_of d (read t p) = p
+request_of d (write t w) = d
+
+read_is : (r : ReadLine) (s : ℕ) (q : ReadRequest) → read r.session (read_view r.request) ≡ read s q → read_view r.request ≡ q
+unfolding request_of
+read_is r s q e = ap (request_of q) e
+
+pub adds_read : (reads : List ReadLine) (place : ℕ) (r : ReadLine) (a b : List JobValue) → slice_get reads place ≡ Some r → MayBeRead r → b ≡ a ++ job_of_read r ∷ [] → Adds reads [] a b
+adds_read reads place r a b there may is = record {
+  writes_are = ap writes is ∙ writes_append a (job_of_read r ∷ []);
+  each = λ all. subst (AreJobs reads) (sym is) (all_append (IsJob reads) a (job_of_read r ∷ []) all (
+    record {
+      line = may;
+      short = omega arith;
+      copied = λ s q e. record { place = place; read = r; there = there; line_is = refl; asks = read_is r s q e };
+    },
+    tt,
+  ));
+}
+
+pub adds_write : (reads : List ReadLine) (w : WriteLine) (a b : List JobValue) → MayBeWritten w → b ≡ a ++ job_of_write w ∷ [] → Adds reads (w ∷ []) a b
+adds_write reads w a b may is = record {
+  writes_are = ap writes is ∙ writes_append a (job_of_write w ∷ []);
+  each = λ all. subst (AreJobs reads) (sym is) (all_append (IsJob reads) a (job_of_write w ∷ []) all (
+    record {
+      line = may.1;
+      short = may.0;
+      copied = λ s q e. absurd (not_read w.session s (write_view w.request) q e);
+    },
+    tt,
+  ));
+}
+
+-- the read at a place
+pub read_at : (reads : List ReadLine) (place : ℕ) (r : ReadLine) → place < length reads → r ≡ get_or reads place r → slice_get reads place ≡ Some r
+read_at reads place r within is = slice_get-get_or reads place r within ∙ ap Some (sym is)
+
+pub write_at : (ws : List WriteLine) (i : ℕ) (w : WriteLine) → i < length ws → w ≡ get_or ws i w → slice_get ws i ≡ Some w
+write_at ws i w within is = slice_get-get_or ws i w within ∙ ap Some (sym is)
+
+-- a job that was appended
+pub one_more_job : (old new : List Job) (j : Job) (v : JobValue) → new ≡ old ++ j ∷ [] → job_view j ≡ v → map job_view new ≡ map job_view old ++ v ∷ []
+one_more_job old new j v is view = ap (map job_view) is ∙ (map-append job_view old (j ∷ []) ∙ ap (λ (k : JobValue). map job_view old ++ k ∷ []) view)
+
+-- ---- a write line more
+
+pub same_session : (a b : ℕ) → a ≡ b → (a == b) ≡ true
+same_session a b same = subst (λ (n : ℕ). (a == n) ≡ true) same (same_number a)
+
+pub other_session : (a b : ℕ) → (a ≡ b → ⊥) → (a == b) ≡ false
+other_session a b other = by (a == b) refl
+  where
+    by : (t : Bool) → (a == b) ≡ t → t ≡ false
+    by true is = absurd (other (same_numbers a b is))
+    by false is = refl
+
+pub passes_other : (reads : List ReadLine) (sid : ℕ) (w : WriteLine) (js : List JobValue) → (w.session == sid) ≡ false → Adds reads (own sid (w ∷ [])) js js
+passes_other reads sid w js other = subst (λ (b : Bool). Adds reads (cond b (w ∷ []) []) js js) (sym other) (adds_none reads js)
+
+pub takes_own : (reads : List ReadLine) (sid : ℕ) (w : WriteLine) (a b c : List JobValue) → (w.session == sid) ≡ true → Adds reads [] a b → MayBeWritten w → c ≡ b ++ job_of_write w ∷ [] → Adds reads (own sid (w ∷ [])) a c
+takes_own reads sid w a b c same p may is = subst (λ (t : Bool). Adds reads (cond t (w ∷ []) []) a c) (sym same) (adds_then reads [] (w ∷ []) a b c p (adds_write reads w b c may is))
+
+pub own_more : (sid : ℕ) (ws : List WriteLine) (w : WriteLine) → own sid (ws ++ w ∷ []) ≡ own sid ws ++ own sid (w ∷ [])
+own_more sid ws w = filter-append (λ (x : WriteLine). x.session == sid) ws (w ∷ [])
+
+pub adds_next : (reads : List ReadLine) (sid : ℕ) (ws : List WriteLine) (i : ℕ) (w : WriteLine) (a b c : List JobValue) → slice_get ws i ≡ Some w → Adds reads (own sid (take i ws)) a b → Adds reads (own sid (w ∷ [])) b c → Adds reads (own sid (take (i + 1) ws)) a c
+adds_next reads sid ws i w a b c at p q = subst (λ (ls : List WriteLine). Adds reads ls a c) (sym (ap (own sid) (take_next ws i w at) ∙ own_more sid (take i ws) w)) (adds_then reads (own sid (take i ws)) (own sid (w ∷ [])) a b c p q)
+  where
+    take_next : (xs : List WriteLine) (n : ℕ) (x : WriteLine) → slice_get xs n ≡ Some x → take (n + 1) xs ≡ take n xs ++ x ∷ []
+    take_next [] n x got = no_some got
+    take_next (y ∷ xs) zero x got = ap (λ (z : WriteLine). z ∷ []) (some_same got)
+    take_next (y ∷ xs) (suc n) x got = let more : suc n + 1 ≡ suc (n + 1) = omega arith in ap (λ (k : ℕ). take k (y ∷ xs)) more ∙ ap (λ (zs : List WriteLine). y ∷ zs) (take_next xs n x got)
+
+pub all_taken : (reads : List ReadLine) (sid : ℕ) (ws : List WriteLine) (i : ℕ) (a b : List JobValue) → length ws ≤ i → Adds reads (own sid (take i ws)) a b → Adds reads (own sid ws) a b
+all_taken reads sid ws i a b all p = subst (λ (ls : List WriteLine). Adds reads (own sid ls) a b) (take_all i ws all) p
+
+-- ---- all of them
+
+own_views : (sid : ℕ) (ws : List WriteLine) → map write_of (own sid ws) ≡ filter (λ a. a.session == sid) (map write_of ws)
+own_views sid [] = refl
+own_views sid (w ∷ ws) = by (w.session == sid) (own_views sid ws)
+  where
+    by : (b : Bool) → map write_of (own sid ws) ≡ filter (λ a. a.session == sid) (map write_of ws)
+        → map write_of (cond b (w ∷ own sid ws) (own sid ws)) ≡ cond b (write_of w ∷ filter (λ a. a.session == sid) (map write_of ws)) (filter (λ a. a.session == sid) (map write_of ws))
+    by true rest = ap (λ (ls : List side.WriteLine). write_of w ∷ ls) rest
+    by false rest = rest
+
+pub jobs_all : (works : Works) (sid : ℕ) (a b : List JobValue) → Adds works.reads.items (own sid works.writes.items) [] a → Adds works.reads.items [] a b → AreJobsOf works sid b
+jobs_all works sid a b p q =
+    let all = adds_then works.reads.items (own sid works.writes.items) [] [] a b p q in record {
+      writes_are = all.writes_are ∙ ap (map write_of) (append-nil (own sid works.writes.items)) ∙ own_views sid works.writes.items;
+      each = all.each tt;
+    }
+
+-- ---- lines that are numbered as those of a round
+
+pub may_be_read : (works : Works) → AreNumbered works → AllByRecursion MayBeRead works.reads.items
+may_be_read works (first, within, low) = all_weaker (IsReadWithin first (first + length works.numbers.items)) MayBeRead works.reads.items (λ r is. let below = is.1 in omega (arith, below, low)) within.reads
+
+pub may_be_written : (works : Works) → AreNumbered works → AllByRecursion MayBeWritten works.writes.items
+may_be_written works (first, within, low) = all_weaker (IsWriteWithin first (first + length works.numbers.items)) MayBeWritten works.writes.items (λ w is. let below = is.1 in (is.2, omega (arith, below, low))) within.writes

@@ -1,0 +1,102 @@
+-- A worker goes to another thread with all that it has: the readings of its sessions, and its jobs.
+use denote.Param.Send.{IsSend, sendable}
+use Rattle.std.proofs.Crossing.{crosses}
+use Rattle.gd_frozen.proofs.cursor.Cursor.TheSendSync as cursor_sent
+use Rattle.gd_json.proofs.value.Json.TheLaws.TheKnot as json_knot
+use Rattle.gd_json.proofs.value.JsonText.TheSendSync as text
+use Rattle.gd_match.proofs.matcher.MatchFault.TheSendSync as match_fault
+use Rattle.gd_match.proofs.places.Places.TheSendSync as places
+use Rattle.gd_match.proofs.root.RootScan.TheSendSync as scan
+use Rattle.gd_match.specs.contracts.frame.Current as current
+use Rattle.gd_match.specs.contracts.frame.Frame as frame
+use Rattle.gd_match.specs.contracts.matcher.Matcher as matcher
+use Rattle.gd_mql.specs.contracts.request.ReadRequest as request
+use Rattle.gd_plan.proofs.asked.Member.TheLaws.TheKnot as member_knot
+use Rattle.gd_plan.proofs.asked.SortKey.TheSendSync as sort
+use Rattle.gd_plan.specs.contracts.asked.Asked as asked
+use Rattle.gd_plan.specs.contracts.plan.Plan as plan
+use Rattle.gd_read.proofs.candidates.Candidates.TheSendSync as candidates
+use Rattle.gd_seats.specs.contracts.session.Session as session
+use Rattle.gd_shape.proofs.known.Known.TheSendSync as known
+use Rattle.gd_shape.specs.contracts.shape.Shape as shape
+use Rattle.gd_shared.proofs.seat.Seat.TheSendSync as seat
+use Rattle.gd_suspended.specs.contracts.building.Building as building
+use Rattle.gd_suspended.specs.contracts.checking.Checking as checking
+use Rattle.gd_suspended.specs.contracts.reading.Reading as reading
+use Rattle.gd_suspended.specs.contracts.scanning.Scanning as scanning
+use Rattle.gd_suspended.specs.contracts.stage.Stage as stage
+use Rattle.gd_suspended.specs.contracts.subject.Subject as subject
+use Rattle.gd_suspended.specs.contracts.visiting.Visiting as visiting
+use Rattle.gd_template.proofs.constraint.Constraint.TheSendSync as constraint
+use Rattle.gd_template.proofs.template.Hop.TheSendSync as hop
+use Rattle.gd_template.proofs.template.Mode.TheSendSync as mode
+use Rattle.gd_template.proofs.template.Template.TheLaws.TheKnot as template_knot
+use Rattle.gd_template.specs.contracts.template.Template as template
+use Rattle.gd_trees.proofs.tree.Tree.TheLaws.TheKnot as tree_knot
+use Rattle.gd_window.proofs.window.Window.TheSendSync as window_sent
+use Rattle.gd_workers.proofs.job.ReadReply.TheSendSync as reply
+use Rattle.gd_workers.proofs.job.Stop.TheSendSync as stop
+use Rattle.gd_workers.specs.contracts.job.Job as job
+use Rattle.gd_workers.specs.contracts.seated.Seated as seated
+use Rattle.gd_workers.specs.contracts.worker.Worker as worker
+
+-- ---- a reading
+
+request_field : IsSend (request.the_field).row
+request_field = search (sendable, crosses, text.the_send, json_knot.crosses) depth 40 fits 5000
+
+current_field : IsSend (current.the_field).row
+current_field = search (sendable, crosses, places.the_field_send, tree_knot.crosses) depth 40 fits 5000
+
+frame_field : IsSend (frame.the_field).row
+frame_field = search (sendable, crosses, current_field, tree_knot.crosses) depth 40 fits 5000
+
+matcher_field : IsSend (matcher.the_field).row
+matcher_field = search (sendable, crosses, scan.the_field_send, frame_field, match_fault.the_field_send) depth 40 fits 5000
+
+template_field : IsSend (template.the_field).row
+template_field = search (sendable, crosses, constraint.the_send, mode.the_send, hop.the_send, template_knot.crosses) depth 40 fits 20000
+
+asked_field : IsSend (asked.the_field).row
+asked_field = search (sendable, crosses, text.the_send, sort.the_send, json_knot.crosses, member_knot.crosses) depth 40 fits 20000
+
+plan_field : IsSend (plan.the_field).row
+plan_field = search (sendable, template_field, asked_field) depth 40
+
+shape_field : IsSend (shape.the_field).row
+shape_field = search (sendable, crosses, asked_field, known.the_send, text.the_send, tree_knot.crosses) depth 40 fits 5000
+
+subject_field : IsSend (subject.the_field).row
+subject_field = search (sendable, crosses, request_field, cursor_sent.the_field_send) depth 40 fits 5000
+
+visiting_field : IsSend (visiting.the_field).row
+visiting_field = search (sendable, crosses, plan_field, candidates.the_field_send) depth 40 fits 5000
+
+scanning_field : IsSend (scanning.the_field).row
+scanning_field = search (sendable, crosses, plan_field, matcher_field) depth 40 fits 5000
+
+checking_field : IsSend (checking.the_field).row
+checking_field = search (sendable, crosses, plan_field, matcher_field) depth 40 fits 5000
+
+building_field : IsSend (building.the_field).row
+building_field = search (sendable, crosses, plan_field, matcher_field, tree_knot.crosses) depth 40 fits 5000
+
+stage_field : IsSend (stage.the_field).row
+stage_field = search (sendable, crosses, visiting_field, scanning_field, checking_field, building_field, shape_field) depth 40 fits 5000
+
+reading_field : IsSend (reading.the_field).row
+reading_field = search (sendable, crosses, subject_field, window_sent.the_send, stage_field) depth 40 fits 5000
+
+-- ---- a worker
+
+session_field : IsSend (session.the_field).row
+session_field = search (sendable, crosses, seat.the_send, reading_field) depth 40 fits 5000
+
+job_field : IsSend (job.the_field).row
+job_field = search (sendable, crosses, text.the_send, json_knot.crosses) depth 40 fits 5000
+
+seated_field : IsSend (seated.the_field).row
+seated_field = search (sendable, crosses, session_field, job_field, reply.the_field_send, stop.the_field_send) depth 40 fits 5000
+
+pub worker_send : IsSend worker.the_row
+worker_send = search (sendable, crosses, seated_field) depth 40 fits 5000

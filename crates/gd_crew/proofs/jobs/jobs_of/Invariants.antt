@@ -1,0 +1,8 @@
+use Rattle.std.proofs.Common.{[], map, take}
+use Rattle.gd_workers.specs.Seated.{job_view}
+use Rattle.gd_crew.specs.Jobs.{Adds}
+use Rattle.gd_crew.proofs.Copies.{own}
+use Rattle.gd_crew.proofs.jobs.jobs_of.Given as goal
+
+abbrev pub invariant-loop-write : goal.invariant-loop-write
+invariant-loop-write l = Adds l.works.reads.items (own l.sid (take l.write-index l.works.writes.items)) [] (map job_view l.jobs.items)

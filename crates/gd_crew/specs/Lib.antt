@@ -1,0 +1,5 @@
+pub mod Jobs
+pub mod Ready
+pub mod Texts
+pub mod Joined
+pub mod Collected

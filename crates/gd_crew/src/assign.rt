@@ -1,0 +1,202 @@
+//! The workers of a round, with the seats and the jobs of its sessions.
+ghost use Rattle.std.specs.Prelude.{◌≡◌, ◌≤◌, ◌<◌, ◌+◌, length, vec_capacity, IfOk, MatchResult};
+ghost use Rattle.std.specs.List.{All};
+ghost use Rattle.gd_crew.specs.Jobs.{AreNumbered};
+ghost use Rattle.gd_crew.specs.Ready.{IsIdle, IsReady, IsManned, MayHire, lent};
+
+use crate::collect::dismiss;
+use crate::seats::lend;
+use gd_base::memory::Memory;
+use gd_caller::work::{ReadLine, Works};
+use gd_disk::disk::Disk;
+use gd_outside::clock::Clock;
+use gd_seats::session::Session;
+use gd_shared::Receipt;
+use gd_workers::seated::Seated;
+use gd_workers::worker::Worker;
+use gd_writer::side::WriteSide;
+use std::alloc::Global;
+
+/// Appends a session, if it is not there yet.
+fn note(sessions: &mut Vec<u32>, sid: u32) -> Result<(), Memory> {
+    if !sessions.contains(&sid) {
+        sessions.push(sid)?;
+    }
+    Ok(())
+}
+
+/// Appends the sessions of the reads from a place on and before a line, and says at which place the first read stands that
+/// is not before that line.
+fn note_reads(
+    sessions: &mut Vec<u32>,
+    reads: &[ReadLine],
+    from: usize,
+    before: u64,
+) -> Result<usize, Memory> {
+    for place in from..reads.len() {
+        if reads[place].line >= before {
+            return Ok(place);
+        }
+        note(sessions, reads[place].session)?;
+    }
+    Ok(reads.len())
+}
+
+/// The sessions that have a read or a write in a round, in the order of their first lines.
+fn sessions_of(alloc: Global, works: &Works) -> Result<Vec<u32>, Memory> {
+    let reads = works.reads.as_slice();
+    let mut sessions = Vec::new(alloc);
+    let mut next = 0;
+    for write in works.writes.as_slice() {
+        next = note_reads(&mut sessions, reads, next, write.line)?;
+        note(&mut sessions, write.session)?;
+    }
+    note_reads(&mut sessions, reads, next, u64::MAX)?;
+    Ok(sessions)
+}
+
+/// The place of the worker of this number, who is hired where there is none yet.
+fn place_of(
+    alloc: Global,
+    hired: &mut Vec<Worker>,
+    number: u32,
+    budget: u64,
+) -> Result<usize, Memory>
+    ensures hired { MayHire budget hired.old.items hired.new.items }
+    ensures there { IfOk result (λ place. place < length hired.new.items) }
+{
+    for place in 0..hired.len() {
+        if hired[place].number == number {
+            return Ok(place);
+        }
+    }
+    hired.push(Worker {
+        number,
+        budget,
+        seated: Vec::new(alloc),
+    })?;
+    Ok(hired.len() - 1)
+}
+
+/// Lends a seat to a session, and has it among these.
+fn seat_among(
+    alloc: Global,
+    seated: &mut Vec<Seated>,
+    sid: u32,
+    shown: Receipt,
+    works: &Works,
+    seats: &mut Vec<Session>,
+) -> Result<(), Memory>
+    requires numbered { AreNumbered works.now }
+    requires idle { All (IsIdle shown.history) seats.old.items }
+    requires room { length seats.old.items ≤ vec_capacity seats.old }
+    requires ready { All (IsReady shown.history works.now) seated.old.items }
+    ensures idle { All (IsIdle shown.history) seats.new.items }
+    ensures ready { All (IsReady shown.history works.now) seated.new.items }
+    ensures count { length seats.new.items + length seated.new.items ≡ length seats.old.items + length seated.old.items }
+    ensures capacity { vec_capacity seats.new ≡ vec_capacity seats.old }
+{
+    seated.reserve(1)?;
+    let one = lend(alloc, sid, shown, works, seats)?;
+    seated.push_reserved(one);
+    Ok(())
+}
+
+/// Lends a seat to a session, with the worker whose number is that of the session modulo the number of workers.
+fn seat(
+    alloc: Global,
+    workers: u32,
+    budget: u64,
+    sid: u32,
+    shown: Receipt,
+    works: &Works,
+    hired: &mut Vec<Worker>,
+    seats: &mut Vec<Session>,
+) -> Result<(), Memory>
+    requires workers { 0 < workers }
+    requires budget { (0 < budget) × (budget ≤ 1_000_000) }
+    requires numbered { AreNumbered works.now }
+    requires idle { All (IsIdle shown.history) seats.old.items }
+    requires room { length seats.old.items ≤ vec_capacity seats.old }
+    requires manned { All (IsManned shown.history works.now) hired.old.items }
+    ensures idle { All (IsIdle shown.history) seats.new.items }
+    ensures manned { All (IsManned shown.history works.now) hired.new.items }
+    ensures count { length seats.new.items + lent hired.new.items ≡ length seats.old.items + lent hired.old.items }
+    ensures capacity { vec_capacity seats.new ≡ vec_capacity seats.old }
+{
+    let place = place_of(alloc, hired, sid % workers, budget)?;
+    let worker = &mut hired[place];
+    seat_among(alloc, &mut worker.seated, sid, shown, works, seats)
+}
+
+/// Lends seats to these sessions, in their order.
+fn seat_all<D: Disk, C: Clock>(
+    alloc: Global,
+    workers: u32,
+    budget: u64,
+    side: &WriteSide<D, C>,
+    sessions: &[u32],
+    works: &Works,
+    hired: &mut Vec<Worker>,
+    seats: &mut Vec<Session>,
+) -> Result<(), Memory>
+    requires workers { 0 < workers }
+    requires budget { (0 < budget) × (budget ≤ 1_000_000) }
+    requires numbered { AreNumbered works.now }
+    requires idle { All (IsIdle side.now.table) seats.old.items }
+    requires room { length seats.old.items + lent hired.old.items ≤ vec_capacity seats.old }
+    requires manned { All (IsManned side.now.table works.now) hired.old.items }
+    ensures idle { All (IsIdle side.now.table) seats.new.items }
+    ensures manned { All (IsManned side.now.table works.now) hired.new.items }
+    ensures count { length seats.new.items + lent hired.new.items ≡ length seats.old.items + lent hired.old.items }
+    ensures capacity { vec_capacity seats.new ≡ vec_capacity seats.old }
+{
+    for sid in sessions {
+        let shown = side.tell();
+        seat(alloc, workers, budget, *sid, shown, works, hired, seats)?;
+    }
+    Ok(())
+}
+
+/// Lends a seat to each session that has a line in a round, which learns of all that is shown, and gives it copies of its
+/// reads and writes. Session `s` goes to worker `s` modulo `workers`; one who has no session is left out. A slice of a read
+/// has this budget of steps. `Memory`: an allocation was refused, or there are fewer seats than sessions; the seats are back,
+/// and nobody works.
+pub fn assign<D: Disk, C: Clock>(
+    alloc: Global,
+    workers: u32,
+    budget: u64,
+    side: &WriteSide<D, C>,
+    works: &Works,
+    seats: &mut Vec<Session>,
+) -> Result<Vec<Worker>, Memory>
+    requires workers { 0 < workers }
+    requires budget { (0 < budget) × (budget ≤ 1_000_000) }
+    requires numbered { AreNumbered works.now }
+    requires idle { All (IsIdle side.now.table) seats.old.items }
+    requires room { length seats.old.items ≤ vec_capacity seats.old }
+    ensures idle { All (IsIdle side.now.table) seats.new.items }
+    ensures manned { IfOk result (λ hired. All (IsManned side.now.table works.now) hired.items) }
+    ensures count { MatchResult result (λ hired. length seats.new.items + lent hired.items ≡ length seats.old.items) (λ _. length seats.new.items ≡ length seats.old.items) }
+    ensures capacity { vec_capacity seats.new ≡ vec_capacity seats.old }
+{
+    let sessions = sessions_of(alloc, works)?;
+    let mut hired = Vec::new(alloc);
+    match seat_all(
+        alloc,
+        workers,
+        budget,
+        side,
+        sessions.as_slice(),
+        works,
+        &mut hired,
+        seats,
+    ) {
+        Ok(()) => Ok(hired),
+        Err(memory) => {
+            // Nobody has run, so there is no reply to keep.
+            dismiss(hired, &side.tell(), 0, &mut Vec::new(alloc), seats);
+            Err(memory)
+        }
+    }
+}

@@ -1,0 +1,115 @@
+//! The jobs of a session.
+ghost use Rattle.std.specs.Prelude.{◌≡◌, ◌<◌, ◌==◌, ◌∷◌, [], length, map, filter, IfOk, OnOk};
+ghost use Rattle.std.specs.List.{AllByRecursion};
+ghost use Rattle.gd_caller.specs.Writes.{MayBeWritten};
+ghost use Rattle.gd_workers.specs.Seated.{job_view};
+ghost use Rattle.gd_crew.specs.Jobs.{job_of_read, job_of_write, Adds, AreJobsOf, AreNumbered, MayBeRead};
+
+use gd_base::memory::Memory;
+use gd_caller::work::{ReadLine, Works, WriteLine};
+use gd_mql::request::Line;
+use gd_workers::job::Job;
+use std::alloc::Global;
+
+/// The job of a read line. Its length is told nobody.
+fn read_job(read: &ReadLine) -> Result<Job, Memory>
+    ensures { IfOk result (λ job. job_view job ≡ job_of_read read.now) }
+{
+    let request = read.request.copy()?;
+    Ok(Job {
+        line: read.line,
+        bytes: 0,
+        work: Line::Read {
+            sid: read.session,
+            request,
+        },
+    })
+}
+
+/// The job of a write line.
+fn write_job(write: &WriteLine) -> Result<Job, Memory>
+    ensures { IfOk result (λ job. job_view job ≡ job_of_write write.now) }
+{
+    let request = write.request.copy()?;
+    Ok(Job {
+        line: write.line,
+        bytes: write.bytes,
+        work: Line::Write {
+            sid: write.session,
+            request,
+        },
+    })
+}
+
+/// Appends the job of the read line at a place, if it is of the session.
+fn push_read(jobs: &mut Vec<Job>, sid: u32, reads: &[ReadLine], place: usize) -> Result<(), Memory>
+    requires place { place < length reads.now }
+    requires reads { AllByRecursion MayBeRead reads.now }
+    ensures { OnOk result (Adds reads.now [] (map job_view jobs.old.items) (map job_view jobs.new.items)) }
+{
+    let read = &reads[place];
+    if read.session == sid {
+        let job = read_job(read)?;
+        jobs.push(job)?;
+    }
+    Ok(())
+}
+
+/// Appends the jobs of a session that are reads, from a place on and before a line, and says at which place the first read
+/// stands that is not before that line.
+fn push_reads(
+    jobs: &mut Vec<Job>,
+    sid: u32,
+    reads: &[ReadLine],
+    from: usize,
+    before: u64,
+) -> Result<usize, Memory>
+    requires reads { AllByRecursion MayBeRead reads.now }
+    ensures { OnOk result (Adds reads.now [] (map job_view jobs.old.items) (map job_view jobs.new.items)) }
+{
+    for place in from..reads.len() {
+        if reads[place].line >= before {
+            return Ok(place);
+        }
+        push_read(jobs, sid, reads, place)?;
+    }
+    Ok(reads.len())
+}
+
+/// Appends the job of a write line, if it is of the session, behind those of the reads before it, and says at which place
+/// the first read stands that is not passed yet.
+fn push_write(
+    jobs: &mut Vec<Job>,
+    sid: u32,
+    reads: &[ReadLine],
+    from: usize,
+    write: &WriteLine,
+) -> Result<usize, Memory>
+    requires reads { AllByRecursion MayBeRead reads.now }
+    requires write { MayBeWritten write.now }
+    ensures { OnOk result (Adds reads.now (filter (λ w. w.session == sid) (write.now ∷ [])) (map job_view jobs.old.items) (map job_view jobs.new.items)) }
+{
+    if write.session != sid {
+        return Ok(from);
+    }
+    let next = push_reads(jobs, sid, reads, from, write.line)?;
+    let job = write_job(write)?;
+    jobs.push(job)?;
+    Ok(next)
+}
+
+/// The jobs of a session in a round: copies of its reads and writes, in the order of their lines. `Memory`: an allocation
+/// was refused.
+pub(crate) fn jobs_of(alloc: Global, works: &Works, sid: u32) -> Result<Vec<Job>, Memory>
+    requires numbered { AreNumbered works.now }
+    ensures { IfOk result (λ jobs. AreJobsOf works.now sid (map job_view jobs.items)) }
+{
+    let reads = works.reads.as_slice();
+    let mut jobs = Vec::new(alloc);
+    let mut next = 0;
+    for write in works.writes.as_slice() {
+        next = push_write(&mut jobs, sid, reads, next, write)?;
+    }
+    push_reads(&mut jobs, sid, reads, next, u64::MAX)?;
+    Ok(jobs)
+}

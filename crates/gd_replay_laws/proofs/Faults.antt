@@ -1,0 +1,206 @@
+-- Which replies tell a failure of the disk, and how many lines of an output do.
+use Rattle.std.proofs.Common.{◌≡◌, ℕ, ◌+◌, ◌≤◌, List, [], ◌∷◌, ◌++◌, length, codes, Bool, true, false, if◌then◌else◌, Option, Some, None, Result, Ok, Err, ⊎_elim, refl, sym, ap, subst, ◌∙◌, nat_lt, arith, append_assoc}
+use Rattle.gd_base.specs.Counts.{Rose}
+use Rattle.gd_prim.specs.declared.Batch.{Batch}
+use Rattle.gd_tree.specs.Json.{Json, text, list, no_items}
+use Rattle.gd_json.specs.declared.from.JsonFault.TheVariants as json_fault
+use Rattle.gd_defs.specs.Lines.{Refusal, ok_line, ok_cursor_line, err_line, refusal, cursor_ahead, count_json}
+use Rattle.gd_defs.specs.Reply.{bad_query_refusal}
+use Rattle.gd_defs.specs.Write.{WriteRequest}
+use Rattle.gd_runs.specs.Request.{ReadRequest, reply_of, bad_line, bad_form, change_refusal}
+use Rattle.gd_runs.specs.Owed.{MembersOf}
+use Rattle.gd_runs.specs.Input.{InputFault, line_too_long, no_json, no_line, json_refusal, input_fault_line}
+use Rattle.gd_runs.specs.Legal.{batches, size}
+use Rattle.gd_runs.specs.Explained.{Numbered, memory_line, disk_line, tells_fault, fault_count}
+use Rattle.gd_runs.specs.Core as core
+use Rattle.gd_runs.specs.Core.{Event, Reading, State, reading_of, said, no_reading_line, owed_line, BeginStep, SliceStep, LearnStep, WriteStep, ReopenStep}
+use Rattle.gd_runs.specs.Replay.{event_from}
+use Rattle.gd_replay_laws.specs.Built.{StepBuilt, Takes, unbuilt_line}
+use Rattle.gd_replay_laws.specs.Runs.{BuiltLine, BuiltReplies}
+use Rattle.gd_replay_laws.specs.Faults.{IsCounted, RoseBy, faults_from, IsNoWrite}
+use Rattle.gd_replay_laws.proofs.Shapes.{read_each, owed_each}
+use Rattle.gd_replay_laws.proofs.Plain.{Plain, plain_ok, plain_cursor, plain_err, plain_refusal, first_piece}
+
+-- ---- the reply lines of an event that is no write, and what holds of each
+
+module _ (P : List ℕ → Type 0) (k : ℕ) (ok : (n k : ℕ) (j : Json) → P (ok_line n k j)) (err : (n k : ℕ) (r : Refusal) → P (err_line n k r)) (owed : (s : State) (r : Reading) → P (owed_line (batches s.history) k r)) (no_reading : P (no_reading_line k)) (unbuilt : P (unbuilt_line k)) (memory : P (memory_line k)) where
+  begin_each : (s : State) (i : ℕ) (r : ReadRequest) (line : List ℕ) (t : State) → BeginStep s k i r line t → P line
+  begin_each s i r line t step = by (reading_of (batches s.history) s.shown r) refl
+    where
+      by : (o : Result Reading (ℕ × Refusal)) → reading_of (batches s.history) s.shown r ≡ o → P line
+      by (Ok reading) is = subst P (sym (rw is at step).0) (ok reading.dateline k (text (codes "begun")))
+      by (Err f) is = subst P (sym (rw is at step).0) (err f.0 k f.1)
+
+  slice_each : (members : MembersOf) (s : State) (i : ℕ) (line : List ℕ) (t : State) → SliceStep members s k i line t → P line
+  slice_each members s i line t step = by (s.sessions i).reading refl
+    where
+      by : (o : Option Reading) → (s.sessions i).reading ≡ o → P line
+      by None is = subst P (sym (rw is at step).0) no_reading
+      by (Some r) is = ⊎_elim
+          (λ more. subst P (sym more.0) (ok r.dateline k (text (codes "unfinished"))))
+          (λ done. subst P (sym done.0) (owed s r))
+          (rw is at step)
+
+  learn_each : (s : State) (i m : ℕ) (line : List ℕ) (t : State) → LearnStep s k i m line t → P line
+  learn_each s i m line t step = by (nat_lt s.shown m) refl
+    where
+      by : (b : Bool) → nat_lt s.shown m ≡ b → P line
+      by true is = subst P (sym (rw is at step).0) (err s.shown k (cursor_ahead m s.shown))
+      by false is = subst P (sym (rw is at step).0) (ok m k (text (codes "learnt")))
+
+  -- by the event, where it is said of a write
+  pub step_each : (members : MembersOf) (may : ℕ → Bool) (s : State) (bytes : ℕ) (e : Event) (line : List ℕ) (t : State) → ((i : ℕ) (w : WriteRequest) → e ≡ core.write i w → WriteStep may s k bytes i w line t → P line)
+      → StepBuilt members may s k bytes e line t → P line
+  step_each members may s bytes (core.begin i r) line t written step = begin_each s i r line t step
+  step_each members may s bytes (core.slice i n) line t written step = slice_each members s i line t step
+  step_each members may s bytes (core.write i w) line t written step = written i w refl step
+  step_each members may s bytes (core.learn i m) line t written step = learn_each s i m line t step
+  step_each members may s bytes (core.freeze i) line t written step = subst P (sym step.0) unbuilt
+  step_each members may s bytes (core.thaw i r frozen) line t written step = subst P (sym step.0) unbuilt
+  step_each members may s bytes core.reopen line t written step = subst P (sym step.0) (ok (size t.history) k (text (codes "reopened")))
+
+  pub takes_each : (members : MembersOf) (may : ℕ → Bool) (s : State) (bytes : ℕ) (e : Event) (line : List ℕ) (t : State) → ((i : ℕ) (w : WriteRequest) → e ≡ core.write i w → WriteStep may s k bytes i w line t → P line)
+      → Takes members may s k bytes e line t → P line
+  takes_each members may s bytes e line t written takes = ⊎_elim
+      (λ step. step_each members may s bytes e line t written step)
+      (λ lacks. subst P (sym lacks.0) memory)
+      takes
+
+  line_each : (members : MembersOf) (may : ℕ → Bool) (s : State) (bytes line : List ℕ) (t : State) → ((f : InputFault) → P (input_fault_line k f))
+      → ((i : ℕ) (w : WriteRequest) → event_from bytes ≡ Ok (core.write i w) → WriteStep may s k (length bytes) i w line t → P line) → BuiltLine members may s k bytes line t → P line
+  line_each members may s bytes line t fault written built = ⊎_elim
+      (λ (f, asked, told, same). subst P (sym told) (fault f))
+      (λ some. ⊎_elim
+      (λ (e, asked, step). step_each members may s (length bytes) e line t (λ i w is. written i w (asked ∙ ap Ok is)) step)
+      (λ without. subst P (sym without.0) memory)
+      some)
+      built
+
+-- ---- only the reply to a write tells a failure of the disk
+
+module _ (k : ℕ) where
+  abbrev Quiet : List ℕ → Type 0
+  Quiet reply = tells_fault k reply ≡ false
+
+  ok_quiet : (n line : ℕ) (j : Json) → Quiet (ok_line n line j)
+  ok_quiet n line j = refl
+
+  cursor_quiet : (n line : ℕ) (c j : Json) → Quiet (ok_cursor_line n line c j)
+  cursor_quiet n line c j = refl
+
+  err_quiet : (n line : ℕ) (r : Refusal) → Quiet (err_line n line r)
+  err_quiet n line r = refl
+
+  pub fault_quiet : (f : InputFault) → Quiet (input_fault_line k f)
+  fault_quiet line_too_long = refl
+  fault_quiet (no_json json_fault.BadJson) = refl
+  fault_quiet (no_json json_fault.TooDeep) = refl
+  fault_quiet (no_json json_fault.TooWide) = refl
+  fault_quiet (no_json json_fault.FloatValue) = refl
+  fault_quiet (no_json json_fault.Memory) = refl
+  fault_quiet (no_line bad_line) = refl
+  fault_quiet (no_line (bad_form f)) = refl
+
+  pub memory_quiet : Quiet (memory_line k)
+  memory_quiet = refl
+
+  -- nor does the reply to a read
+  pub read_quiet : (bs : List Batch) (snapshot line : ℕ) (r : ReadRequest) → Quiet (reply_of bs snapshot line r)
+  read_quiet bs snapshot line r = read_each Quiet ok_quiet cursor_quiet err_quiet refl bs snapshot line r
+
+  owed_quiet : (s : State) (r : Reading) → Quiet (owed_line (batches s.history) k r)
+  owed_quiet s r = owed_each Quiet ok_quiet cursor_quiet err_quiet refl (batches s.history) k r
+
+  -- an event that is taken, or for which no memory was found
+  pub takes_quiet : (members : MembersOf) (may : ℕ → Bool) (s : State) (bytes : ℕ) (e : Event) (line : List ℕ) (t : State) → IsNoWrite e → Takes members may s k bytes e line t → Quiet line
+  takes_quiet members may s bytes e line t other takes =
+      takes_each Quiet k ok_quiet err_quiet owed_quiet refl refl memory_quiet members may s bytes e line t (λ i w is step. absurd (subst IsNoWrite is other)) takes
+
+  -- a line
+  pub line_quiet : (members : MembersOf) (may : ℕ → Bool) (s t : State) (bytes line : List ℕ) → ((i : ℕ) (w : WriteRequest) → event_from bytes ≡ Ok (core.write i w) → ⊥) → BuiltLine members may s k bytes line t → Quiet line
+  line_quiet members may s t bytes line other built =
+      line_each Quiet k ok_quiet err_quiet owed_quiet refl refl memory_quiet members may s bytes line t fault_quiet (λ i w is step. absurd (other i w is)) built
+
+  -- a reply that tells none is counted
+  pub quiet_counted : (reply : List ℕ) (before after : ℕ) → Quiet reply → IsCounted k reply before after
+  quiet_counted reply before after quiet tells = absurd (apart (sym quiet ∙ tells))
+    where
+      apart : false ≡ true → ⊥
+      apart e = cc
+
+-- ---- each reply is one line
+
+pub plain_fault : (k : ℕ) (f : InputFault) → Plain (input_fault_line k f)
+plain_fault k line_too_long = plain_refusal k (refusal (codes "LineTooLong") [])
+plain_fault k (no_json f) = plain_refusal k (json_refusal f)
+plain_fault k (no_line bad_line) = plain_refusal k (refusal (codes "BadLine") [])
+plain_fault k (no_line (bad_form f)) = plain_refusal k (bad_query_refusal f.code f.path)
+
+pub plain_memory : (k : ℕ) → Plain (memory_line k)
+plain_memory k = plain_refusal k (refusal (codes "Memory") [])
+
+pub plain_disk : (k : ℕ) (stored : List ℕ) → Plain (disk_line k stored)
+plain_disk k stored = plain_refusal k (refusal (codes "DiskFault") ((codes "stored", text stored) ∷ []))
+
+plain_written : (may : ℕ → Bool) (s : State) (k bytes i : ℕ) (w : WriteRequest) (line : List ℕ) (t : State) → WriteStep may s k bytes i w line t → Plain line
+plain_written may s k bytes i w _ _ (core.stores t e can) = plain_ok (size t.history + 1) k e.result
+plain_written may s k bytes i w _ _ (core.stores_late t e can) = plain_refusal k (refusal (codes "MemoryLate") ((codes "entry", count_json (size t.history)) ∷ []))
+plain_written may s k bytes i w _ _ (core.refuses t moment f settles does) = plain_err (size t.history) k (change_refusal f)
+plain_written may s k bytes i w _ _ (core.doubts t e can) = plain_disk k (codes "maybe")
+plain_written may s k bytes i w _ _ (core.leaves_doubt e is) = plain_disk k (codes "no")
+plain_written may s k bytes i w _ _ core.lacks_memory = plain_memory k
+plain_written may s k bytes i w _ _ (core.lacks_memory_settled t settles) = plain_memory k
+
+pub plain_built : (members : MembersOf) (may : ℕ → Bool) (s : State) (k : ℕ) (bytes line : List ℕ) (t : State) → BuiltLine members may s k bytes line t → Plain line
+plain_built members may s k bytes line t built =
+    line_each Plain k plain_ok plain_err (λ s r. owed_each Plain plain_ok plain_cursor plain_err tt (batches s.history) k r) (plain_refusal k (refusal (codes "NoReading") []))
+    (plain_refusal k (refusal (codes "BadQuery") ((codes "code", text (codes "unbuilt")) ∷ (codes "path", list no_items) ∷ []))) (plain_memory k) members may s bytes line t (plain_fault k) (λ i w is step. plain_written may s k (length bytes) i w line t step) built
+
+-- ---- how many lines tell one
+
+-- a line in front of others
+pub faults_line : (k : ℕ) (line rest : List ℕ) → Plain line → faults_from k (line ++ 10 ∷ rest) ≡ (if tells_fault k line then 1 else 0) + faults_from (k + 1) rest
+faults_line k line rest plain = ap (fault_count k) (first_piece line rest plain)
+
+-- no line tells none
+pub faults_none : (k : ℕ) → faults_from k [] ≡ 0
+faults_none k = refl
+
+-- a run, and what is printed behind it
+pub faults_run : (members : MembersOf) (may : ℕ → Bool) (s t : State) (k : ℕ) (given : List Numbered) (output rest : List ℕ) → BuiltReplies members may s k given output t
+    → faults_from k (output ++ rest) ≡ faults_from k output + faults_from (k + length given) rest
+faults_run members may s t k [] output rest (none, same) =
+    let all : faults_from k (output ++ rest) ≡ faults_from k rest = ap (λ (out : List ℕ). faults_from k (out ++ rest)) none in
+    let first : faults_from k output ≡ 0 = ap (faults_from k) none ∙ faults_none k in
+    let here : k + 0 ≡ k = omega arith in
+    let later : faults_from (k + 0) rest ≡ faults_from k rest = ap (λ (n : ℕ). faults_from n rest) here in
+    omega (arith, all, first, later)
+faults_run members may s t k (l ∷ ls) output rest (reply, mid, more, line, prints, others) =
+    let plain = plain_built members may s k l.bytes reply mid line in
+    let all : faults_from k (output ++ rest) ≡ (if tells_fault k reply then 1 else 0) + faults_from (k + 1) (more ++ rest) =
+    ap (λ (out : List ℕ). faults_from k (out ++ rest)) prints ∙ (ap (faults_from k) (append_assoc reply (10 ∷ more) rest) ∙ faults_line k reply (more ++ rest) plain) in
+    let first : faults_from k output ≡ (if tells_fault k reply then 1 else 0) + faults_from (k + 1) more = ap (faults_from k) prints ∙ faults_line k reply more plain in
+    let behind = faults_run members may mid t (k + 1) ls more rest others in
+    let place : (k + 1) + length ls ≡ k + length (l ∷ ls) = omega arith in
+    let later : faults_from ((k + 1) + length ls) rest ≡ faults_from (k + length (l ∷ ls)) rest = ap (λ (n : ℕ). faults_from n rest) place in
+    omega (arith, all, first, behind, later)
+
+-- ---- counts that rise
+
+pub rose_none : (n m : ℕ) → n ≤ m → RoseBy n m 0
+rose_none n m later = omega (arith, later)
+
+pub rose_then : (a b c m n : ℕ) → RoseBy a b m → RoseBy b c n → RoseBy a c (m + n)
+rose_then a b c m n first second = omega (arith, first, second)
+
+-- the same over a longer time
+pub rose_within : (a b before after n : ℕ) → before ≤ a → b ≤ after → RoseBy a b n → RoseBy before after n
+rose_within a b before after n earlier later rose = omega (arith, earlier, later, rose)
+
+-- a line that was printed
+pub rose_line : (k a b : ℕ) (line : List ℕ) → Plain line → IsCounted k line a b → a ≤ b → RoseBy a b (faults_from k (line ++ 10 ∷ []))
+rose_line k a b line plain counted later = subst (RoseBy a b) (sym (faults_line k line [] plain)) (by (tells_fault k line) counted)
+  where
+    by : (told : Bool) → (told ≡ true → Rose a b) → RoseBy a b ((if told then 1 else 0) + faults_from (k + 1) [])
+    by true cause = cause refl
+    by false cause = omega (arith, later)

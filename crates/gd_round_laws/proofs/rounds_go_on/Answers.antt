@@ -1,0 +1,5 @@
+use Rattle.gd_round_laws.proofs.Rounds.{rounds_go_on}
+use Rattle.gd_round_laws.proofs.rounds_go_on.Goals as goal
+
+pub returns : goal.returns
+returns c = rounds_go_on

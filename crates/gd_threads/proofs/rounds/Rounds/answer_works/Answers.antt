@@ -1,0 +1,68 @@
+use Rattle.std.proofs.Common.{◌+◌, List, length, map, sym, subst, ap, arith}
+use Rattle.std.specs.List.{All}
+use Rattle.logbook.specs.Pages.{Book}
+use Rattle.gd_input.specs.Rounds.{AreKept}
+use Rattle.gd_runs.specs.Explained.{Numbered}
+use Rattle.gd_writer.specs.Side.{SideValue}
+use Rattle.gd_caller.specs.Replies.{round_text}
+use Rattle.gd_caller.specs.Served.{IsFreshFrom}
+use Rattle.gd_caller.specs.Works.{texts_of, AreRead, AreWithin}
+use Rattle.gd_crew.specs.Ready.{IsIdle}
+use Rattle.gd_crew.specs.Texts.{kept_lines}
+use Rattle.gd_crew.proofs.Joined.{kept}
+use Rattle.gd_threads.specs.Served.{RoundsValue}
+use Rattle.gd_threads.specs.Rounds.{AnswersRound}
+use Rattle.gd_threads.proofs.Served.{answered, kept_of_writes, fresh_behind}
+use Rattle.gd_threads.proofs.Sides.{shown_fresh}
+use Rattle.gd_threads.proofs.rounds.Rounds.answer_works.Goals as goal
+
+pub answer_joined-replies-requires-clause-outcomes : goal.answer_joined-replies-requires-clause-outcomes
+answer_joined-replies-requires-clause-outcomes g c =
+    let d = g.D.Disk in
+    let lines = length c.args.lines.now in
+    kept_of_writes d.content d.moment d.images d.images_since d.faults g.C.Clock.may c.args.self.now.lines (c.args.self.now.lines + lines) c.args.works c.requires.within c.show-begun.new.side c.run-workers.new.side c.run-workers.ensures.runs
+
+pub invariant_of-self : goal.invariant_of-self
+invariant_of-self g c =
+    let d = g.D.Disk in
+    let old = c.self.inside in
+    let inv = c.self.invariant in
+    let end = old.lines + length c.args.lines.now in
+    let mid = c.show-begun.new.side in
+    let late = c.run-workers.new.side in
+    let runs = c.run-workers.ensures.runs in
+    let is = c.answer_joined-replies.ensures.side in
+    let hired = c.hire-hired.ensures in
+    let lent = c.run-workers.ensures.lent in
+    let collected = c.collect-worked.ensures in
+    let count = hired.count in
+    let capacity = hired.capacity in
+    let more = collected.count in
+    let same = collected.capacity in
+    let all = inv.all in
+    let room = inv.room in
+    let within = subst (λ (r : RoundsValue _ _). AreWithin r.lines (r.lines + length c.args.lines.now) c.args.works) (sym c.self.view_is) c.requires.within in
+    record {
+      outcomes = ap (λ (s : SideValue _ _). s.outcomes) is;
+      fresh = subst (λ (s : SideValue _ _). IsFreshFrom end s.history s.doubt) (sym is)
+          (fresh_behind d.content d.moment d.images d.images_since d.faults g.C.Clock.may old.lines end c.args.works within mid late runs (shown_fresh old.lines old.side mid c.show-begun.ensures.shows inv.fresh));
+      idle = subst (λ (table : Book). All (IsIdle table) c.collect-worked.new.seats.items) (sym (ap (λ (s : SideValue _ _). s.table) is)) collected.idle;
+      all = omega (arith, count, lent, more, all);
+      room = omega (arith, capacity, same, room);
+      some = inv.some;
+      few = inv.few;
+    }
+
+pub returns : goal.returns
+returns g c =
+    let d = g.D.Disk in
+    let old = c.self.inside in
+    let inv = c.self.invariant in
+    let lines = c.args.lines.now in
+    let replies = map round_text c.answer_joined-replies.result.items in
+    let new : RoundsValue _ _ = record { side = c.answer_joined-replies.new.side; lines = old.lines + length lines } in
+    let within = subst (λ (r : RoundsValue _ _). AreWithin r.lines (r.lines + length lines) c.args.works) (sym c.self.view_is) c.requires.within in
+    let reads = subst (λ (r : RoundsValue _ _). (given : List Numbered) → AreKept lines (texts_of given) → AreRead r.lines given c.args.works) (sym c.self.view_is) c.requires.read in
+    subst (λ (r : RoundsValue _ _). AnswersRound d.content d.moment d.images d.images_since d.faults g.C.Clock.may lines r new replies) c.self.view_is
+    (answered d.content d.moment d.images d.images_since d.faults g.C.Clock.may old.lines lines c.args.works within reads (kept_lines lines) (kept lines c.requires.short) c.show-begun.result replies
+    old.side c.show-begun.new.side c.run-workers.new.side c.answer_joined-replies.new.side inv.outcomes inv.fresh c.show-begun.ensures.shows c.show-begun.ensures.shown c.run-workers.ensures.runs c.answer_joined-replies.ensures.answers c.answer_joined-replies.ensures.side)

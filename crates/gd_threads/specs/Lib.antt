@@ -1,0 +1,4 @@
+pub mod Opened
+pub mod Served
+pub mod Rounds
+pub mod Working
