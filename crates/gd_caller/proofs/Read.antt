@@ -1,5 +1,5 @@
 -- The lines of a round, read one after another.
-use Rattle.std.proofs.Common.{◌≡◌, refl, ℕ, zero, suc, ◌+◌, ◌<◌, ◌≤◌, inr, ⊎_elim, false, true, List, [], ◌∷◌, ◌++◌, length, map, take, Some, slice_get, sym, subst, ap, ◌∙◌, arith, append-nil, append_assoc, length-append, take_all}
+use Rattle.std.proofs.Common.{◌≡◌, refl, ℕ, zero, suc, ◌+◌, ◌<◌, ◌≤◌, inr, ⊎_elim, false, true, List, [], ◌∷◌, ◌++◌, length, map, take, Some, slice_get, get_or, sym, subst, ap, ◌∙◌, arith, append-nil, append_assoc, length-append, take_all}
 use Rattle.std.proofs.lemmas.List.{map-append, length-map}
 use Rattle.std.specs.List.{AllByRecursion}
 use Rattle.gd_runs.specs.Input.{line_from}
@@ -14,6 +14,7 @@ use Rattle.gd_core_laws.specs.Writes.{RisesBy}
 use Rattle.gd_core_laws.proofs.SideHistory.{only}
 use Rattle.gd_caller.specs.declared.work.ReadLine.{ReadLine}
 use Rattle.gd_caller.specs.declared.work.WriteLine.{WriteLine}
+use Rattle.gd_caller.specs.declared.work.Asked.{Asked}
 use Rattle.gd_caller.specs.declared.work.Works.{Works}
 use Rattle.gd_caller.specs.declared.work.LineNumber.{LineNumber}
 use Rattle.gd_caller.specs.declared.replies.RoundReply.{RoundReply}
@@ -21,8 +22,9 @@ use Rattle.gd_caller.specs.Some.{IsSomeOf}
 use Rattle.gd_caller.specs.Served.{IsFirstReply}
 use Rattle.gd_caller.specs.Told.{no_number}
 use Rattle.gd_caller.specs.Replies.{round_text}
-use Rattle.gd_caller.specs.Works.{texts_of, write_of, IsReadOf, IsNoLine, IsReadAsked, IsWriteAsked, Pushes, TakesLine, IsReadWithin, IsWriteWithin, AreApart, AreWithin, IsReadAmong, AreRead}
+use Rattle.gd_caller.specs.Works.{texts_of, write_of, IsReadOf, IsNoLine, IsAsked, IsReadAsked, IsWriteAsked, IsAskedAt, AreAsked, Pushes, TakesLine, IsReadWithin, IsWriteWithin, AreApart, AreWithin, IsReadAmong, AreRead}
 use Rattle.gd_caller.proofs.Callers.{some_none, some_append, some_all}
+use Rattle.gd_caller.proofs.Sets.{there, item_there}
 
 -- all of a list, and of what is appended
 pub all_append : {X : Type 0} (P : X → Type 0) (xs ys : List X) → AllByRecursion P xs → AllByRecursion P ys → AllByRecursion P (xs ++ ys)
@@ -326,6 +328,15 @@ one_read first ls given i l old new kept is r takes =
     let long = length-take-at given i a.line a.there in
     subst (λ (ns : List Numbered). AreRead first ns new) (sym a.upto)
     (more_read first (take i given) a.line old new r (subst (λ (n : ℕ). TakesLine (first + n) a.line.bytes old new) (sym long) (takes a.line.bytes a.kept)))
+
+-- LAW: of the lines of a round, what one more asks was taken
+pub next_read : (first : ℕ) (ls : List RoundLine) (all : List Asked) (given : List Numbered) (i : ℕ) (what : Asked) (old new : Works) → AreAsked first ls all → AreKept ls (texts_of given) → i < length all → what ≡ get_or all i what → AreRead first (take i given) old
+    → ((line : ℕ) (bytes : List ℕ) → IsAskedAt line what → IsAsked line bytes what → TakesLine line bytes old new) → AreRead first (take (i + 1) given) new
+next_read first ls all given i what old new asked kept less is r takes =
+    let count = asked.count in
+    let (text, here) = there ls i (omega (arith, count, less)) in
+    let of = asked.each i what (item_there all i what less is) in
+    one_read first ls given i text old new kept here r (λ bytes was. takes (first + i) bytes of.line (of.asked text bytes here was))
 
 -- all were
 pub all_read : (first : ℕ) (ls : List RoundLine) (given : List Numbered) (i : ℕ) (works : Works) → AreKept ls (texts_of given) → length ls ≤ i → AreRead first (take i given) works → AreRead first given works

@@ -5,6 +5,8 @@ use Rattle.gd_runs.specs.Request.{read}
 use Rattle.gd_runs.specs.Input.{InputFault, line_from}
 use Rattle.gd_runs.specs.Explained.{Numbered}
 use Rattle.gd_runs.specs.Side as side
+use Rattle.gd_input.specs.declared.line.RoundLine.{RoundLine}
+use Rattle.gd_input.specs.Line.{IsKept}
 use Rattle.gd_mql.specs.Requests.{read_view, write_view}
 use Rattle.gd_core_laws.specs.Round.{one_write, write_lines}
 use Rattle.gd_core_laws.specs.Writes.{RisesBy}
@@ -58,6 +60,16 @@ IsAskedAt k (Read r) = IsReadAsked k r
 IsAskedAt k (Write w) = IsWriteAsked k w
 IsAskedAt k (Told reply) = Unit {0}
 IsAskedAt k (Unread line) = line ≡ k
+
+-- what the line at a place asks, the first of the lines being line first, whichever bytes it was kept of
+pub record IsAskedOf (first : ℕ) (lines : List RoundLine) (place : ℕ) (what : Asked) : Type 0 where
+  pub line : IsAskedAt (first + place) what
+  pub asked : (text : RoundLine) (bytes : List ℕ) → slice_get lines place ≡ Some text → IsKept 262_144 text bytes → IsAsked (first + place) bytes what
+
+-- what each of the lines asks, the first of them being line first
+pub record AreAsked (first : ℕ) (lines : List RoundLine) (all : List Asked) : Type 0 where
+  pub count : length all ≡ length lines
+  pub each : (place : ℕ) (what : Asked) → slice_get all place ≡ Some what → IsAskedOf first lines place what
 
 -- ---- lines one after another
 

@@ -1,5 +1,5 @@
 //! The lines of a round, once read.
-ghost use Rattle.std.specs.Prelude.{◌≡◌, ◌≢◌, ◌≤◌, ◌<◌, ◌+◌, ◌++◌, ◌∷◌, ◌^◌, ℕ, List, [], length, map, true, Err, IfOk, OnOk};
+ghost use Rattle.std.specs.Prelude.{◌≡◌, ◌≢◌, ◌≤◌, ◌<◌, ◌+◌, ◌*◌, ◌++◌, ◌∷◌, ◌^◌, ℕ, List, [], length, map, true, Err, IfOk, OnOk};
 ghost use Rattle.std.specs.List.{All};
 ghost use Rattle.gd_runs.specs.Input.{input_fault_line, line_too_long};
 ghost use Rattle.gd_runs.specs.Input as input;
@@ -9,7 +9,7 @@ ghost use Rattle.gd_input.specs.Rounds.{AreKept};
 ghost use Rattle.gd_mql.specs.Line.{fault_view};
 ghost use Rattle.gd_caller.specs.Told.{no_number};
 ghost use Rattle.gd_caller.specs.Replies.{round_text, made_text};
-ghost use Rattle.gd_caller.specs.Works.{IsAsked, IsAskedAt, Pushes, TakesLine, AreRead, AreWithin, texts_of};
+ghost use Rattle.gd_caller.specs.Works.{IsAsked, IsAskedAt, IsAskedOf, AreAsked, Pushes, TakesLine, AreRead, AreWithin, texts_of};
 
 use crate::replies::RoundReply;
 use gd_base::memory::Memory;
@@ -21,6 +21,12 @@ use gd_reply::lines::err_line_plain;
 use gd_reply::refusal::Refusal;
 use gd_reply::reply::Failure;
 use std::alloc::Global;
+use std::num::NonZeroU32;
+use std::thread;
+use std::thread::Threads;
+
+/// The fewest lines that are worth a thread of their own.
+const LEAST_LINES: usize = 16;
 
 /// A read line of a round: its number, its session and what it asks.
 #[derive(Drop)]
@@ -153,21 +159,21 @@ fn read_line(alloc: Global, line: u64, text: &RoundLine) -> Asked
 }
 
 impl Works {
-    /// No line yet.
-    fn new(alloc: Global) -> Works
-        ensures reads { result.reads.items ≡ [] }
-        ensures writes { result.writes.items ≡ [] }
-        ensures numbers { result.numbers.items ≡ [] }
-        ensures replies { result.replies.items ≡ [] }
-        ensures whole { result.whole ≡ true }
+    /// No line yet, with room for the replies to so many lines. `Memory`: an allocation was refused.
+    fn new(alloc: Global, count: usize) -> Result<Works, Memory>
+        ensures reads { IfOk result (λ works. works.reads.items ≡ []) }
+        ensures writes { IfOk result (λ works. works.writes.items ≡ []) }
+        ensures numbers { IfOk result (λ works. works.numbers.items ≡ []) }
+        ensures replies { IfOk result (λ works. works.replies.items ≡ []) }
+        ensures whole { IfOk result (λ works. works.whole ≡ true) }
     {
-        Works {
+        Ok(Works {
             reads: Vec::new(alloc),
             writes: Vec::new(alloc),
-            numbers: Vec::new(alloc),
-            replies: Vec::new(alloc),
+            numbers: Vec::with_capacity(alloc, count)?,
+            replies: Vec::with_capacity(alloc, count)?,
             whole: true,
-        }
+        })
     }
 
     /// Appends a line by its first reply alone. `Memory`: an allocation was refused.
@@ -216,18 +222,76 @@ impl Works {
     }
 }
 
-/// The lines of a round, once read, the first of them line `first`. `Memory`: an allocation was refused.
-pub fn read_lines(alloc: Global, first: u64, lines: &[RoundLine]) -> Result<Works, Memory>
+/// In how many threads so many lines are read: at most `threads`, and no more than have `LEAST_LINES` each.
+fn threads_for(lines: usize, threads: NonZeroU32) -> usize
+    ensures some { 0 < result }
+    ensures most { result ≤ threads.value }
+    ensures worth { 1 < result → result * 16 ≤ lines }
+{
+    (lines / LEAST_LINES).clamp(1, threads.get() as usize)
+}
+
+/// Reads the line at a place, of the lines from line `first` on, in place of what was said of it.
+fn read_at(alloc: Global, first: u64, lines: &[RoundLine], place: usize, asked: &mut Asked)
+    requires lines { first + length lines.now < 2 ^ 63 }
+    requires short { All IsShort lines.now }
+    requires place { place < length lines.now }
+    ensures { IsAskedOf first lines.now place asked.new }
+{
+    *asked = read_line(alloc, first + place as u64, &lines[place]);
+}
+
+/// So many lines from line `first` on, of which none was read yet. `Memory`: an allocation was refused.
+fn unread(alloc: Global, first: u64, count: usize) -> Result<Vec<Asked>, Memory>
+    requires { first + count < 2 ^ 63 }
+    ensures { IfOk result (λ asked. length asked.items ≡ count) }
+{
+    let mut asked = Vec::with_capacity(alloc, count)?;
+    for place in 0..count {
+        asked.push_reserved(Asked::Unread(first + place as u64));
+    }
+    Ok(asked)
+}
+
+/// What each line of a round asks, or its reply, read in at most so many threads. `Memory`: an allocation was refused.
+fn read_each<R: Threads + Sync>(
+    rt: &R,
+    alloc: Global,
+    threads: NonZeroU32,
+    first: u64,
+    lines: &[RoundLine],
+) -> Result<Vec<Asked>, Memory>
+    requires lines { first + length lines.now < 2 ^ 63 }
+    requires short { All IsShort lines.now }
+    ensures { IfOk result (λ asked. AreAsked first lines.now asked.items) }
+{
+    let mut asked = unread(alloc, first, lines.len())?;
+    let read = |place: usize, asked: &mut Asked|
+        requires { (first + length lines.now < 2 ^ 63) × All IsShort lines.now × (place < length lines.now) }
+        ensures { IsAskedOf first lines.entry.now place asked.exit.now }
+    { read_at(alloc, first, lines, place, asked) };
+    let threads = threads_for(lines.len(), threads);
+    thread::for_each_mut(rt, asked.as_mut_slice(), threads, &read);
+    Ok(asked)
+}
+
+/// The lines of a round, once read, the first of them line `first`, in at most so many threads. `Memory`: an allocation was
+/// refused.
+pub fn read_lines<R: Threads + Sync>(
+    rt: &R,
+    alloc: Global,
+    threads: NonZeroU32,
+    first: u64,
+    lines: &[RoundLine],
+) -> Result<Works, Memory>
     requires lines { first + length lines.now < 2 ^ 63 }
     requires short { All IsShort lines.now }
     ensures read { IfOk result (λ works. (given : List Numbered) → AreKept lines.now (texts_of given) → AreRead first given works) }
     ensures within { IfOk result (λ works. AreWithin first (first + length lines.now) works) }
 {
-    let mut works = Works::new(alloc);
-    let mut line = first;
-    for text in lines {
-        works.push(read_line(alloc, line, text))?;
-        line += 1;
+    let mut works = Works::new(alloc, lines.len())?;
+    for asked in read_each(rt, alloc, threads, first, lines)? {
+        works.push(asked)?;
     }
     Ok(works)
 }

@@ -1,5 +1,6 @@
--- A worker goes to another thread with all that it has: the readings of its sessions, and its jobs.
-use denote.Param.Send.{IsSend, sendable}
+-- A worker goes to another thread with all that it has: the readings of its sessions, and its jobs, whose requests other threads may read too.
+use denote.Param.Send.{IsSend, IsSync, sendable}
+use denote.Ref.{NamedLft}
 use Rattle.std.proofs.Crossing.{crosses}
 use Rattle.gd_frozen.proofs.cursor.Cursor.TheSendSync as cursor_sent
 use Rattle.gd_json.proofs.value.Json.TheLaws.TheKnot as json_knot
@@ -11,6 +12,7 @@ use Rattle.gd_match.specs.contracts.frame.Current as current
 use Rattle.gd_match.specs.contracts.frame.Frame as frame
 use Rattle.gd_match.specs.contracts.matcher.Matcher as matcher
 use Rattle.gd_mql.specs.contracts.request.ReadRequest as request
+use Rattle.gd_mql.specs.contracts.request.WriteRequest as write_request
 use Rattle.gd_plan.proofs.asked.Member.TheLaws.TheKnot as member_knot
 use Rattle.gd_plan.proofs.asked.SortKey.TheSendSync as sort
 use Rattle.gd_plan.specs.contracts.asked.Asked as asked
@@ -92,11 +94,17 @@ reading_field = search (sendable, crosses, subject_field, window_sent.the_send, 
 session_field : IsSend (session.the_field).row
 session_field = search (sendable, crosses, seat.the_send, reading_field) depth 40 fits 5000
 
-job_field : IsSend (job.the_field).row
-job_field = search (sendable, crosses, text.the_send, json_knot.crosses) depth 40 fits 5000
+request_shared : IsSync (request.the_field).row
+request_shared = search (sendable, crosses, text.the_sync, json_knot.crosses) depth 40 fits 5000
 
-seated_field : IsSend (seated.the_field).row
-seated_field = search (sendable, crosses, session_field, job_field, reply.the_field_send, stop.the_field_send) depth 40 fits 5000
+write_shared : IsSync (write_request.the_field).row
+write_shared = search (sendable, crosses, text.the_sync, json_knot.crosses) depth 40 fits 5000
 
-pub worker_send : IsSend worker.the_row
-worker_send = search (sendable, crosses, seated_field) depth 40 fits 5000
+job_field : (a : NamedLft) → IsSend (job.the_field a).row
+job_field a = search (sendable, crosses, request_shared, write_shared) depth 40 fits 5000
+
+seated_field : (a : NamedLft) → IsSend (seated.the_field a).row
+seated_field a = search (sendable, crosses, session_field, job_field, reply.the_field_send, stop.the_field_send) depth 40 fits 5000
+
+pub worker_send : (a : NamedLft) → IsSend (worker.the_row a)
+worker_send a = search (sendable, crosses, seated_field) depth 40 fits 5000

@@ -1,5 +1,5 @@
 -- Sessions that are seated, and workers that have them.
-use Rattle.std.proofs.Common.{◌≡◌, refl, ℕ, zero, suc, ◌+◌, ◌<◌, ◌≤◌, ◌⊎◌, ⊎_elim, ◌==◌, List, [], ◌∷◌, ◌++◌, length, map, filter, set, slice_index_or, Some, None, sym, subst, ap, ◌∙◌, arith}
+use Rattle.std.proofs.Common.{◌≡◌, refl, ℕ, zero, suc, ◌+◌, ◌<◌, ◌≤◌, ⊎_elim, ◌==◌, List, [], ◌∷◌, ◌++◌, length, map, filter, set, slice_index_or, Some, None, sym, subst, ap, ◌∙◌, arith}
 use Rattle.std.specs.List.{All}
 use Rattle.std.proofs.lemmas.List.Elements.{All-nil, All-push, All-set, All-pop}
 use Rattle.logbook.specs.Pages.{Book}

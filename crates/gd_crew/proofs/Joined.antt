@@ -116,9 +116,9 @@ some_jobs given (j ∷ js) (one, rest) = by (is_read j.work) (some_jobs given js
 
 reply_over : (given : List ReadLine) (floor : ℕ) (list : List Batch) (j : JobValue) (r : ReplyValue) → IsJob given j → IsReply floor list j r → IsReplyOver given list r
 reply_over given floor list j r job is = IfSome_then r.reply is.reply (λ bytes at.
-    let copy = job.copied at.session at.request at.asks in record {
+    let found = job.among at.session at.request at.asks in record {
       request = at.request;
-      of = record { place = copy.place; read = copy.read; there = copy.there; line_is = copy.line_is ∙ sym is.line; asks = copy.asks };
+      of = record { place = found.place; read = found.read; there = found.there; line_is = found.line_is ∙ sym is.line; asks = found.asks };
       within = at.within;
       is = at.is ∙ sym (ap (λ (n : ℕ). reply_of list r.at n at.request) is.line);
     })

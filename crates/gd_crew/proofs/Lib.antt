@@ -1,4 +1,4 @@
-pub mod Copies
+pub mod Added
 pub mod Crosses
 pub mod Shares
 pub mod Hired

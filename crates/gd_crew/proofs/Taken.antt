@@ -1,5 +1,5 @@
 -- What is taken of workers, one after another.
-use Rattle.std.proofs.Common.{◌≡◌, refl, ℕ, zero, suc, ◌+◌, ◌-◌, ⊎_elim, Bool, true, false, MatchBool, List, [], ◌∷◌, ◌++◌, length, map, take, drop, set, Option, Some, None, slice_get, sym, subst, ap, ◌∙◌, arith, length-append, append_assoc, take-append-drop, Vec, Global}
+use Rattle.std.proofs.Common.{◌≡◌, refl, ℕ, zero, suc, ◌+◌, ⊎_elim, Bool, true, false, MatchBool, List, [], ◌∷◌, ◌++◌, length, map, take, drop, set, Option, Some, None, slice_get, sym, subst, ap, ◌∙◌, arith, length-append, append_assoc, take-append-drop, Vec, Global}
 use Rattle.std.specs.List.{All, AllByRecursion}
 use Rattle.std.proofs.lemmas.List.{map-append}
 use Rattle.std.proofs.lemmas.List.Elements.{All-cons, All-nil, All-head}

@@ -1,5 +1,5 @@
 -- What is taken of workers after a round.
-use Rattle.std.specs.Prelude.{◌≡◌, ℕ, ◌≤◌, List, length, map, take, Option}
+use Rattle.std.specs.Prelude.{◌≡◌, ℕ, ◌≤◌, List, length, take, Option}
 use Rattle.std.specs.List.{All, AllByRecursion}
 use Rattle.logbook.specs.Pages.{Book}
 use Rattle.gd_prim.specs.declared.Batch.{Batch}

@@ -1,5 +1,5 @@
--- The jobs of a session: copies of the reads and writes of a round.
-use Rattle.std.specs.Prelude.{◌≡◌, ℕ, ◌+◌, ◌^◌, ◌<◌, ◌≤◌, ◌==◌, List, [], ◌∷◌, ◌++◌, length, map, filter, Some, slice_get}
+-- The jobs of a session, which refer to the reads and writes of a round.
+use Rattle.std.specs.Prelude.{◌≡◌, ℕ, ◌+◌, ◌^◌, ◌<◌, ◌≤◌, ◌==◌, List, ◌++◌, length, map, filter, Some, slice_get}
 use Rattle.std.specs.List.{AllByRecursion}
 use Rattle.gd_runs.specs.Request.{ReadRequest, read, write}
 use Rattle.gd_mql.specs.Requests.{read_view, write_view}
@@ -10,24 +10,24 @@ use Rattle.gd_caller.specs.Works.{write_of, AreWithin}
 use Rattle.gd_workers.specs.Runs.{JobValue, writes}
 
 -- one of these reads is of this line, and asks this
-pub record IsCopyOf (reads : List ReadLine) (line : ℕ) (q : ReadRequest) : Type 0 where
+pub record IsAmong (reads : List ReadLine) (line : ℕ) (q : ReadRequest) : Type 0 where
   pub place : ℕ
   pub read : ReadLine
   pub there : slice_get reads place ≡ Some read
   pub line_is : read.line ≡ line
   pub asks : read_view read.request ≡ q
 
--- a job is no longer than a line may be, and if it is a read, it is a copy of one of these reads
+-- a job is no longer than a line may be, and if it is a read, it is one of these reads
 pub record IsJob (reads : List ReadLine) (j : JobValue) : Type 0 where
   pub line : j.line < 2 ^ 63
   pub short : j.bytes ≤ 262_144
-  pub copied : (s : ℕ) (q : ReadRequest) → j.work ≡ read s q → IsCopyOf reads j.line q
+  pub among : (s : ℕ) (q : ReadRequest) → j.work ≡ read s q → IsAmong reads j.line q
 
--- the job that is a copy of a read, whose length is told nobody
+-- the job of a read, whose length is told nobody
 abbrev pub job_of_read : ReadLine → JobValue
 job_of_read r = record { line = r.line; bytes = 0; work = read r.session (read_view r.request) }
 
--- the job that is a copy of a write
+-- the job of a write
 abbrev pub job_of_write : WriteLine → JobValue
 job_of_write w = record { line = w.line; bytes = w.bytes; work = write w.session (write_view w.request) }
 
@@ -40,7 +40,7 @@ pub record AreJobsOf (works : Works) (sid : ℕ) (jobs : List JobValue) : Type 0
   pub writes_are : writes jobs ≡ filter (λ a. a.session == sid) (map write_of works.writes.items)
   pub each : AreJobs works.reads.items jobs
 
--- jobs were added: these write jobs, and copies of reads
+-- jobs were added: these write jobs, and some of the reads
 pub record Adds (reads : List ReadLine) (more : List WriteLine) (old new : List JobValue) : Type 0 where
   pub writes_are : writes new ≡ writes old ++ map write_of more
   pub each : AreJobs reads old → AreJobs reads new

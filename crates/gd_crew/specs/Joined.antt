@@ -15,7 +15,7 @@ use Rattle.gd_workers.specs.declared.seated.Seated.{Seated}
 use Rattle.gd_workers.specs.declared.worker.Worker.{Worker}
 use Rattle.gd_workers.specs.Runs.{ReplyValue}
 use Rattle.gd_workers.specs.Seated.{reply_view, Begins, AllRun}
-use Rattle.gd_crew.specs.Jobs.{IsCopyOf}
+use Rattle.gd_crew.specs.Jobs.{IsAmong}
 
 -- ---- the side
 
@@ -54,7 +54,7 @@ HaveRun l table old new = (i : ℕ) (d : Worker) → i < length old → HasRun l
 -- bytes are the reply to one of these reads over so many requests of a list
 pub record RepliesTo (reads : List ReadLine) (list : List Batch) (line at : ℕ) (bytes : List ℕ) : Type 0 where
   pub request : ReadRequest
-  pub of : IsCopyOf reads line request
+  pub of : IsAmong reads line request
   pub within : at ≤ length list
   pub is : bytes ≡ reply_of list at line request
 

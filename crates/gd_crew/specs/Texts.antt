@@ -1,5 +1,5 @@
 -- Bytes of which lines of a round may have been kept.
-use Rattle.std.specs.Prelude.{ℕ, List, [], ◌∷◌, map, replicate}
+use Rattle.std.specs.Prelude.{ℕ, List, map, replicate}
 use Rattle.gd_input.specs.declared.line.RoundLine.{RoundLine}
 use Rattle.gd_input.specs.declared.line.RoundLine.TheVariants.{Bytes, TooLong}
 use Rattle.gd_input.specs.Rounds.{in_round}

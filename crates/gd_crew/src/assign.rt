@@ -58,7 +58,7 @@ fn sessions_of(alloc: Global, works: &Works) -> Result<Vec<u32>, Memory> {
 /// The place of the worker of this number, who is hired where there is none yet.
 fn place_of(
     alloc: Global,
-    hired: &mut Vec<Worker>,
+    hired: &mut Vec<Worker<'_>>,
     number: u32,
     budget: u64,
 ) -> Result<usize, Memory>
@@ -79,12 +79,12 @@ fn place_of(
 }
 
 /// Lends a seat to a session, and has it among these.
-fn seat_among(
+fn seat_among<'a>(
     alloc: Global,
-    seated: &mut Vec<Seated>,
+    seated: &mut Vec<Seated<'a>>,
     sid: u32,
     shown: Receipt,
-    works: &Works,
+    works: &'a Works,
     seats: &mut Vec<Session>,
 ) -> Result<(), Memory>
     requires numbered { AreNumbered works.now }
@@ -103,14 +103,14 @@ fn seat_among(
 }
 
 /// Lends a seat to a session, with the worker whose number is that of the session modulo the number of workers.
-fn seat(
+fn seat<'a>(
     alloc: Global,
     workers: u32,
     budget: u64,
     sid: u32,
     shown: Receipt,
-    works: &Works,
-    hired: &mut Vec<Worker>,
+    works: &'a Works,
+    hired: &mut Vec<Worker<'a>>,
     seats: &mut Vec<Session>,
 ) -> Result<(), Memory>
     requires workers { 0 < workers }
@@ -130,14 +130,14 @@ fn seat(
 }
 
 /// Lends seats to these sessions, in their order.
-fn seat_all<D: Disk, C: Clock>(
+fn seat_all<'a, D: Disk, C: Clock>(
     alloc: Global,
     workers: u32,
     budget: u64,
     side: &WriteSide<D, C>,
     sessions: &[u32],
-    works: &Works,
-    hired: &mut Vec<Worker>,
+    works: &'a Works,
+    hired: &mut Vec<Worker<'a>>,
     seats: &mut Vec<Session>,
 ) -> Result<(), Memory>
     requires workers { 0 < workers }
@@ -158,18 +158,18 @@ fn seat_all<D: Disk, C: Clock>(
     Ok(())
 }
 
-/// Lends a seat to each session that has a line in a round, which learns of all that is shown, and gives it copies of its
-/// reads and writes. Session `s` goes to worker `s` modulo `workers`; one who has no session is left out. A slice of a read
+/// Lends a seat to each session that has a line in a round, which learns of all that is shown, with its reads and writes.
+/// Session `s` goes to worker `s` modulo `workers`; one who has no session is left out. A slice of a read
 /// has this budget of steps. `Memory`: an allocation was refused, or there are fewer seats than sessions; the seats are back,
 /// and nobody works.
-pub fn assign<D: Disk, C: Clock>(
+pub fn assign<'a, D: Disk, C: Clock>(
     alloc: Global,
     workers: u32,
     budget: u64,
     side: &WriteSide<D, C>,
-    works: &Works,
+    works: &'a Works,
     seats: &mut Vec<Session>,
-) -> Result<Vec<Worker>, Memory>
+) -> Result<Vec<Worker<'a>>, Memory>
     requires workers { 0 < workers }
     requires budget { (0 < budget) × (budget ≤ 1_000_000) }
     requires numbered { AreNumbered works.now }

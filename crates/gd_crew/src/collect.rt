@@ -56,7 +56,7 @@ fn keep_replies(mut replies: Vec<ReadReply>, first: u64, worked: &mut Vec<Option
 
 /// Takes the seat of a session back. Its replies are kept where the list that it entered begins what is shown.
 fn dismiss_session(
-    one: Seated,
+    one: Seated<'_>,
     shown: &Receipt,
     first: u64,
     worked: &mut Vec<Option<Worked>>,
@@ -65,7 +65,7 @@ fn dismiss_session(
     requires table { IsOfTable shown.now.history one }
     requires idle { All (IsIdle shown.now.history) seats.old.items }
     requires room { length seats.old.items < vec_capacity seats.old }
-    ensures worked { TakesSessions first shown.now.history shown.now.list (one ∷ []) worked.old.items worked.new.items }
+    ensures worked { TakesSessions first shown.now.history shown.now.list (one.entry ∷ []) worked.old.items worked.new.items }
     ensures idle { All (IsIdle shown.now.history) seats.new.items }
     ensures count { length seats.new.items ≡ length seats.old.items + 1 }
     ensures capacity { vec_capacity seats.new ≡ vec_capacity seats.old }
@@ -83,7 +83,7 @@ fn dismiss_session(
 
 /// Takes the seats of sessions back, with the replies that fit what is shown.
 fn dismiss_sessions(
-    mut seated: Vec<Seated>,
+    mut seated: Vec<Seated<'_>>,
     shown: &Receipt,
     first: u64,
     worked: &mut Vec<Option<Worked>>,
@@ -92,9 +92,9 @@ fn dismiss_sessions(
     requires table { All (IsOfTable shown.now.history) seated.items }
     requires idle { All (IsIdle shown.now.history) seats.old.items }
     requires room { length seats.old.items + length seated.items ≤ vec_capacity seats.old }
-    ensures worked { TakesSessions first shown.now.history shown.now.list seated.items worked.old.items worked.new.items }
+    ensures worked { TakesSessions first shown.now.history shown.now.list seated.entry.items worked.old.items worked.new.items }
     ensures idle { All (IsIdle shown.now.history) seats.new.items }
-    ensures count { length seats.new.items ≡ length seats.old.items + length seated.items }
+    ensures count { length seats.new.items ≡ length seats.old.items + length seated.entry.items }
     ensures capacity { vec_capacity seats.new ≡ vec_capacity seats.old }
 {
     while let Some(one) = seated.pop() {
@@ -105,7 +105,7 @@ fn dismiss_sessions(
 /// Takes the seats of workers back. Replies are kept, each at the place of its line, where the list that their session
 /// entered begins what is shown.
 pub(crate) fn dismiss(
-    mut workers: Vec<Worker>,
+    mut workers: Vec<Worker<'_>>,
     shown: &Receipt,
     first: u64,
     worked: &mut Vec<Option<Worked>>,
@@ -114,9 +114,9 @@ pub(crate) fn dismiss(
     requires table { All (λ w. All (IsOfTable shown.now.history) w.seated.items) workers.items }
     requires idle { All (IsIdle shown.now.history) seats.old.items }
     requires room { length seats.old.items + lent workers.items ≤ vec_capacity seats.old }
-    ensures worked { TakesWorkers first shown.now.history shown.now.list workers.items worked.old.items worked.new.items }
+    ensures worked { TakesWorkers first shown.now.history shown.now.list workers.entry.items worked.old.items worked.new.items }
     ensures idle { All (IsIdle shown.now.history) seats.new.items }
-    ensures count { length seats.new.items ≡ length seats.old.items + lent workers.items }
+    ensures count { length seats.new.items ≡ length seats.old.items + lent workers.entry.items }
     ensures capacity { vec_capacity seats.new ≡ vec_capacity seats.old }
 {
     while let Some(worker) = workers.pop() {
@@ -145,7 +145,7 @@ pub fn collect<D: Disk, C: Clock>(
     side: &WriteSide<D, C>,
     first: u64,
     works: &Works,
-    workers: Vec<Worker>,
+    workers: Vec<Worker<'_>>,
     seats: &mut Vec<Session>,
 ) -> Vec<Option<Worked>>
     requires workers { All (HasWorked side.now.table works.now.reads.items) workers.items }
@@ -153,7 +153,7 @@ pub fn collect<D: Disk, C: Clock>(
     requires room { length seats.old.items + lent workers.items ≤ vec_capacity seats.old }
     ensures worked { AreWorked first works.now.reads.items (batches side.now.history) (length side.now.shown) result.items }
     ensures idle { All (IsIdle side.now.table) seats.new.items }
-    ensures count { length seats.new.items ≡ length seats.old.items + lent workers.items }
+    ensures count { length seats.new.items ≡ length seats.old.items + lent workers.entry.items }
     ensures capacity { vec_capacity seats.new ≡ vec_capacity seats.old }
 {
     // A side says here what it keeps.

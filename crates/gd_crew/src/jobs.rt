@@ -7,60 +7,61 @@ ghost use Rattle.gd_crew.specs.Jobs.{job_of_read, job_of_write, Adds, AreJobsOf,
 
 use gd_base::memory::Memory;
 use gd_caller::work::{ReadLine, Works, WriteLine};
-use gd_mql::request::Line;
-use gd_workers::job::Job;
+use gd_workers::job::{Job, Work};
 use std::alloc::Global;
 
 /// The job of a read line. Its length is told nobody.
-fn read_job(read: &ReadLine) -> Result<Job, Memory>
-    ensures { IfOk result (λ job. job_view job ≡ job_of_read read.now) }
+fn read_job(read: &ReadLine) -> Job<'_>
+    ensures { job_view result ≡ job_of_read read.now }
 {
-    let request = read.request.copy()?;
-    Ok(Job {
+    Job {
         line: read.line,
         bytes: 0,
-        work: Line::Read {
+        work: Work::Read {
             sid: read.session,
-            request,
+            request: &read.request,
         },
-    })
+    }
 }
 
 /// The job of a write line.
-fn write_job(write: &WriteLine) -> Result<Job, Memory>
-    ensures { IfOk result (λ job. job_view job ≡ job_of_write write.now) }
+fn write_job(write: &WriteLine) -> Job<'_>
+    ensures { job_view result ≡ job_of_write write.now }
 {
-    let request = write.request.copy()?;
-    Ok(Job {
+    Job {
         line: write.line,
         bytes: write.bytes,
-        work: Line::Write {
+        work: Work::Write {
             sid: write.session,
-            request,
+            request: &write.request,
         },
-    })
+    }
 }
 
 /// Appends the job of the read line at a place, if it is of the session.
-fn push_read(jobs: &mut Vec<Job>, sid: u32, reads: &[ReadLine], place: usize) -> Result<(), Memory>
+fn push_read<'a>(
+    jobs: &mut Vec<Job<'a>>,
+    sid: u32,
+    reads: &'a [ReadLine],
+    place: usize,
+) -> Result<(), Memory>
     requires place { place < length reads.now }
     requires reads { AllByRecursion MayBeRead reads.now }
     ensures { OnOk result (Adds reads.now [] (map job_view jobs.old.items) (map job_view jobs.new.items)) }
 {
     let read = &reads[place];
     if read.session == sid {
-        let job = read_job(read)?;
-        jobs.push(job)?;
+        jobs.push(read_job(read))?;
     }
     Ok(())
 }
 
 /// Appends the jobs of a session that are reads, from a place on and before a line, and says at which place the first read
 /// stands that is not before that line.
-fn push_reads(
-    jobs: &mut Vec<Job>,
+fn push_reads<'a>(
+    jobs: &mut Vec<Job<'a>>,
     sid: u32,
-    reads: &[ReadLine],
+    reads: &'a [ReadLine],
     from: usize,
     before: u64,
 ) -> Result<usize, Memory>
@@ -78,12 +79,12 @@ fn push_reads(
 
 /// Appends the job of a write line, if it is of the session, behind those of the reads before it, and says at which place
 /// the first read stands that is not passed yet.
-fn push_write(
-    jobs: &mut Vec<Job>,
+fn push_write<'a>(
+    jobs: &mut Vec<Job<'a>>,
     sid: u32,
-    reads: &[ReadLine],
+    reads: &'a [ReadLine],
     from: usize,
-    write: &WriteLine,
+    write: &'a WriteLine,
 ) -> Result<usize, Memory>
     requires reads { AllByRecursion MayBeRead reads.now }
     requires write { MayBeWritten write.now }
@@ -93,14 +94,12 @@ fn push_write(
         return Ok(from);
     }
     let next = push_reads(jobs, sid, reads, from, write.line)?;
-    let job = write_job(write)?;
-    jobs.push(job)?;
+    jobs.push(write_job(write))?;
     Ok(next)
 }
 
-/// The jobs of a session in a round: copies of its reads and writes, in the order of their lines. `Memory`: an allocation
-/// was refused.
-pub(crate) fn jobs_of(alloc: Global, works: &Works, sid: u32) -> Result<Vec<Job>, Memory>
+/// The jobs of a session in a round: its reads and writes, in the order of their lines. `Memory`: an allocation was refused.
+pub(crate) fn jobs_of<'a>(alloc: Global, works: &'a Works, sid: u32) -> Result<Vec<Job<'a>>, Memory>
     requires numbered { AreNumbered works.now }
     ensures { IfOk result (λ jobs. AreJobsOf works.now sid (map job_view jobs.items)) }
 {

@@ -36,11 +36,11 @@ fn run_workers<
     C: Clock + Send,
     G: Gate,
     R: Threads + Wait + Sync,
->(rt: &R, alloc: Global, writers: &Writers<L, D, C>, workers: &mut [Worker], gate: &G)
+>(rt: &R, alloc: Global, writers: &Writers<L, D, C>, workers: &mut [Worker<'_>], gate: &G)
     requires { All (MayRun (begun L.named) L.named.table) workers.old }
     ensures { HaveRun (begun L.named) L.named.table workers.old workers.new }
 {
-    let run = |_: usize, worker: &mut Worker|
+    let run = |_: usize, worker: &mut Worker<'_>|
         requires { MayRun (begun L.named) L.named.table worker.now }
         ensures { HasRun (begun L.named) L.named.table worker.entry.now worker.exit.now }
     { worker.run(rt, alloc, writers, gate) };
@@ -60,7 +60,7 @@ fn run_named<
     side: WriteSide<D, C>,
     first: u64,
     lines: &[RoundLine],
-    workers: &mut [Worker],
+    workers: &mut [Worker<'_>],
     gate: &G,
 ) -> WriteSide<D, C>
     requires lines { (L.named.first ≡ first) × (L.named.given ≡ kept_lines lines.now) }
@@ -84,7 +84,7 @@ pub fn run_round<D: Disk + Send, C: Clock + Send, G: Gate, R: Threads + Wait + S
     first: u64,
     lines: &[RoundLine],
     works: &Works,
-    workers: &mut [Worker],
+    workers: &mut [Worker<'_>],
     gate: &G,
 ) -> WriteSide<D, C>
     requires none { side.outcomes ≡ [] }

@@ -26,13 +26,13 @@ pub(crate) fn take_back(mut session: Session, seats: &mut Vec<Session>)
 
 /// Lends a seat to a session, which learns of all that is shown and has its jobs. `Memory`: an allocation was refused, or no
 /// seat is left.
-pub(crate) fn lend(
+pub(crate) fn lend<'a>(
     alloc: Global,
     sid: u32,
     shown: Receipt,
-    works: &Works,
+    works: &'a Works,
     seats: &mut Vec<Session>,
-) -> Result<Seated, Memory>
+) -> Result<Seated<'a>, Memory>
     requires numbered { AreNumbered works.now }
     requires idle { All (IsIdle shown.history) seats.old.items }
     requires room { length seats.old.items ≤ vec_capacity seats.old }

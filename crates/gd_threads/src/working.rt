@@ -44,14 +44,14 @@ pub(crate) fn show<R: Wait, D: Disk, C: Clock>(rt: &R, side: &mut WriteSide<D, C
 
 /// The workers of a round, with the sessions that have a line in it. There is none where not all lines were read, or
 /// where there was no memory to assign them.
-pub(crate) fn hire<D: Disk, C: Clock>(
+pub(crate) fn hire<'a, D: Disk, C: Clock>(
     alloc: Global,
     workers: u32,
     budget: u64,
     side: &WriteSide<D, C>,
-    works: &Works,
+    works: &'a Works,
     seats: &mut Vec<Session>,
-) -> Vec<Worker>
+) -> Vec<Worker<'a>>
     requires workers { 0 < workers }
     requires budget { (0 < budget) × (budget ≤ 1_000_000) }
     requires numbered { AreNumbered works.now }
@@ -80,15 +80,15 @@ struct Handed<'a, R, G> {
     first: u64,
     lines: &'a [RoundLine],
     works: &'a Works,
-    workers: Vec<Worker>,
+    workers: Vec<Worker<'a>>,
 }
 
 /// Runs workers with a side that is handed over to them, and gives both back. What its bounds say is asked of whoever passes
 /// it on by its name.
-fn run_handed<R: Threads + Wait + Sync, D: Disk + Send, C: Clock + Send, G: Gate>(
+fn run_handed<'a, R: Threads + Wait + Sync, D: Disk + Send, C: Clock + Send, G: Gate>(
     side: WriteSide<D, C>,
-    handed: Handed<'_, R, G>,
-) -> (WriteSide<D, C>, Vec<Worker>)
+    handed: Handed<'a, R, G>,
+) -> (WriteSide<D, C>, Vec<Worker<'a>>)
     requires bounds { IsSend D.row × IsSend C.row × IsSync R.row × IsSync G.row }
     requires none { side.outcomes ≡ [] }
     requires fresh { IsFreshFrom handed.first side.history side.doubt }
@@ -122,16 +122,16 @@ fn run_handed<R: Threads + Wait + Sync, D: Disk + Send, C: Clock + Send, G: Gate
 }
 
 /// Runs the workers of a round, where all of its lines were read.
-fn join<R: Threads + Wait + Sync, D: Disk + Send, C: Clock + Send, G: Gate>(
-    rt: &R,
+fn join<'a, R: Threads + Wait + Sync, D: Disk + Send, C: Clock + Send, G: Gate>(
+    rt: &'a R,
     alloc: Global,
-    gate: &G,
+    gate: &'a G,
     side: &mut WriteSide<D, C>,
     first: u64,
-    lines: &[RoundLine],
-    works: &Works,
-    workers: Vec<Worker>,
-) -> Vec<Worker>
+    lines: &'a [RoundLine],
+    works: &'a Works,
+    workers: Vec<Worker<'a>>,
+) -> Vec<Worker<'a>>
     requires keeps { KeepsNow D.content D.moment D.images D.images_since C.may side.old }
     requires none { side.old.outcomes ≡ [] }
     requires fresh { IsFreshFrom first side.old.history side.old.doubt }
@@ -142,7 +142,7 @@ fn join<R: Threads + Wait + Sync, D: Disk + Send, C: Clock + Send, G: Gate>(
     requires alone { works.now.whole ≡ false → workers.items ≡ [] }
     ensures joins { Joins D.content D.moment D.images D.images_since D.faults C.may works.now side.old side.new }
     ensures worked { All (HasWorked side.new.table works.now.reads.items) result.items }
-    ensures lent { lent result.items ≡ lent workers.items }
+    ensures lent { lent result.items ≡ lent workers.entry.items }
 {
     if !works.whole {
         return workers;
@@ -160,16 +160,16 @@ fn join<R: Threads + Wait + Sync, D: Disk + Send, C: Clock + Send, G: Gate>(
 }
 
 /// Runs the workers of a round, and then the writes that they left. It waits for the workers, and for readers.
-pub(crate) fn run<R: Threads + Wait + Sync, D: Disk + Send, C: Clock + Send, G: Gate>(
-    rt: &R,
+pub(crate) fn run<'a, R: Threads + Wait + Sync, D: Disk + Send, C: Clock + Send, G: Gate>(
+    rt: &'a R,
     alloc: Global,
-    gate: &G,
+    gate: &'a G,
     side: &mut WriteSide<D, C>,
     first: u64,
-    lines: &[RoundLine],
-    works: &Works,
-    workers: Vec<Worker>,
-) -> Vec<Worker>
+    lines: &'a [RoundLine],
+    works: &'a Works,
+    workers: Vec<Worker<'a>>,
+) -> Vec<Worker<'a>>
     requires keeps { KeepsNow D.content D.moment D.images D.images_since C.may side.old }
     requires none { side.old.outcomes ≡ [] }
     requires fresh { IsFreshFrom first side.old.history side.old.doubt }
@@ -181,7 +181,7 @@ pub(crate) fn run<R: Threads + Wait + Sync, D: Disk + Send, C: Clock + Send, G: 
     requires alone { works.now.whole ≡ false → workers.items ≡ [] }
     ensures runs { RunsWrites D.content D.moment D.images D.images_since D.faults C.may works.now side.old side.new }
     ensures worked { All (HasWorked side.new.table works.now.reads.items) result.items }
-    ensures lent { lent result.items ≡ lent workers.items }
+    ensures lent { lent result.items ≡ lent workers.entry.items }
 {
     let workers = join(rt, alloc, gate, side, first, lines, works, workers);
     // A side says here what it keeps.

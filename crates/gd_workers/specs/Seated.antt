@@ -2,21 +2,29 @@
 use Rattle.std.specs.Prelude.{◌≡◌, ℕ, ◌+◌, ◌<◌, ◌≤◌, List, [], ◌∷◌, ◌++◌, length, map, Option, Some, None, Result, Ok, Err, slice_index_or, vec_capacity}
 use Rattle.logbook.specs.Pages.{Book}
 use Rattle.gd_base.specs.declared.memory.Memory.{Memory}
-use Rattle.gd_mql.specs.Requests.{line_view}
+use Rattle.gd_mql.specs.Requests.{read_view, write_view}
+use Rattle.gd_runs.specs.Request.{Line, read, write}
 use Rattle.gd_runs.specs.Side.{Begun}
 use Rattle.gd_seats.specs.Session.{SessionValue, reads as what_reads}
 use Rattle.gd_workers.specs.declared.job.Job.{Job}
 use Rattle.gd_workers.specs.declared.job.ReadReply.{ReadReply}
 use Rattle.gd_workers.specs.declared.job.StopCause.TheVariants as cause
+use Rattle.gd_workers.specs.declared.job.Work.{Work}
+use Rattle.gd_workers.specs.declared.job.Work.TheVariants.{Read, Write}
 use Rattle.gd_workers.specs.declared.reading.ReadTurn.{ReadTurn}
 use Rattle.gd_workers.specs.declared.reading.ReadTurn.TheVariants as turn
 use Rattle.gd_workers.specs.declared.seated.Seated.{Seated}
 use Rattle.gd_workers.specs.Reading.{bytes_of}
 use Rattle.gd_workers.specs.Runs.{JobValue, ReplyValue, Share, reads, BeginsShare, RunsPart, RunsShare, IsOver}
 
+-- the read or the write that this refers to
+abbrev pub work_view : Work → Line
+work_view (Read sid r) = read sid (read_view r.now)
+work_view (Write sid w) = write sid (write_view w.now)
+
 -- the job that this is
 abbrev pub job_view : Job → JobValue
-job_view j = record { line = j.line; bytes = j.bytes; work = line_view j.work }
+job_view j = record { line = j.line; bytes = j.bytes; work = work_view j.work }
 
 -- the kept reply that this is
 abbrev pub reply_view : ReadReply → ReplyValue

@@ -1,12 +1,19 @@
 //! What a worker has to do, and what it did.
-use gd_mql::request::Line;
+use gd_mql::request::{ReadRequest, WriteRequest};
+
+/// What a job asks: a read or a write of a session, whose request stays with the caller.
+#[derive(Clone, Copy)]
+pub enum Work<'a> {
+    Read { sid: u32, request: &'a ReadRequest },
+    Write { sid: u32, request: &'a WriteRequest },
+}
 
 /// A read or a write line of a round, with its length.
-#[derive(Drop)]
-pub struct Job {
+#[derive(Clone, Copy)]
+pub struct Job<'a> {
     pub line: u64,
     pub bytes: u64,
-    pub work: Line,
+    pub work: Work<'a>,
 }
 
 /// The reply line that is kept of a read line, with its snapshot: the number of requests over which it is. None stands for

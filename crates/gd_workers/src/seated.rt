@@ -5,13 +5,12 @@ ghost use Rattle.gd_writers.specs.Round.{begun};
 ghost use Rattle.gd_workers.specs.Runs.{RunsPart, IsOver, Share};
 ghost use Rattle.gd_workers.specs.Seated.{share_of, IsNew, TakesRead, TakesWritten};
 
-use crate::job::{Job, ReadReply, Stop, StopCause};
+use crate::job::{Job, ReadReply, Stop, StopCause, Work};
 use crate::reading::{ReadTurn, read_turn};
 use crate::writing::write_turn;
 use gd_base::memory::Memory;
 use gd_base::steps::Steps;
 use gd_disk::disk::Disk;
-use gd_mql::request::Line;
 use gd_outside::clock::Clock;
 use gd_outside::gate::Gate;
 use gd_seats::session::Session;
@@ -22,10 +21,10 @@ use std::sync::Wait;
 /// A session with its jobs in a round, the replies that are kept of its read lines, and where it stopped. Contracts see it by
 /// `share_of`.
 #[derive(Drop)]
-pub struct Seated {
+pub struct Seated<'a> {
     pub sid: u32,
     pub session: Session,
-    pub jobs: Vec<Job>,
+    pub jobs: Vec<Job<'a>>,
     pub replies: Vec<ReadReply>,
     pub stop: Option<Stop>,
     // How many jobs are done, the last write line of these, and the snapshot of the reading that the session holds.
@@ -34,16 +33,16 @@ pub struct Seated {
     at: Option<u32>,
 }
 
-impl Seated {
+impl<'a> Seated<'a> {
     /// A session with its jobs, and with room for a reply of each. Nothing is done yet. `Memory`: there is no such room, and
     /// the session comes back.
     pub fn new(
         alloc: Global,
         sid: u32,
         session: Session,
-        jobs: Vec<Job>,
-    ) -> Result<Seated, (Memory, Session)>
-        ensures new { IfOk result (λ seated. IsNew sid session jobs.items (share_of seated)) }
+        jobs: Vec<Job<'a>>,
+    ) -> Result<Seated<'a>, (Memory, Session)>
+        ensures new { IfOk result (λ seated. IsNew sid session jobs.entry.items (share_of seated)) }
         ensures err { IfErr result (λ refused. refused.1 ≡ session) }
     {
         match Vec::with_capacity(alloc, jobs.len()) {
@@ -124,8 +123,8 @@ impl Seated {
     {
         let job = &self.jobs[self.done];
         let line = job.line;
-        match &job.work {
-            Line::Read { sid: _, request } => {
+        match job.work {
+            Work::Read { sid: _, request } => {
                 let turn = read_turn(
                     &mut self.session,
                     alloc,
@@ -139,7 +138,7 @@ impl Seated {
                 );
                 self.take_read(gate, number, line, turn);
             }
-            Line::Write { sid: _, request } => {
+            Work::Write { sid: _, request } => {
                 gate.pass(number, line);
                 let written = write_turn(
                     &mut self.session,

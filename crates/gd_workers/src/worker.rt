@@ -14,7 +14,7 @@ use std::sync::Wait;
 
 /// One turn of each session. False where nothing is left to do.
 fn pass<L: Round, D: Disk, C: Clock, G: Gate, R: Wait>(
-    seated: &mut [Seated],
+    seated: &mut [Seated<'_>],
     rt: &R,
     alloc: Global,
     number: u32,
@@ -41,7 +41,7 @@ fn pass<L: Round, D: Disk, C: Clock, G: Gate, R: Wait>(
 
 /// Turns of the sessions until nothing is left to do.
 fn run_all<L: Round, D: Disk, C: Clock, G: Gate, R: Wait>(
-    seated: &mut [Seated],
+    seated: &mut [Seated<'_>],
     rt: &R,
     alloc: Global,
     number: u32,
@@ -64,13 +64,13 @@ fn run_all<L: Round, D: Disk, C: Clock, G: Gate, R: Wait>(
 
 /// The sessions of one worker in a round, with the budget of a slice.
 #[derive(Drop)]
-pub struct Worker {
+pub struct Worker<'a> {
     pub number: u32,
     pub budget: u64,
-    pub seated: Vec<Seated>,
+    pub seated: Vec<Seated<'a>>,
 }
 
-impl Worker {
+impl<'a> Worker<'a> {
     /// Runs the jobs of each session in their order, one slice or one write of each session in turn, until each has run them
     /// all or has stopped. It waits for the lock of writes.
     pub fn run<L: Round, D: Disk, C: Clock, G: Gate, R: Wait>(

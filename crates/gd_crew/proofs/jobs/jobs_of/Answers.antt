@@ -6,7 +6,7 @@ use Rattle.gd_caller.specs.declared.work.WriteLine.{WriteLine}
 use Rattle.gd_caller.specs.Writes.{MayBeWritten}
 use Rattle.gd_caller.proofs.Read.{all_at}
 use Rattle.gd_crew.specs.Jobs.{Adds, MayBeRead}
-use Rattle.gd_crew.proofs.Copies.{own, may_be_read, may_be_written, adds_none, adds_next, jobs_all, write_at, all_taken}
+use Rattle.gd_crew.proofs.Added.{own, may_be_read, may_be_written, adds_none, adds_next, jobs_all, write_at, all_taken}
 use Rattle.gd_crew.proofs.jobs.jobs_of.Goals as goal
 
 pub loop-write-init : goal.loop-write-init

@@ -2,7 +2,7 @@ use Rattle.std.proofs.Common.{map}
 use Rattle.gd_workers.specs.Seated.{job_view}
 use Rattle.gd_caller.proofs.Read.{all_at}
 use Rattle.gd_crew.specs.Jobs.{MayBeRead}
-use Rattle.gd_crew.proofs.Copies.{adds_read, read_at, one_more_job}
+use Rattle.gd_crew.proofs.Added.{adds_read, read_at, one_more_job}
 use Rattle.gd_crew.specs.Jobs.{job_of_read}
 use Rattle.gd_crew.proofs.jobs.push_read.Goals as goal
 
@@ -11,4 +11,4 @@ returns-in_ok-push c =
     let r = c.index-reads-place.result in
     let there = read_at c.args.reads.now c.args.place r c.requires.place c.index-reads-place.is in
     adds_read c.args.reads.now c.args.place r (map job_view c.args.jobs.now.items) (map job_view c.push.new.self.items) there (all_at MayBeRead c.args.reads.now c.args.place r c.requires.reads there)
-    (one_more_job c.args.jobs.now.items c.push.new.self.items c.in_ok-job.job (job_of_read r) c.in_ok-push.ensures.items c.in_ok-job.ensures)
+    (one_more_job c.args.jobs.now.items c.push.new.self.items c.read_job.result (job_of_read r) c.in_ok-push.ensures.items c.read_job.ensures)

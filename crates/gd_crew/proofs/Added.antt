@@ -1,4 +1,4 @@
--- Jobs that are copied one after another.
+-- Jobs that are added one after another.
 use Rattle.std.proofs.Common.{◌≡◌, refl, ℕ, zero, suc, ◌+◌, ◌<◌, ◌≤◌, ◌==◌, Bool, true, false, cond, List, [], ◌∷◌, ◌++◌, length, map, take, filter, Some, Ok, slice_get, sym, subst, ap, ◌∙◌, arith, append-nil, append_assoc, get_or, take_all}
 use Rattle.std.specs.List.{AllByRecursion}
 use Rattle.std.proofs.lemmas.List.{map-append}
@@ -60,7 +60,7 @@ adds_read reads place r a b there may is = record {
     record {
       line = may;
       short = omega arith;
-      copied = λ s q e. record { place = place; read = r; there = there; line_is = refl; asks = read_is r s q e };
+      among = λ s q e. record { place = place; read = r; there = there; line_is = refl; asks = read_is r s q e };
     },
     tt,
   ));
@@ -73,7 +73,7 @@ adds_write reads w a b may is = record {
     record {
       line = may.1;
       short = may.0;
-      copied = λ s q e. absurd (not_read w.session s (write_view w.request) q e);
+      among = λ s q e. absurd (not_read w.session s (write_view w.request) q e);
     },
     tt,
   ));
