@@ -4,5 +4,6 @@ pub mod Scanned
 pub mod Checked
 pub mod Visited
 pub mod Built
+pub mod Gathered
 pub mod Printed
 pub mod Begun

@@ -22,7 +22,7 @@ use Rattle.gd_runs.specs.Request.{asks_page}
 use Rattle.gd_scan_laws.specs.Ordered.{start}
 use Rattle.gd_match_laws.specs.Rows.{rows_order}
 use Rattle.gd_order_laws.specs.Window.{In}
-use Rattle.gd_suspended_laws.specs.Standing.{rows_of, marks_of, page_rows, IsOrderOf, IsListed, IsLast, HasScanned, HasVisited, IsKept, ChangesNothing, window_of}
+use Rattle.gd_suspended_laws.specs.Standing.{rows_of, marks_of, page_rows, IsOrderOf, IsListed, IsLast, HasScanned, HasVisited, IsKept, ChangesNothing, window_of, page_objects, trees_among, weight_among}
 use Rattle.gd_mql.specs.Requests.{cursor_view}
 use Rattle.gd_plan.specs.Asked.{asked_view}
 use Rattle.gd_plan.specs.declared.asked.Asked.{Asked as Found}
@@ -41,6 +41,8 @@ use Rattle.gd_suspended.specs.declared.subject.Subject.{Subject}
 use Rattle.gd_suspended.specs.declared.visiting.Visiting.{Visiting}
 use Rattle.gd_suspended.specs.declared.scanning.Scanning.{Scanning}
 use Rattle.gd_suspended.specs.declared.checking.Checking.{Checking}
+use Rattle.gd_suspended.specs.declared.gathering.Gathered.{Gathered}
+use Rattle.gd_suspended.specs.declared.gathering.Gathering.{Gathering}
 use Rattle.gd_suspended.specs.declared.building.Building.{Building}
 use Rattle.gd_suspended.specs.declared.stage.Stage.{Stage}
 use Rattle.gd_suspended.specs.declared.stage.Stage.TheVariants as stage
@@ -126,6 +128,20 @@ pub record IsScanned (batches : List Batch) (s : Subject) (plan : Found) (w : Ke
   pub kept : IsKept (prims_of batches) (asked_view plan) (mark_of s.after) w
   pub owes : (k : ℕ) → body_owes batches s (asked_view plan) w (building 0 no_trees start) k ≡ line_of batches s k
 
+-- ---- gathering
+
+-- the trees of those of objects that answer were gathered, and do not weigh too much together
+pub record HasGathered (prims : List Primitive) (q : Asked) (os : List ℕ) (g : Gathered) : Type 0 where
+  pub trees : map tree_view g.trees.items ≡ trees_among prims q os
+  pub weighs : g.weight ≡ weight_among prims q os
+  pub little : g.weight ≤ 262_144
+
+-- the scan of a reading has ended, and the trees of the first rows of its page were gathered
+pub record Gathers (batches : List Batch) (s : Subject) (g : Gathering) (w : Kept) : Type 0 where
+  pub scanned : IsScanned batches s g.plan w
+  pub listed : (asked_view g.plan).count ≡ false
+  pub has : HasGathered (prims_of batches) (asked_view g.plan) (take g.next (page_objects w)) g.gathered
+
 -- ---- printing
 
 -- what a page prints from trees, or how many rows it has, where they are counted
@@ -162,6 +178,7 @@ abbrev pub StageOwes : List Batch → Subject → Stage → Kept → Type 0
 StageOwes batches s (stage.Visiting v) w = Visits batches s v w
 StageOwes batches s (stage.Scanning r) w = Scans batches s r.plan r.matcher w × IsKnown batches r.plan r.matcher r.places
 StageOwes batches s (stage.Checking c) w = Checks batches s c w
+StageOwes batches s (stage.Gathering g) w = Gathers batches s g w
 StageOwes batches s (stage.Building b) w = Builds batches s b w × (b.weight ≤ 262_144)
 StageOwes batches s (stage.Printing shape) w = Prints batches s shape w
 StageOwes batches s stage.Spent w = ⊥

@@ -6,6 +6,7 @@ mod building;
 mod checking;
 pub mod fault;
 mod first;
+mod gathering;
 mod printing;
 mod reach;
 pub mod read;

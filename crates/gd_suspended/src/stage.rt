@@ -5,6 +5,7 @@ ghost use Rattle.gd_suspended.specs.Rounds.{RoundGives, RoundCounts};
 
 use crate::building::Building;
 use crate::checking::Checking;
+use crate::gathering::Gathering;
 use crate::printing::print_on;
 use crate::scanning::Scanning;
 use crate::subject::Subject;
@@ -18,12 +19,13 @@ use std::alloc::Global;
 
 /// What a reading does, one after the other: the places among which the candidates are are visited, or else candidates are
 /// scanned, and the best rows are kept; where the window is full, it may be asked whether those that are left would change
-/// anything; then the trees of the rows of the page are built; then the page is printed.
+/// anything; then the trees of the rows of the page are gathered, or else built by a matcher; then the page is printed.
 #[derive(Drop)]
 pub(crate) enum Stage {
     Visiting(Visiting),
     Scanning(Scanning),
     Checking(Checking),
+    Gathering(Gathering),
     Building(Building),
     Printing(Shape),
     /// The reply was given, or memory was wanting.
@@ -68,6 +70,9 @@ impl Stage {
             }
             Stage::Checking(checking) => {
                 checking.go_on(alloc, subject, window, view, budget, line, steps)
+            }
+            Stage::Gathering(gathering) => {
+                gathering.go_on(alloc, subject, window, view, budget, line, steps)
             }
             Stage::Building(building) => {
                 building.go_on(alloc, subject, window, view, budget, line, steps)
