@@ -1,9 +1,8 @@
 -- The places of a list that does not fall, each once.
-use Rattle.std.proofs.Common.{◌≡◌, ◌∙◌, ◌+◌, ◌-◌, ◌<◌, ◌≤◌, ℕ, zero, suc, Bool, true, false, List, [], ◌∷◌, ◌++◌, length, drop, get_or, refl, sym, ap, arith, ⊎_elim, add-one, drop-cons}
-use Rattle.std.specs.Prelude.{◌==◌, ◌||◌, ◌&&◌, nat_lt, slice_index}
+use Rattle.std.proofs.Common.{◌≡◌, ◌∙◌, ◌+◌, ◌-◌, ◌<◌, ◌≤◌, ℕ, suc, true, List, [], ◌∷◌, length, drop, get_or, sym, ap, arith, ⊎_elim, add-one, drop-cons}
+use Rattle.std.specs.Prelude.{◌||◌, ◌&&◌, nat_lt, slice_index}
 use Rattle.std.specs.List.Sorted.{IsNonDecreasing}
-use Rattle.std.proofs.lemmas.Bool.{cases_lt, le-ltb, eqb-true, ne_eqb, eq-eqb}
-use Rattle.std.proofs.lemmas.List.Folds.{list_any-append}
+use Rattle.std.proofs.lemmas.Bool.{cases_lt, le-ltb, ne_eqb}
 use Rattle.std.proofs.Math.Bool.{and-false}
 use Rattle.gd_postings.specs.Postings.{ids_below}
 use Rattle.gd_iter_core.specs.Owed.{has_id}

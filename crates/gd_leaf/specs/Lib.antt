@@ -1,3 +1,4 @@
+pub mod Known
 pub mod Leaf
 pub mod Places
 pub mod Rising

@@ -5,8 +5,9 @@ ghost use Rattle.gd_prim.specs.End.{places_with};
 ghost use Rattle.gd_prim.specs.History.{prims_of};
 ghost use Rattle.gd_postings.specs.Postings.{first_from};
 ghost use Rattle.gd_store.specs.Valued.{places_of_number};
-ghost use Rattle.gd_iter_core.specs.Owed.{ids_from, has_id, NextGives, IsLow, Reaches};
+ghost use Rattle.gd_iter_core.specs.Owed.{ids_from, has_id, NextGives, IsLow, Reaches, IsAt};
 ghost use Rattle.gd_iter_core.specs.Positions.{Moves, at_place};
+ghost use Rattle.gd_leaf.specs.Known.{IsKnown};
 ghost use Rattle.gd_leaf.specs.Leaf.{all_places, leaf_set, leaf_walk};
 ghost use Rattle.gd_leaf.specs.Rising.{leaf_rises, leaf_owed_rises};
 
@@ -98,6 +99,7 @@ impl Leaf {
         ensures kind { self.new.kind ≡ self.old.kind }
         ensures low { IsLow result }
         ensures known { (before budget now : ℕ) → Reaches before budget result now }
+        ensures settled { IsKnown result }
         ensures work { steps.new ≤ steps.old + 22 }
         ensures later { steps.old ≤ steps.new }
     {
@@ -142,7 +144,18 @@ impl<'a> Iter<View<'a>> for Leaf {
 
     ghost position = { λ it. at_place it.place };
 
-    fn next<L>(&mut self, world: &View<'a>, budget: u64, steps: &mut Steps<L>) -> Turn {
+    /// Gives the next member. It always knows.
+    fn next<L>(&mut self, world: &View<'a>, budget: u64, steps: &mut Steps<L>) -> Turn
+        ensures gives { NextGives (ids_from self.old.place (leaf_set self.old.kind world.now)) result (ids_from self.new.place (leaf_set self.new.kind world.now)) }
+        ensures known { IsKnown result }
+        ensures low { IsLow result }
+        ensures same { leaf_walk self.new.kind ≡ leaf_walk self.old.kind }
+        ensures at { IsAt (leaf_walk self.old.kind) world.now (at_place self.old.place) (ids_from self.old.place (leaf_set self.old.kind world.now))
+            → IsAt (leaf_walk self.new.kind) world.now (at_place self.new.place) (ids_from self.new.place (leaf_set self.new.kind world.now)) }
+        ensures reached { Reaches steps.old budget result steps.new }
+        ensures work { steps.new ≤ steps.old + budget + 24 }
+        ensures later { steps.old ≤ steps.new }
+    {
         self.go_on(world, steps)
     }
 
