@@ -24,6 +24,8 @@ use Rattle.gd_shape.specs.contracts.shape.Shape as shape
 use Rattle.gd_shared.proofs.seat.Seat.TheSendSync as seat
 use Rattle.gd_suspended.specs.contracts.building.Building as building
 use Rattle.gd_suspended.specs.contracts.checking.Checking as checking
+use Rattle.gd_suspended.specs.contracts.gathering.Gathered as gathered
+use Rattle.gd_suspended.specs.contracts.gathering.Gathering as gathering
 use Rattle.gd_suspended.specs.contracts.reading.Reading as reading
 use Rattle.gd_suspended.specs.contracts.scanning.Scanning as scanning
 use Rattle.gd_suspended.specs.contracts.stage.Stage as stage
@@ -80,11 +82,17 @@ scanning_field = search (sendable, crosses, plan_field, matcher_field) depth 40 
 checking_field : IsSend (checking.the_field).row
 checking_field = search (sendable, crosses, plan_field, matcher_field) depth 40 fits 5000
 
+gathered_field : IsSend (gathered.the_field).row
+gathered_field = search (sendable, crosses, tree_knot.crosses) depth 40 fits 5000
+
+gathering_field : IsSend (gathering.the_field).row
+gathering_field = search (sendable, crosses, plan_field, gathered_field) depth 40 fits 5000
+
 building_field : IsSend (building.the_field).row
 building_field = search (sendable, crosses, plan_field, matcher_field, tree_knot.crosses) depth 40 fits 5000
 
 stage_field : IsSend (stage.the_field).row
-stage_field = search (sendable, crosses, visiting_field, scanning_field, checking_field, building_field, shape_field) depth 40 fits 5000
+stage_field = search (sendable, crosses, visiting_field, scanning_field, checking_field, gathering_field, building_field, shape_field) depth 40 fits 5000
 
 reading_field : IsSend (reading.the_field).row
 reading_field = search (sendable, crosses, subject_field, window_sent.the_send, stage_field) depth 40 fits 5000
