@@ -32,6 +32,7 @@ use Rattle.gd_match_laws.proofs.Bodies.{rows-owed, kept_page, building-goes, the
 use Rattle.gd_window.specs.Kept.{Kept}
 use Rattle.gd_window.specs.Laws.{RowsBehindAreAsDefined}
 use Rattle.gd_suspended_laws.specs.Standing.{rows_of, marks_of, page_rows, IsOrderOf, HasScanned, IsKept}
+use Rattle.gd_suspended_laws.proofs.Page.{page_once, page_placed}
 use Rattle.gd_suspended_laws.proofs.Scanning.{given_all, answers_apart, answers_placed}
 use Rattle.gd_suspended_laws.proofs.Windows.{best_of, best_known, best_again, keeps_best}
 
@@ -102,6 +103,8 @@ module _ (prims : List Primitive) (q : Asked) (after : Option Mark) where
     light = ap (list_any weighs_too_much) (owed_first prims (template_of q) (rows_order (page_rows w)))
         ∙ any_map weighs_too_much (candidate prims (template_of q)) passed
         ∙ none_any (λ p. weighs_too_much (candidate prims (template_of q) p)) passed (Each-from_members (λ p. weighs_too_much (candidate prims (template_of q) p) ≡ false) passed light_one);
+    once = page_once prims q after w (answering has.given) kept (answers_apart prims q order is has.given s has.runs);
+    placed = page_placed prims q after w (answering has.given) kept (answers_placed prims q order has.given s has.runs);
   }
     where
       kept : rows_of w ≡ best_of prims q after (answering has.given)

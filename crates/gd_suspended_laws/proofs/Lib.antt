@@ -1,5 +1,6 @@
 pub mod Keys
 pub mod Windows
+pub mod Page
 pub mod Scanning
 pub mod Building
 pub mod Given
