@@ -1,5 +1,5 @@
--- What is known of a list of primitives.
-use Rattle.std.specs.Prelude.{◌≡◌, ℕ, List, Option, slice_get}
+-- Ids of objects of a list of primitives.
+use Rattle.std.specs.Prelude.{◌≡◌, ◌+◌, ℕ, zero, suc, List, Option, is_some, if◌then◌else◌}
 use Rattle.std.specs.Option.{ForSome}
 use Rattle.std.specs.Ordering.{nat_cmp}
 use Rattle.std.specs.Map.{lookup}
@@ -7,14 +7,15 @@ use Rattle.std.specs.BTreeMap.{is_at}
 use Rattle.gd_prim.specs.declared.Primitive.{Primitive}
 use Rattle.gd_defs.specs.Ids.{id_text}
 
--- what is known of a place: its primitive, or that there is none
-abbrev pub known_at : List (ℕ × Option Primitive) → ℕ → Option (Option Primitive)
-known_at entries place = lookup (is_at (nat_cmp place)) entries
+-- the id of an object, if it is known
+abbrev pub known_at : List (ℕ × List ℕ) → ℕ → Option (List ℕ)
+known_at ids object = lookup (is_at (nat_cmp object)) ids
 
--- what is known is of this list
-abbrev pub IsKnownOf : List Primitive → List (ℕ × Option Primitive) → Type 0
-IsKnownOf prims entries = (place : ℕ) → ForSome (known_at entries place) (λ p. p ≡ slice_get prims place)
+-- what is known are the ids of the objects
+abbrev pub IsKnownOf : List Primitive → List (ℕ × List ℕ) → Type 0
+IsKnownOf prims ids = (object : ℕ) → ForSome (known_at ids object) (λ text. text ≡ id_text prims object)
 
--- the texts are the ids of the objects beside them
-abbrev pub AreIdsOf : List Primitive → List (ℕ × List ℕ) → Type 0
-AreIdsOf prims ids = (k : ℕ) → ForSome (slice_get ids k) (λ e. e.1 ≡ id_text prims e.0)
+-- how many of the numbers below n have no id among these
+abbrev pub missing : ℕ → List (ℕ × List ℕ) → ℕ
+missing zero ids = 0
+missing (suc n) ids = (if is_some (known_at ids n) then 0 else 1) + missing n ids

@@ -1,5 +1,5 @@
 -- What a page that is being printed stands for.
-use Rattle.std.specs.Prelude.{◌≡◌, ℕ, List, [], Option, None, Some, map, nat_lt, Bool, true, false, ◌||◌, Result, Ok, Err, vec_len}
+use Rattle.std.specs.Prelude.{◌≡◌, ◌+◌, ◌*◌, ◌<◌, ℕ, List, [], Option, None, Some, map, Bool, true, false, if◌then◌else◌, Result, Ok, Err, IsNone}
 use Rattle.gd_prim.specs.declared.Primitive.{Primitive}
 use Rattle.gd_tree.specs.Json as tree
 use Rattle.gd_tree.specs.Trees.{Tree, list_of}
@@ -10,8 +10,13 @@ use Rattle.gd_plan.specs.Asked.{asked_view}
 use Rattle.gd_defs.specs.Lines.{count_json}
 use Rattle.gd_runs.specs.Shape.{page_shape}
 use Rattle.gd_trees.specs.View.{view as tree_view, trees_view}
-use Rattle.gd_shape.specs.Knowing.{IsKnownOf, AreIdsOf}
+use Rattle.gd_shape.specs.Knowing.{known_at, missing, IsKnownOf}
+use Rattle.gd_shape.specs.Outcome.{seen}
 use Rattle.gd_shape.specs.declared.shape.Shape.{Shape}
+use Rattle.gd_shape.specs.declared.shape.Next.{Next}
+use Rattle.gd_shape.specs.declared.shape.Next.TheVariants as next
+use Rattle.gd_shape.specs.declared.shape.Wanted.{Wanted}
+use Rattle.gd_shape.specs.declared.shape.Wanted.TheVariants as wanted
 use Rattle.gd_shape.specs.declared.shape.PageBody.{PageBody}
 use Rattle.gd_shape.specs.declared.shape.PageBody.TheVariants as body
 use Rattle.gd_shape.specs.declared.shape.ShapeTurn.{ShapeTurn}
@@ -41,20 +46,37 @@ abbrev pub body_print : List Primitive → Asked → PageBody → Result tree.Js
 body_print prims q (body.Trees trees) = page_shape prims q (list_of (trees_view trees)) []
 body_print prims q (body.Count n) = Ok (count_json n)
 
--- something is still to be looked at
-abbrev pub is_behind : Shape → Bool
-is_behind s = nat_lt 0 (vec_len s.places) || nat_lt 0 (vec_len s.objects)
+-- steps that are left, at most: one for each place that is still to be counted, and 1,025 for each object below n whose id is not known
+abbrev pub steps_left : ℕ → Shape → ℕ
+steps_left n s = s.places + 1025 * missing n s.ids
 
--- what is known and the ids that were found are of this list
+-- the same of a page that may have come to a fault, after which none are left
+abbrev pub shape_left : ℕ → Shape → ℕ
+shape_left n s = if s.stopped then 0 else steps_left n s
+
+-- no more than these are left at first
+abbrev pub shape_most : ℕ → ℕ
+shape_most n = 262_144 + 1025 * n
+
+-- the ids that were found are of this list
 pub record IsOf (prims : List Primitive) (s : Shape) : Type 0 where
-  pub known : IsKnownOf prims s.known
-  pub ids : AreIdsOf prims s.ids.items
+  pub known : IsKnownOf prims s.ids
 
 -- both print the same rows of the same query
 pub record IsSamePage (a b : Shape) : Type 0 where
   pub asked : asked_of b ≡ asked_of a
   pub trees : trees_in b ≡ trees_in a
   pub count : b.count ≡ a.count
+
+-- a place is still to be counted, or the id of the object is not known
+abbrev pub IsWanted : Shape → Wanted → Type 0
+IsWanted s wanted.Place = 0 < s.places
+IsWanted s (wanted.IdOf object) = IsNone (known_at s.ids object)
+
+-- what is next is wanted, or it is the page as it is expected
+abbrev pub IsNext : Result tree.Json Path → Shape → Next → Type 0
+IsNext expected s (next.Look wanted) = IsWanted s wanted
+IsNext expected s (next.Printed outcome) = seen json_view outcome ≡ expected
 
 -- a slice that came to a reply tells what is expected
 abbrev pub Tells : Result tree.Json Path → ShapeTurn → Type 0

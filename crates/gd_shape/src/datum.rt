@@ -1,5 +1,5 @@
 //! Data as they print.
-ghost use Rattle.std.specs.Prelude.{◌≡◌, ℕ, IfOk, IsTrue};
+ghost use Rattle.std.specs.Prelude.{◌≡◌, ℕ, IfErr, IfOk, IsTrue};
 ghost use Rattle.gd_tree.specs.Json.{text};
 ghost use Rattle.gd_prim.specs.Live.{value_at, end_at, object_datum};
 ghost use Rattle.gd_prim.specs.WellFormed.{may_hold};
@@ -10,10 +10,14 @@ ghost use Rattle.gd_defs.specs.Reply as reply;
 ghost use Rattle.gd_defs.specs.Rows as rows;
 ghost use Rattle.gd_json.specs.View.{view};
 ghost use Rattle.gd_plan.specs.Seen.{own_view};
+ghost use Rattle.gd_shape.specs.Knowing.{IsKnownOf};
+ghost use Rattle.gd_shape.specs.Outcome.{Lacks};
 
+use crate::known::Known;
 use crate::sight::{Lack, Sight};
 use gd_base::datum::{Datum, Precision};
 use gd_base::id::Id;
+use gd_base::memory::Memory;
 use gd_fault::guid::guid;
 use gd_json::value::Json;
 use gd_plan::asked::Own;
@@ -24,7 +28,7 @@ use std::alloc::Global;
 
 /// A value that a primitive may hold, as it prints.
 #[tactic(auto, using(crate::proofs::Data::value_held))]
-fn value_json(alloc: Global, datum: &Datum) -> Result<Json, Lack>
+fn value_json(alloc: Global, datum: &Datum) -> Result<Json, Memory>
     requires { IsTrue (may_hold datum.now) }
     ensures { IfOk result (λ json. view json ≡ datum_json datum.now) }
 {
@@ -35,10 +39,10 @@ fn value_json(alloc: Global, datum: &Datum) -> Result<Json, Lack>
 }
 
 /// The value at a place, as it prints.
-pub(crate) fn value_at(alloc: Global, sight: &Sight<'_>, place: Id) -> Result<Json, Lack>
+pub(crate) fn value_at(alloc: Global, sight: &Sight<'_>, place: Id) -> Result<Json, Memory>
     ensures { IfOk result (λ json. view json ≡ datum_json (value_at sight.now place)) }
 {
-    match sight.prim(place)? {
+    match sight.prim(place) {
         Some(prim) => value_json(alloc, &prim.value),
         None => Ok(Json::Null),
     }
@@ -46,53 +50,57 @@ pub(crate) fn value_at(alloc: Global, sight: &Sight<'_>, place: Id) -> Result<Js
 
 /// When the primitive at a place was written.
 #[tactic(auto, using(crate::proofs::Data::moment_held))]
-pub(crate) fn timestamp(sight: &Sight<'_>, place: Id) -> Result<Datum, Lack>
-    ensures timestamp { IfOk result (λ datum. datum ≡ rows.timestamp sight.now place) }
-    ensures held { IfOk result (λ datum. IsTrue (may_hold datum)) }
+pub(crate) fn timestamp(sight: &Sight<'_>, place: Id) -> Datum
+    ensures timestamp { result ≡ rows.timestamp sight.now place }
+    ensures held { IsTrue (may_hold result) }
 {
-    match sight.prim(place)? {
-        Some(prim) => Ok(Datum::Moment {
+    match sight.prim(place) {
+        Some(prim) => Datum::Moment {
             ms: prim.moment as i64,
             precision: Precision::Time,
-        }),
-        None => Ok(Datum::Empty),
+        },
+        None => Datum::Empty,
     }
 }
 
 /// The same as it prints.
-fn timestamp_json(alloc: Global, sight: &Sight<'_>, place: Id) -> Result<Json, Lack>
+fn timestamp_json(alloc: Global, sight: &Sight<'_>, place: Id) -> Result<Json, Memory>
     ensures { IfOk result (λ json. view json ≡ datum_json (rows.timestamp sight.now place)) }
 {
-    let datum = timestamp(sight, place)?;
+    let datum = timestamp(sight, place);
     value_json(alloc, &datum)
 }
 
 /// The guid of a place.
-fn guid_json(alloc: Global, place: Id) -> Result<Json, Lack>
+fn guid_json(alloc: Global, place: Id) -> Result<Json, Memory>
     ensures { IfOk result (λ json. view json ≡ text (guid place)) }
 {
     Ok(Json::Text(guid(alloc, place)?))
 }
 
 /// The id of an object.
-fn id_json(sight: &Sight<'_>, next: &mut usize, object: Id) -> Result<Json, Lack>
-    ensures { IfOk result (λ json. view json ≡ text (id_text sight.now object)) }
+fn id_json(sight: &Sight<'_>, ids: &Known, object: Id) -> Result<Json, Lack>
+    requires { IsKnownOf sight.now ids.now }
+    ensures printed { IfOk result (λ json. view json ≡ text (id_text sight.now object)) }
+    ensures lacks { IfErr result (λ lack. Lacks ids.now lack) }
 {
-    Ok(Json::Text(sight.id(next, object)?))
+    Ok(Json::Text(sight.id(ids, object)?))
 }
 
 /// The id of an object, if there is one, else null.
-fn some_id_json(sight: &Sight<'_>, next: &mut usize, object: Option<Id>) -> Result<Json, Lack>
-    ensures { IfOk result (λ json. view json ≡ reply.id_json sight.now (object_datum object)) }
+fn some_id_json(sight: &Sight<'_>, ids: &Known, object: Option<Id>) -> Result<Json, Lack>
+    requires { IsKnownOf sight.now ids.now }
+    ensures printed { IfOk result (λ json. view json ≡ reply.id_json sight.now (object_datum object)) }
+    ensures lacks { IfErr result (λ lack. Lacks ids.now lack) }
 {
     match object {
-        Some(object) => id_json(sight, next, object),
+        Some(object) => id_json(sight, ids, object),
         None => Ok(Json::Null),
     }
 }
 
 /// The guid of an object, if there is one, else null.
-fn some_guid_json(alloc: Global, object: Option<Id>) -> Result<Json, Lack>
+fn some_guid_json(alloc: Global, object: Option<Id>) -> Result<Json, Memory>
     ensures { IfOk result (λ json. view json ≡ datum_json (object_datum object)) }
 {
     match object {
@@ -102,28 +110,28 @@ fn some_guid_json(alloc: Global, object: Option<Id>) -> Result<Json, Lack>
 }
 
 /// The right end of a link.
-fn right_of(sight: &Sight<'_>, link: Id) -> Result<Option<Id>, Lack>
-    ensures { IfOk result (λ end. end ≡ end_at (λ p. p.right) sight.now link) }
+fn right_of(sight: &Sight<'_>, link: Id) -> Option<Id>
+    ensures { result ≡ end_at (λ p. p.right) sight.now link }
 {
-    match sight.prim(link)? {
-        Some(prim) => Ok(prim.right),
-        None => Ok(None),
+    match sight.prim(link) {
+        Some(prim) => prim.right,
+        None => None,
     }
 }
 
 /// The end of a link at which the answer of a property stands.
-fn far_end(sight: &Sight<'_>, property: &Property, link: Id) -> Result<Option<Id>, Lack>
-    ensures { IfOk result (λ end. end ≡ props.far_end sight.now property.now link) }
+fn far_end(sight: &Sight<'_>, property: &Property, link: Id) -> Option<Id>
+    ensures { result ≡ props.far_end sight.now property.now link }
 {
-    match sight.prim(link)? {
+    match sight.prim(link) {
         Some(prim) => {
             if property.reversed {
-                Ok(prim.left)
+                prim.left
             } else {
-                Ok(prim.right)
+                prim.right
             }
         }
-        None => Ok(None),
+        None => None,
     }
 }
 
@@ -131,22 +139,24 @@ fn far_end(sight: &Sight<'_>, property: &Property, link: Id) -> Result<Option<Id
 pub(crate) fn own_json(
     alloc: Global,
     sight: &Sight<'_>,
-    next: &mut usize,
+    ids: &Known,
     own: Own,
     link: Id,
     object: Id,
 ) -> Result<Json, Lack>
-    ensures { IfOk result (λ json. view json ≡ reply.own_json sight.now (own_view own) link object) }
+    requires { IsKnownOf sight.now ids.now }
+    ensures printed { IfOk result (λ json. view json ≡ reply.own_json sight.now (own_view own) link object) }
+    ensures lacks { IfErr result (λ lack. Lacks ids.now lack) }
 {
     match own {
-        Own::Id => id_json(sight, next, object),
-        Own::Guid => guid_json(alloc, object),
-        Own::Timestamp => timestamp_json(alloc, sight, object),
-        Own::Link => guid_json(alloc, link),
-        Own::Value => value_at(alloc, sight, link),
+        Own::Id => id_json(sight, ids, object),
+        Own::Guid => Ok(guid_json(alloc, object)?),
+        Own::Timestamp => Ok(timestamp_json(alloc, sight, object)?),
+        Own::Link => Ok(guid_json(alloc, link)?),
+        Own::Value => Ok(value_at(alloc, sight, link)?),
         Own::Namespace => {
-            let namespace = right_of(sight, link)?;
-            some_id_json(sight, next, namespace)
+            let namespace = right_of(sight, link);
+            some_id_json(sight, ids, namespace)
         }
     }
 }
@@ -158,13 +168,13 @@ pub(crate) fn answer_value(
     sight: &Sight<'_>,
     property: &Property,
     link: Id,
-) -> Result<Json, Lack>
+) -> Result<Json, Memory>
     ensures { IfOk result (λ json. view json ≡ datum_json (props.answer_datum sight.now property.now link)) }
 {
     if holds_values(answers_of(property)) {
         return value_at(alloc, sight, link);
     }
-    let end = far_end(sight, property, link)?;
+    let end = far_end(sight, property, link);
     some_guid_json(alloc, end)
 }
 
@@ -173,25 +183,27 @@ pub(crate) fn answer_value(
 pub(crate) fn answer_id(
     alloc: Global,
     sight: &Sight<'_>,
-    next: &mut usize,
+    ids: &Known,
     property: &Property,
     link: Id,
 ) -> Result<Json, Lack>
-    ensures { IfOk result (λ json. view json ≡ reply.id_json sight.now (props.answer_datum sight.now property.now link)) }
+    requires { IsKnownOf sight.now ids.now }
+    ensures printed { IfOk result (λ json. view json ≡ reply.id_json sight.now (props.answer_datum sight.now property.now link)) }
+    ensures lacks { IfErr result (λ lack. Lacks ids.now lack) }
 {
     if holds_values(answers_of(property)) {
-        return value_id(alloc, sight, link);
+        return Ok(value_id(alloc, sight, link)?);
     }
-    let end = far_end(sight, property, link)?;
-    some_id_json(sight, next, end)
+    let end = far_end(sight, property, link);
+    some_id_json(sight, ids, end)
 }
 
 /// The value at a place, which is no object, as its id.
 #[tactic(auto, using(crate::proofs::Data::no_id))]
-fn value_id(alloc: Global, sight: &Sight<'_>, place: Id) -> Result<Json, Lack>
+fn value_id(alloc: Global, sight: &Sight<'_>, place: Id) -> Result<Json, Memory>
     ensures { IfOk result (λ json. view json ≡ reply.id_json sight.now (value_at sight.now place)) }
 {
-    match sight.prim(place)? {
+    match sight.prim(place) {
         Some(prim) => value_json(alloc, &prim.value),
         None => Ok(Json::Null),
     }

@@ -1,10 +1,10 @@
-//! What a page needs to know, before it is printed: the places in the trees of its rows, and the objects whose ids it prints. No
-//! clause says that these are all: what is missing is found when it is wanted.
+//! The objects whose ids a page prints, before it is printed. No clause says that these are all: where one is missing, printing
+//! says whose.
 use crate::answer::{Answer, behind_member};
 use crate::cut::cut;
 use crate::lists::first_trees;
 use crate::ranked::Ranked;
-use crate::sight::{Lack, Sight};
+use crate::sight::Sight;
 use gd_base::id::Id;
 use gd_base::memory::Memory;
 use gd_plan::asked::{Asked, Asking, Member, Own, Style};
@@ -12,25 +12,6 @@ use gd_plan::constraint::answers_of;
 use gd_plan::expects::holds_values;
 use gd_trees::tree::{Tree, Trees};
 use std::alloc::Global;
-
-/// Puts the places of trees, and of those within them, behind others.
-#[cycle(places)]
-pub(crate) fn push_places(places: &mut Vec<Id>, trees: &[Tree]) -> Result<(), Memory> {
-    for tree in trees {
-        places.push(tree.place)?;
-        push_lists(places, tree.lists.as_slice())?;
-    }
-    Ok(())
-}
-
-/// The same for lists of trees.
-#[cycle(places)]
-fn push_lists(places: &mut Vec<Id>, lists: &[Trees]) -> Result<(), Memory> {
-    for trees in lists {
-        push_places(places, trees.items.as_slice())?;
-    }
-    Ok(())
-}
 
 /// Puts the object behind others, if there is one.
 fn push_some(objects: &mut Vec<Id>, object: Option<Id>) -> Result<(), Memory> {
@@ -46,11 +27,11 @@ fn push_own(
     objects: &mut Vec<Id>,
     own: Own,
     at: &Answer<'_>,
-) -> Result<(), Lack> {
+) -> Result<(), Memory> {
     match own {
         Own::Id => objects.push(at.object)?,
         Own::Namespace => {
-            if let Some(prim) = sight.prim(at.link)? {
+            if let Some(prim) = sight.prim(at.link) {
                 push_some(objects, prim.right)?;
             }
         }
@@ -65,11 +46,11 @@ fn push_answer(
     objects: &mut Vec<Id>,
     asking: &Asking,
     link: Id,
-) -> Result<(), Lack> {
+) -> Result<(), Memory> {
     if !matches!(asking.style, Style::Id) || holds_values(answers_of(&asking.property)) {
         return Ok(());
     }
-    if let Some(prim) = sight.prim(link)? {
+    if let Some(prim) = sight.prim(link) {
         let end = if asking.property.reversed {
             prim.left
         } else {
@@ -88,7 +69,7 @@ fn push_members(
     objects: &mut Vec<Id>,
     members: &[Member],
     at: &Answer<'_>,
-) -> Result<(), Lack> {
+) -> Result<(), Memory> {
     let mut lists = at.lists;
     for member in members {
         push_member(alloc, sight, objects, member, at, lists)?;
@@ -106,7 +87,7 @@ fn push_member(
     member: &Member,
     at: &Answer<'_>,
     lists: &[Trees],
-) -> Result<(), Lack> {
+) -> Result<(), Memory> {
     match member {
         Member::Own { own, operand, .. } => {
             if operand.is_none() {
@@ -129,7 +110,7 @@ fn push_asks(
     clause: &[Member],
     asking: &Asking,
     trees: &[Tree],
-) -> Result<(), Lack> {
+) -> Result<(), Memory> {
     if matches!(asking.style, Style::Operand(_)) {
         return Ok(());
     }
@@ -149,7 +130,7 @@ fn push_row(
     clause: &[Member],
     asking: &Asking,
     row: &Ranked<'_>,
-) -> Result<(), Lack> {
+) -> Result<(), Memory> {
     if !matches!(asking.style, Style::Clause) {
         return push_answer(sight, objects, asking, row.link);
     }
@@ -167,7 +148,7 @@ pub(crate) fn objects_printed(
     sight: &Sight<'_>,
     asked: &Asked,
     trees: &[Tree],
-) -> Result<Vec<Id>, Lack> {
+) -> Result<Vec<Id>, Memory> {
     let mut objects = Vec::new(alloc);
     for tree in trees {
         let at = Answer {

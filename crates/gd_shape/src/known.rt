@@ -1,29 +1,29 @@
-//! Primitives that were looked at.
-ghost use Rattle.std.specs.Prelude.{◌≡◌, ◌≢◌, ℕ, Some, None, OnOk, OnErr, slice_get, List};
+//! Ids that were found.
+ghost use Rattle.std.specs.Prelude.{◌≡◌, ◌+◌, ◌<◌, ◌≤◌, ℕ, IsNone, List, OnOk};
 ghost use Rattle.std.specs.Option.{option_copied};
 ghost use Rattle.gd_prim.specs.declared.Primitive.{Primitive};
-ghost use Rattle.gd_shape.specs.Knowing.{known_at, IsKnownOf};
+ghost use Rattle.gd_defs.specs.Ids.{id_text};
+ghost use Rattle.gd_shape.specs.Knowing.{known_at, missing, IsKnownOf};
 
 use gd_base::id::Id;
 use gd_base::memory::Memory;
-use gd_prim::Primitive;
+use gd_json::value::JsonText;
 use std::alloc::Global;
 use std::collections::BTreeMap;
 use std::marker::Model;
 
-/// What is known of places: the primitive there, or that there is none. Contracts see the places with what is known.
+/// What is known of objects: their ids. Contracts see the objects with the texts of their ids.
 #[derive(Drop)]
 pub struct Known {
-    prims: BTreeMap<Id, Option<Primitive>>,
+    ids: BTreeMap<Id, JsonText>,
 }
 
 impl Model for Known {
-    ghost use Rattle.std.specs.Prelude.{ℕ, List, Option};
-    ghost use Rattle.gd_prim.specs.declared.Primitive.{Primitive};
+    ghost use Rattle.std.specs.Prelude.{ℕ, List};
 
-    ghost Value = { List (ℕ × Option Primitive) };
+    ghost Value = { List (ℕ × List ℕ) };
 
-    ghost view = { λ known. known.prims.entries };
+    ghost view = { λ known. known.ids.entries };
 }
 
 impl Known {
@@ -32,23 +32,25 @@ impl Known {
         ensures { (prims : List Primitive) → IsKnownOf prims result }
     {
         Known {
-            prims: BTreeMap::new(alloc),
+            ids: BTreeMap::new(alloc),
         }
     }
 
-    /// What is known of a place. It takes no memory.
-    pub fn at(&self, place: Id) -> Option<&Option<Primitive>>
-        ensures { option_copied result ≡ known_at self.now place }
+    /// The id of an object, if it is known. It takes no memory.
+    pub fn at(&self, object: Id) -> Option<&JsonText>
+        ensures { option_copied result ≡ known_at self.now object }
     {
-        self.prims.get(&place)
+        self.ids.get(&object)
     }
 
-    /// Keeps what is known of a place. `Memory`: what is known stays.
-    #[tactic(auto, using(crate::proofs::Knowing::learned, crate::proofs::Knowing::kept))]
-    pub fn learn(&mut self, place: Id, prim: Option<Primitive>) -> Result<(), Memory>
-        ensures { (prims : List Primitive) → IsKnownOf prims self.old → prim ≡ slice_get prims place → IsKnownOf prims self.new }
+    /// Keeps the id of an object. `Memory`: what is known stays.
+    #[tactic(auto, using(crate::proofs::Knowing::as_many_missing))]
+    pub fn learn(&mut self, object: Id, text: JsonText) -> Result<(), Memory>
+        ensures known { (prims : List Primitive) → IsKnownOf prims self.old → text ≡ id_text prims object → IsKnownOf prims self.new }
+        ensures fewer { (n : ℕ) → missing n self.new ≤ missing n self.old }
+        ensures one { OnOk result ((n : ℕ) → object < n → IsNone (known_at self.old object) → missing n self.new + 1 ≡ missing n self.old) }
     {
-        match self.prims.insert(place, prim) {
+        match self.ids.insert(object, text) {
             Ok(_) => Ok(()),
             Err(_) => Err(Memory),
         }

@@ -1,5 +1,5 @@
 //! What a clause prints of an object.
-ghost use Rattle.std.specs.Prelude.{◌≡◌, ◌++◌, [], ◌∷◌, Ok, IfOk, OnOk, map, option_map, unwrap_or};
+ghost use Rattle.std.specs.Prelude.{◌≡◌, ◌++◌, [], ◌∷◌, Ok, IfErr, IfOk, OnOk, map, option_map, unwrap_or};
 ghost use Rattle.gd_defs.specs.Asked as defs;
 ghost use Rattle.gd_defs.specs.Reply as reply;
 ghost use Rattle.gd_json.specs.View.{view, items_view, members_view as printed_view, member_view};
@@ -8,13 +8,15 @@ ghost use Rattle.gd_plan.specs.Seen.{own_view};
 ghost use Rattle.gd_runs.specs.Shape.{name_shape};
 ghost use Rattle.gd_trees.specs.View.{view as tree_view};
 ghost use Rattle.gd_shape.specs.InTrees.{lists_view};
-ghost use Rattle.gd_shape.specs.Outcome.{seen};
+ghost use Rattle.gd_shape.specs.Knowing.{IsKnownOf};
+ghost use Rattle.gd_shape.specs.Outcome.{seen, Lacks};
 ghost use Rattle.gd_shape.specs.Printed as print;
 ghost use Rattle.gd_shape.specs.Ranking.{ranked_view};
 
 use crate::answer::{Answer, behind_member, first_place};
 use crate::cut::cut;
 use crate::datum::{answer_id, answer_value, own_json, value_at};
+use crate::known::Known;
 use crate::lists::first_trees;
 use crate::ranked::Ranked;
 use crate::sight::{Lack, Sight};
@@ -34,7 +36,7 @@ pub(crate) type Members = Vec<(JsonText, Json)>;
 
 /// The first name that the lists of an object have, or null.
 #[tactic(auto, using(crate::proofs::Prints::named, crate::proofs::Prints::unnamed))]
-fn name_json(alloc: Global, sight: &Sight<'_>, lists: &[Trees]) -> Result<Json, Lack>
+fn name_json(alloc: Global, sight: &Sight<'_>, lists: &[Trees]) -> Result<Json, Memory>
     ensures { IfOk result (λ json. view json ≡ name_shape sight.now (lists_view lists.now)) }
 {
     match first_place(first_trees(lists)) {
@@ -47,18 +49,20 @@ fn name_json(alloc: Global, sight: &Sight<'_>, lists: &[Trees]) -> Result<Json, 
 fn style_json(
     alloc: Global,
     sight: &Sight<'_>,
-    next: &mut usize,
+    ids: &Known,
     property: &Property,
     style: &Style,
     row: &Ranked<'_>,
 ) -> Result<Json, Lack>
-    ensures { IfOk result (λ json. view json ≡ print.style_print sight.now property.now row.now.link (lists_view row.now.lists.now) (style_view style.now)) }
+    requires { IsKnownOf sight.now ids.now }
+    ensures printed { IfOk result (λ json. view json ≡ print.style_print sight.now property.now row.now.link (lists_view row.now.lists.now) (style_view style.now)) }
+    ensures lacks { IfErr result (λ lack. Lacks ids.now lack) }
 {
     match style {
         Style::Operand(json) => Ok(json.copy()?),
-        Style::Value => answer_value(alloc, sight, property, row.link),
-        Style::Id => answer_id(alloc, sight, next, property, row.link),
-        Style::Name | Style::Clause => name_json(alloc, sight, row.lists),
+        Style::Value => Ok(answer_value(alloc, sight, property, row.link)?),
+        Style::Id => answer_id(alloc, sight, ids, property, row.link),
+        Style::Name | Style::Clause => Ok(name_json(alloc, sight, row.lists)?),
     }
 }
 
@@ -143,16 +147,18 @@ fn under(name: &JsonText, printed: Result<Json, Names>) -> Result<Result<Json, N
 fn own_or(
     alloc: Global,
     sight: &Sight<'_>,
-    next: &mut usize,
+    ids: &Known,
     own: Own,
     operand: &Option<Json>,
     at: &Answer<'_>,
 ) -> Result<Json, Lack>
-    ensures { IfOk result (λ json. view json ≡ unwrap_or (option_map view operand.now) (reply.own_json sight.now (own_view own) at.now.link at.now.object)) }
+    requires { IsKnownOf sight.now ids.now }
+    ensures printed { IfOk result (λ json. view json ≡ unwrap_or (option_map view operand.now) (reply.own_json sight.now (own_view own) at.now.link at.now.object)) }
+    ensures lacks { IfErr result (λ lack. Lacks ids.now lack) }
 {
     match operand {
         Some(json) => Ok(json.copy()?),
-        None => own_json(alloc, sight, next, own, at.link, at.object),
+        None => own_json(alloc, sight, ids, own, at.link, at.object),
     }
 }
 
@@ -180,16 +186,18 @@ fn push_member(printed: &mut Members, member: &Member, json: Json) -> Result<(),
 pub(crate) fn members_json(
     alloc: Global,
     sight: &Sight<'_>,
-    next: &mut usize,
+    ids: &Known,
     members: &[Member],
     at: &Answer<'_>,
 ) -> Result<Result<Members, Names>, Lack>
-    ensures { IfOk result (λ outcome. seen (λ ms. printed_view ms.items) outcome ≡ print.object_print sight.now (members_view members.now) at.now.link at.now.object (lists_view at.now.lists.now)) }
+    requires { IsKnownOf sight.now ids.now }
+    ensures printed { IfOk result (λ outcome. seen (λ ms. printed_view ms.items) outcome ≡ print.object_print sight.now (members_view members.now) at.now.link at.now.object (lists_view at.now.lists.now)) }
+    ensures lacks { IfErr result (λ lack. Lacks ids.now lack) }
 {
     let mut printed = Vec::with_capacity(alloc, members.len())?;
     let mut lists = at.lists;
     for member in members {
-        match member_json(alloc, sight, next, member, at, lists)? {
+        match member_json(alloc, sight, ids, member, at, lists)? {
             Ok(json) => push_member(&mut printed, member, json)?,
             Err(names) => return Ok(Err(names)),
         }
@@ -203,21 +211,23 @@ pub(crate) fn members_json(
 fn member_json(
     alloc: Global,
     sight: &Sight<'_>,
-    next: &mut usize,
+    ids: &Known,
     member: &Member,
     at: &Answer<'_>,
     lists: &[Trees],
 ) -> Result<Result<Json, Names>, Lack>
-    ensures { IfOk result (λ outcome. seen view outcome ≡ print.first_print sight.now (put member.now defs.no_members) at.now.link at.now.object (lists_view lists.now)) }
+    requires { IsKnownOf sight.now ids.now }
+    ensures printed { IfOk result (λ outcome. seen view outcome ≡ print.first_print sight.now (put member.now defs.no_members) at.now.link at.now.object (lists_view lists.now)) }
+    ensures lacks { IfErr result (λ lack. Lacks ids.now lack) }
 {
     match member {
-        Member::Own { own, operand, .. } => Ok(Ok(own_or(alloc, sight, next, *own, operand, at)?)),
+        Member::Own { own, operand, .. } => Ok(Ok(own_or(alloc, sight, ids, *own, operand, at)?)),
         Member::Asks {
             name,
             asking,
             clause,
         } => {
-            let outcome = asks_json(alloc, sight, next, clause, asking, first_trees(lists))?;
+            let outcome = asks_json(alloc, sight, ids, clause, asking, first_trees(lists))?;
             Ok(under(name, outcome)?)
         }
     }
@@ -229,12 +239,14 @@ fn member_json(
 fn asks_json(
     alloc: Global,
     sight: &Sight<'_>,
-    next: &mut usize,
+    ids: &Known,
     clause: &[Member],
     asking: &Asking,
     trees: &[Tree],
 ) -> Result<Result<Json, Names>, Lack>
-    ensures { IfOk result (λ outcome. seen view outcome ≡ print.asks_print sight.now (asking_view asking.now) (members_view clause.now) (map tree_view trees.now)) }
+    requires { IsKnownOf sight.now ids.now }
+    ensures printed { IfOk result (λ outcome. seen view outcome ≡ print.asks_print sight.now (asking_view asking.now) (members_view clause.now) (map tree_view trees.now)) }
+    ensures lacks { IfErr result (λ lack. Lacks ids.now lack) }
 {
     if let Some(json) = operand(&asking.style) {
         return Ok(Ok(json.copy()?));
@@ -243,7 +255,7 @@ fn asks_json(
         return Ok(Err(Vec::new(alloc)));
     }
     let rows = cut(alloc, sight, asking, clause, trees)?;
-    match each_json(alloc, sight, next, clause, asking, rows.as_slice())? {
+    match each_json(alloc, sight, ids, clause, asking, rows.as_slice())? {
         Ok(items) => Ok(Ok(as_list(asking.listed, items))),
         Err(names) => Ok(Err(names)),
     }
@@ -255,16 +267,18 @@ fn asks_json(
 fn each_json(
     alloc: Global,
     sight: &Sight<'_>,
-    next: &mut usize,
+    ids: &Known,
     clause: &[Member],
     asking: &Asking,
     rows: &[Ranked<'_>],
 ) -> Result<Result<Vec<Json>, Names>, Lack>
-    ensures { IfOk result (λ outcome. seen (λ js. items_view js.items) outcome ≡ print.each_print (print.answer_print sight.now (asking_view asking.now) (members_view clause.now)) (map ranked_view rows.now)) }
+    requires { IsKnownOf sight.now ids.now }
+    ensures printed { IfOk result (λ outcome. seen (λ js. items_view js.items) outcome ≡ print.each_print (print.answer_print sight.now (asking_view asking.now) (members_view clause.now)) (map ranked_view rows.now)) }
+    ensures lacks { IfErr result (λ lack. Lacks ids.now lack) }
 {
     let mut items = Vec::with_capacity(alloc, rows.len())?;
     for row in rows {
-        match answer_json(alloc, sight, next, clause, asking, row)? {
+        match answer_json(alloc, sight, ids, clause, asking, row)? {
             Ok(json) => items.push(json)?,
             Err(names) => return Ok(Err(names)),
         }
@@ -277,21 +291,23 @@ fn each_json(
 fn answer_json(
     alloc: Global,
     sight: &Sight<'_>,
-    next: &mut usize,
+    ids: &Known,
     clause: &[Member],
     asking: &Asking,
     row: &Ranked<'_>,
 ) -> Result<Result<Json, Names>, Lack>
-    ensures { IfOk result (λ outcome. seen view outcome ≡ print.answer_print sight.now (asking_view asking.now) (members_view clause.now) (ranked_view row.now)) }
+    requires { IsKnownOf sight.now ids.now }
+    ensures printed { IfOk result (λ outcome. seen view outcome ≡ print.answer_print sight.now (asking_view asking.now) (members_view clause.now) (ranked_view row.now)) }
+    ensures lacks { IfErr result (λ lack. Lacks ids.now lack) }
 {
     if !is_clause(&asking.style) {
-        return Ok(Ok(style_json(alloc, sight, next, &asking.property, &asking.style, row)?));
+        return Ok(Ok(style_json(alloc, sight, ids, &asking.property, &asking.style, row)?));
     }
     let at = Answer {
         link: row.link,
         object: row.object,
         lists: row.lists,
     };
-    let printed = members_json(alloc, sight, next, clause, &at)?;
+    let printed = members_json(alloc, sight, ids, clause, &at)?;
     Ok(as_object(printed))
 }

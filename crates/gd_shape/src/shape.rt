@@ -1,18 +1,21 @@
 //! A page that is printed in slices.
-ghost use Rattle.std.specs.Prelude.{◌≡◌, ◌+◌, ◌-◌, ◌^◌, ◌<◌, ◌≤◌, [], List, Ok, min, map, false, IfOk, IfErr, IfSome, IsNone, IsTrue, OnOk, slice_get};
+ghost use Rattle.std.specs.Prelude.{◌≡◌, ◌+◌, ◌-◌, ◌^◌, ◌<◌, ◌≤◌, ℕ, [], List, Ok, Result, min, map, false, IfOk, IfErr, IfSome, IsNone, IsOk, IsTrue, OnOk};
 ghost use Rattle.gd_base.specs.Counts.{Rose};
 ghost use Rattle.gd_prim.specs.History.{prims_of};
 ghost use Rattle.gd_prim.specs.declared.Primitive.{Primitive};
+ghost use Rattle.gd_tree.specs.Json as tree;
+ghost use Rattle.gd_defs.specs.Reply.{Path};
 ghost use Rattle.gd_json.specs.View.{view as json_view};
 ghost use Rattle.gd_plan.specs.Asked.{asked_view};
 ghost use Rattle.gd_runs.specs.Shape.{page_shape};
 ghost use Rattle.gd_trees.specs.View.{view as tree_view};
-ghost use Rattle.gd_shape.specs.Knowing.{IsKnownOf, AreIdsOf};
-ghost use Rattle.gd_shape.specs.Outcome.{seen};
+ghost use Rattle.gd_shape.specs.Knowing.{known_at, missing, IsKnownOf};
+ghost use Rattle.gd_shape.specs.Outcome.{seen, Lacks};
+ghost use Rattle.gd_shape.specs.declared.shape.Shape.{Shape};
 ghost use Rattle.gd_shape.specs.declared.shape.ShapeFault.TheVariants.{Memory as no_memory};
-ghost use Rattle.gd_shape.specs.Shaping.{asked_of, trees_in, page_of, body_print, is_behind, IsOf, IsSamePage, Tells, Refuses, is_unfinished};
+ghost use Rattle.gd_shape.specs.Shaping.{asked_of, trees_in, page_of, body_print, steps_left, shape_left, shape_most, IsOf, IsSamePage, IsWanted, IsNext, Tells, Refuses, is_unfinished};
 
-use crate::gather::{objects_printed, push_places};
+use crate::gather::objects_printed;
 use crate::known::Known;
 use crate::page::page_json;
 use crate::sight::{Lack, Sight};
@@ -21,12 +24,14 @@ use gd_base::memory::Memory;
 use gd_base::steps::Steps;
 use gd_json::value::{Json, JsonText};
 use gd_plan::asked::Asked;
-use gd_prim::Primitive;
 use gd_resolve::up::id_of;
 use gd_store::view::View;
 use gd_trees::tree::{Tree, Trees};
 use std::alloc::Global;
 use thiserror::Error;
+
+/// The greatest number of places of a page.
+const PAGE_PLACES: u64 = 262_144;
 
 /// What a page prints from.
 #[derive(Drop)]
@@ -65,77 +70,82 @@ impl From<Memory> for ShapeFault {
     }
 }
 
-/// A page that is being printed: what is asked, the trees of its rows, what is known of their places, and the ids that were
-/// found so far in the order in which they are printed.
+/// A page that is being printed: what is asked, the trees of its rows, and the ids that were found so far.
 #[derive(Drop)]
 pub struct Shape {
     asked: Asked,
     trees: Vec<Tree>,
     /// A count is printed, and no trees.
     count: Option<u32>,
-    known: Known,
-    ids: Vec<(Id, JsonText)>,
-    /// Places that are to be looked at.
-    places: Vec<Id>,
+    ids: Known,
+    /// Places of the trees for which no step was counted yet.
+    places: u64,
     /// Objects whose ids are to be found, the next one last.
     objects: Vec<Id>,
     /// The objects were gathered.
     gathered: bool,
+    /// A fault was told: nothing is printed any more.
+    stopped: bool,
 }
 
-/// The primitive at a place of a view, if there is one: one step.
-fn primitive_at<L>(
-    view: &View<'_>,
-    place: Id,
-    steps: &mut Steps<L>,
-) -> Result<Option<Primitive>, Memory>
-    ensures primitive { IfOk result (λ p. p ≡ slice_get (prims_of view.now) place) }
-    ensures work { steps.new ≤ steps.old + 1 }
-    ensures later { steps.old ≤ steps.new }
-    ensures counted { Rose steps.old steps.new }
+/// What a page lacks before it is printed.
+enum Wanted {
+    /// A step for a place of the trees.
+    Place,
+    /// The id of an object.
+    IdOf(Id),
+}
+
+/// What is next while a page is printed.
+enum Next {
+    /// Something is to be looked at first.
+    Look(Wanted),
+    /// What the root prints, or the names that lead to two answers where one is asked.
+    Printed(Result<Json, Vec<JsonText>>),
+}
+
+/// What is next where something is lacking.
+fn lacking(lack: Lack) -> Result<Next, Memory>
+    ensures { (expected : Result tree.Json Path) (s : Shape) → Lacks s.ids lack → IfOk result (λ next. IsNext expected s next) }
 {
-    if place.place() < view.end().place() {
-        Ok(Some(view.primitive(place, steps).copy()?))
-    } else {
-        steps.tick();
-        Ok(None)
+    match lack {
+        Lack::IdOf(object) => Ok(Next::Look(Wanted::IdOf(object))),
+        Lack::Memory => Err(Memory),
     }
 }
 
-/// Looks at a place: one step.
-fn look_at<L>(
-    known: &mut Known,
-    view: &View<'_>,
-    place: Id,
-    steps: &mut Steps<L>,
-) -> Result<(), Memory>
-    ensures known { IsKnownOf (prims_of view.now) known.old → IsKnownOf (prims_of view.now) known.new }
-    ensures work { steps.new ≤ steps.old + 1 }
-    ensures later { steps.old ≤ steps.new }
-    ensures counted { Rose steps.old steps.new }
+/// The next of these objects, from the last one, whose id is not known; those behind it are passed over.
+fn unknown(objects: &mut Vec<Id>, ids: &Known) -> Option<Id>
+    ensures { IfSome result (λ object. IsNone (known_at ids.now object)) }
 {
-    let prim = primitive_at(view, place, steps)?;
-    known.learn(place, prim)
+    while let Some(object) = objects.pop() {
+        if ids.at(object).is_none() {
+            return Some(object);
+        }
+    }
+    None
 }
 
-/// Puts the id of an object behind those that were found: at most 1,025 steps.
-#[tactic(auto, using(crate::proofs::Knowing::one_id_more))]
+/// Finds the id of an object that is not known: at most 1,025 steps.
+#[tactic(auto, using(crate::proofs::Knowing::some_missing))]
 fn find_id<L>(
     alloc: Global,
-    ids: &mut Vec<(Id, JsonText)>,
+    ids: &mut Known,
     view: &View<'_>,
     object: Id,
     steps: &mut Steps<L>,
 ) -> Result<(), Memory>
-    ensures ids { AreIdsOf (prims_of view.now) ids.old.items → AreIdsOf (prims_of view.now) ids.new.items }
+    requires { IsNone (known_at ids.old object) }
+    ensures known { IsKnownOf (prims_of view.now) ids.old → IsKnownOf (prims_of view.now) ids.new }
+    ensures one { OnOk result ((n : ℕ) → 2 ^ 32 ≤ n → missing n ids.new + 1 ≡ missing n ids.old) }
+    ensures some { (n : ℕ) → 2 ^ 32 ≤ n → 1 ≤ missing n ids.old }
     ensures work { steps.new ≤ steps.old + 1025 }
     ensures later { steps.old ≤ steps.new }
     ensures counted { Rose steps.old steps.new }
 {
     steps.tick();
     let text = id_of(alloc, view, object, steps)?;
-    ids.push((object, text))?;
-    Ok(())
+    ids.learn(object, text)
 }
 
 /// What is left of a budget after so many steps, of which one at least counts.
@@ -150,29 +160,27 @@ fn left_of(budget: u64, before: u64, after: u64) -> u64
     budget.saturating_sub(spent)
 }
 
-/// A shape of trees or of a count, of which nothing is looked at yet.
-fn begun(alloc: Global, asked: Asked, trees: Vec<Tree>, count: Option<u32>) -> Result<Shape, Memory>
-    ensures asked { IfOk result (λ shape. asked_of shape ≡ asked_view asked) }
-    ensures trees { IfOk result (λ shape. trees_in shape ≡ map tree_view trees.items) }
-    ensures count { IfOk result (λ shape. shape.count ≡ count) }
-    ensures of { IfOk result (λ shape. (prims : List Primitive) → IsOf prims shape) }
+/// A shape of trees or of a count, of which nothing is looked at yet, with so many places for which a step is to be counted.
+#[tactic(auto, using(crate::proofs::Knowing::most_left))]
+fn begun(alloc: Global, asked: Asked, trees: Vec<Tree>, count: Option<u32>, places: u64) -> Shape
+    requires { places ≤ 262_144 }
+    ensures asked { asked_of result ≡ asked_view asked }
+    ensures trees { trees_in result ≡ map tree_view trees.items }
+    ensures count { result.count ≡ count }
+    ensures of { (prims : List Primitive) → IsOf prims result }
+    ensures left { (n : ℕ) → shape_left n result ≤ shape_most n }
 {
-    let known = Known::new(alloc);
-    let ids = Vec::new(alloc);
-    let mut places = Vec::new(alloc);
-    push_places(&mut places, trees.as_slice())?;
-    places.sort()?;
-    places.dedup();
-    Ok(Shape {
+    let ids = Known::new(alloc);
+    Shape {
         asked,
         trees,
         count,
-        known,
         ids,
         places,
         objects: Vec::new(alloc),
         gathered: false,
-    })
+        stopped: false,
+    }
 }
 
 impl Shape {
@@ -181,131 +189,88 @@ impl Shape {
     pub fn start(alloc: Global, asked: Asked, body: PageBody) -> Result<Shape, Memory>
         ensures page { IfOk result (λ shape. (prims : List Primitive) → page_of prims shape ≡ body_print prims (asked_view asked) body) }
         ensures of { IfOk result (λ shape. (prims : List Primitive) → IsOf prims shape) }
+        ensures left { IfOk result (λ shape. (n : ℕ) → shape_left n shape ≤ shape_most n) }
     {
         match body {
-            PageBody::Trees(trees) => Ok(begun(alloc, asked, trees.items, None)?),
-            PageBody::Count(count) => Ok(begun(alloc, asked, Vec::new(alloc), Some(count))?),
+            PageBody::Trees(trees) => {
+                // A page of more places is refused before it is printed.
+                let places = trees.count().min(PAGE_PLACES);
+                Ok(begun(alloc, asked, trees.items, None, places))
+            }
+            PageBody::Count(count) => Ok(begun(alloc, asked, Vec::new(alloc), Some(count), 0)),
         }
     }
 
-    /// Whether something is still to be looked at.
-    fn is_behind(&self) -> bool
-        ensures { result ≡ is_behind self.now }
+    /// The objects whose ids are printed are gathered, if that was not done yet.
+    fn gather(&mut self, alloc: Global, view: &View<'_>) -> Result<(), Memory>
+        requires { IsOf (prims_of view.now) self.old }
+        ensures page { IsSamePage self.old self.new }
+        ensures still { IsOf (prims_of view.now) self.new }
+        ensures left { (n : ℕ) → steps_left n self.new ≡ steps_left n self.old }
     {
-        !self.places.is_empty() || !self.objects.is_empty()
+        if !self.gathered {
+            let sight = Sight::new(view);
+            let trees = self.trees.as_slice();
+            self.objects = objects_printed(alloc, &sight, &self.asked, trees)?;
+            self.gathered = true;
+        }
+        Ok(())
     }
 
-    /// Looks at what is next.
+    /// What the page prints, or the object whose id is not known.
+    fn attempt(&self, alloc: Global, view: &View<'_>) -> Result<Next, Memory>
+        requires { IsOf (prims_of view.now) self.now }
+        ensures { IfOk result (λ next. IsNext (page_shape (prims_of view.now) (asked_of self.now) (trees_in self.now) []) self.now next) }
+    {
+        let sight = Sight::new(view);
+        match page_json(alloc, &sight, &self.ids, &self.asked, self.trees.as_slice()) {
+            Ok(outcome) => Ok(Next::Printed(outcome)),
+            Err(lack) => lacking(lack),
+        }
+    }
+
+    /// What is next: a place, an id that is not known, or the page, which is printed.
+    fn next(&mut self, alloc: Global, view: &View<'_>) -> Result<Next, Memory>
+        requires { IsOf (prims_of view.now) self.old }
+        ensures next { IfOk result (λ next. IsNext (page_shape (prims_of view.now) (asked_of self.old) (trees_in self.old) []) self.new next) }
+        ensures page { IsSamePage self.old self.new }
+        ensures still { IsOf (prims_of view.now) self.new }
+        ensures left { (n : ℕ) → steps_left n self.new ≡ steps_left n self.old }
+    {
+        if self.places > 0 {
+            return Ok(Next::Look(Wanted::Place));
+        }
+        self.gather(alloc, view)?;
+        match unknown(&mut self.objects, &self.ids) {
+            Some(object) => Ok(Next::Look(Wanted::IdOf(object))),
+            None => self.attempt(alloc, view),
+        }
+    }
+
+    /// Counts a place, or finds an id: at most 1,025 steps.
     fn look<L>(
         &mut self,
         alloc: Global,
         view: &View<'_>,
+        wanted: Wanted,
         steps: &mut Steps<L>,
     ) -> Result<(), Memory>
-        requires { IsTrue (is_behind self.old) }
+        requires { IsWanted self.old wanted }
         ensures page { IsSamePage self.old self.new }
         ensures still { IsOf (prims_of view.now) self.old → IsOf (prims_of view.now) self.new }
+        ensures within { (n : ℕ) → 2 ^ 32 ≤ n → steps.new ≤ steps.old + steps_left n self.old }
+        ensures less { OnOk result ((n : ℕ) → 2 ^ 32 ≤ n → steps.new + steps_left n self.new ≤ steps.old + steps_left n self.old) }
         ensures work { steps.new ≤ steps.old + 1025 }
         ensures later { steps.old ≤ steps.new }
         ensures counted { Rose steps.old steps.new }
     {
-        if let Some(place) = self.places.pop() {
-            return look_at(&mut self.known, view, place, steps);
-        }
-        match self.objects.pop() {
-            Some(object) => find_id(alloc, &mut self.ids, view, object, steps),
-            None => unreachable!(),
-        }
-    }
-
-    /// The objects whose ids are printed are to be looked at, in their order.
-    fn gather(&mut self, alloc: Global, view: &View<'_>) -> Result<(), Lack>
-        requires { IsOf (prims_of view.now) self.old }
-        ensures page { IsSamePage self.old self.new }
-        ensures still { IsOf (prims_of view.now) self.new }
-    {
-        let sight = Sight::new(view, &self.known, self.ids.as_slice());
-        let mut objects = objects_printed(alloc, &sight, &self.asked, self.trees.as_slice())?;
-        objects.reverse();
-        self.objects = objects;
-        self.gathered = true;
-        Ok(())
-    }
-
-    /// What the page prints, if all is known; `next` counts the ids that were printed.
-    fn attempt(
-        &self,
-        alloc: Global,
-        view: &View<'_>,
-        next: &mut usize,
-    ) -> Result<Result<Json, Vec<JsonText>>, Lack>
-        requires { IsOf (prims_of view.now) self.now }
-        ensures { IfOk result (λ outcome. seen json_view outcome ≡ page_shape (prims_of view.now) (asked_of self.now) (trees_in self.now) []) }
-    {
-        let sight = Sight::new(view, &self.known, self.ids.as_slice());
-        page_json(alloc, &sight, &self.asked, self.trees.as_slice(), next)
-    }
-
-    /// What was missing is to be looked at; of the ids that were found, only so many are kept.
-    #[tactic(auto, using(crate::proofs::Knowing::fewer_ids))]
-    fn want(&mut self, lack: Lack, next: usize) -> Result<(), Memory>
-        ensures page { IsSamePage self.old self.new }
-        ensures still { (prims : List Primitive) → IsOf prims self.old → IsOf prims self.new }
-        ensures behind { OnOk result (IsTrue (is_behind self.new)) }
-    {
-        match lack {
-            Lack::Place(place) => self.places.push(place)?,
-            Lack::IdOf(object) => {
-                self.ids.truncate(next);
-                self.objects.push(object)?;
+        match wanted {
+            Wanted::Place => {
+                self.places -= 1;
+                steps.tick();
+                Ok(())
             }
-            Lack::Memory => return Err(Memory),
-        }
-        Ok(())
-    }
-
-    /// Gathers what is to be looked at, if that was not done yet, and says whether the page may be printed: nothing is to be
-    /// looked at first.
-    fn ready(&mut self, alloc: Global, view: &View<'_>) -> Result<bool, Memory>
-        requires { IsOf (prims_of view.now) self.old }
-        ensures behind { IfOk result (λ ready. ready ≡ false → IsTrue (is_behind self.new)) }
-        ensures page { IsSamePage self.old self.new }
-        ensures still { IsOf (prims_of view.now) self.new }
-    {
-        if self.gathered {
-            return Ok(true);
-        }
-        match self.gather(alloc, view) {
-            Ok(()) => Ok(!self.is_behind()),
-            Err(lack) => {
-                self.want(lack, 0)?;
-                Ok(false)
-            }
-        }
-    }
-
-    /// Tries to print the page. None: something is to be looked at first.
-    fn advance(
-        &mut self,
-        alloc: Global,
-        view: &View<'_>,
-    ) -> Result<Option<Result<Json, Vec<JsonText>>>, Memory>
-        requires { IsOf (prims_of view.now) self.old }
-        ensures printed { IfOk result (λ got. IfSome got (λ outcome. seen json_view outcome ≡ page_shape (prims_of view.now) (asked_of self.old) (trees_in self.old) [])) }
-        ensures behind { IfOk result (λ got. IsNone got → IsTrue (is_behind self.new)) }
-        ensures page { IsSamePage self.old self.new }
-        ensures still { IsOf (prims_of view.now) self.new }
-    {
-        if !self.ready(alloc, view)? {
-            return Ok(None);
-        }
-        let mut next = 0;
-        match self.attempt(alloc, view, &mut next) {
-            Ok(outcome) => Ok(Some(outcome)),
-            Err(lack) => {
-                self.want(lack, next)?;
-                Ok(None)
-            }
+            Wanted::IdOf(object) => find_id(alloc, &mut self.ids, view, object, steps),
         }
     }
 
@@ -324,26 +289,55 @@ impl Shape {
         ensures unfinished { IfOk result (λ turn. IsTrue (is_unfinished turn) → min (steps.old + budget) (2 ^ 64 - 1) ≤ steps.new) }
         ensures page { IsSamePage self.old self.new }
         ensures still { IsOf (prims_of view.now) self.new }
+        ensures within { (n : ℕ) → 2 ^ 32 ≤ n → steps.new ≤ steps.old + steps_left n self.old }
+        ensures less { IsOk result → (n : ℕ) → 2 ^ 32 ≤ n → steps.new + steps_left n self.new ≤ steps.old + steps_left n self.old }
         ensures work { steps.new ≤ steps.old + budget + 1024 }
         ensures later { steps.old ≤ steps.new }
     {
         let mut left = budget;
         while left > 0 {
-            if self.is_behind() {
-                let before = steps.taken();
-                self.look(alloc, view, steps)?;
-                left = left_of(left, before, steps.taken());
-            } else if let Some(outcome) = self.advance(alloc, view)? {
-                return told(outcome);
+            match self.next(alloc, view)? {
+                Next::Printed(outcome) => return told(outcome),
+                Next::Look(wanted) => {
+                    let before = steps.taken();
+                    self.look(alloc, view, wanted, steps)?;
+                    left = left_of(left, before, steps.taken());
+                }
             }
         }
         Ok(ShapeTurn::Unfinished)
     }
 
+    /// Goes on with the trees, and stops for good at a fault.
+    fn go_on<L>(
+        &mut self,
+        alloc: Global,
+        view: &View<'_>,
+        budget: u64,
+        steps: &mut Steps<L>,
+    ) -> Result<ShapeTurn, ShapeFault>
+        requires budget { 0 < budget }
+        requires of { IsOf (prims_of view.now) self.old }
+        requires going { self.old.stopped ≡ false }
+        ensures reply { IfOk result (λ turn. Tells (page_shape (prims_of view.now) (asked_of self.old) (trees_in self.old) []) turn) }
+        ensures refused { IfErr result (λ fault. Refuses (page_shape (prims_of view.now) (asked_of self.old) (trees_in self.old) []) fault) }
+        ensures unfinished { IfOk result (λ turn. IsTrue (is_unfinished turn) → min (steps.old + budget) (2 ^ 64 - 1) ≤ steps.new) }
+        ensures page { IsSamePage self.old self.new }
+        ensures still { IsOf (prims_of view.now) self.new }
+        ensures less { (n : ℕ) → 2 ^ 32 ≤ n → steps.new + shape_left n self.new ≤ steps.old + shape_left n self.old }
+        ensures work { steps.new ≤ steps.old + budget + 1024 }
+        ensures later { steps.old ≤ steps.new }
+    {
+        let turn = self.print_trees(alloc, view, budget, steps);
+        self.stopped = turn.is_err();
+        turn
+    }
+
     /// Goes on over a view, until the budget of steps is reached or the page is printed: what the root of the query prints
-    /// from the body, by the list of primitives below the view. It takes at most 1,024 steps more than the budget.
+    /// from the body, by the list of primitives below the view. It takes at most 1,024 steps more than the budget, and no more
+    /// than those by which it lowers the number that is left (`shape_left`): so after finitely many calls the page is printed.
     /// `NotUnique`: two answers were found where one is asked; the path is the first such one. `Memory`: an allocation was
-    /// refused. After a reply or a fault nothing more is to be asked.
+    /// refused, or a call before it came to a fault. After a reply nothing more is to be asked.
     pub fn resume<L>(
         &mut self,
         alloc: Global,
@@ -360,12 +354,18 @@ impl Shape {
         ensures unfinished { IfOk result (λ turn. IsTrue (is_unfinished turn) → min (steps.old + budget) (2 ^ 64 - 1) ≤ steps.new) }
         ensures page { IsSamePage self.old self.new }
         ensures still { IsOf (prims_of view.now) self.new }
+
+        // Each call lowers the steps that are left, at most, by those that it takes, whatever it comes to. Each place is below 2^32.
+        ensures less { (n : ℕ) → 2 ^ 32 ≤ n → steps.new + shape_left n self.new ≤ steps.old + shape_left n self.old }
         ensures work { steps.new ≤ steps.old + budget + 1024 }
         ensures later { steps.old ≤ steps.new }
     {
+        if self.stopped {
+            return Err(ShapeFault::Memory);
+        }
         match self.count {
             Some(count) => Ok(ShapeTurn::Reply(Json::Int(i64::from(count)))),
-            None => self.print_trees(alloc, view, budget, steps),
+            None => self.go_on(alloc, view, budget, steps),
         }
     }
 }

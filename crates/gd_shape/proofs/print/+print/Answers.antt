@@ -8,22 +8,22 @@ use Rattle.gd_shape.proofs.Members.{printed_path, printed_all}
 use Rattle.gd_shape.proofs.Prints.{each_path, each_more}
 use Rattle.gd_shape.proofs.print.+print.Goals as goal
 
-pub each_json-returns-in-Err : goal.each_json-returns-in-Err
-each_json-returns-in-Err t c =
+pub each_json-returns-in-Err-clause-printed : goal.each_json-returns-in-Err-clause-printed
+each_json-returns-in-Err-clause-printed t c =
     each_path (answer_print c.args.sight.now (asking_view c.args.asking.now) (members_view c.args.clause.now)) c.args.rows.now c.loop-row.row-index c.row-item.result c.loop-row.items.items c.in-Err.names.items _
-    c.loop-row-test.true c.row-item.is (ap (λ r. seen view r) (sym c.in-Err.is) ∙ c.in_ok-json.ensures) c.loop-row.invariant
+    c.loop-row-test.true c.row-item.is (ap (λ r. seen view r) (sym c.in-Err.is) ∙ c.in_ok-json.ensures.printed) c.loop-row.invariant
 
 pub each_json-loop-row-preserved : goal.each_json-loop-row-preserved
 each_json-loop-row-preserved t c =
     each_more (answer_print c.args.sight.now (asking_view c.args.asking.now) (members_view c.args.clause.now)) c.args.rows.now c.loop-row.row-index c.row-item.result c.loop-row.items.items c.push.new.self.items c.in-Ok.json _
-    c.loop-row-test.true c.row-item.is (ap (λ r. seen view r) (sym c.in-Ok.is) ∙ c.in_ok-json.ensures) c.in_ok-push-in-Ok.ensures.items c.loop-row.invariant
+    c.loop-row-test.true c.row-item.is (ap (λ r. seen view r) (sym c.in-Ok.is) ∙ c.in_ok-json.ensures.printed) c.in_ok-push-in-Ok.ensures.items c.loop-row.invariant
 
-pub members_json-returns-in-Err : goal.members_json-returns-in-Err
-members_json-returns-in-Err t c =
+pub members_json-returns-in-Err-clause-printed : goal.members_json-returns-in-Err-clause-printed
+members_json-returns-in-Err-clause-printed t c =
     printed_path c.args.sight.now c.args.members.now c.loop-member.member-index c.member-item.result c.args.at.now.link c.args.at.now.object (lists_view c.loop-member.lists.now) (map member_view c.loop-member.printed.items) c.in-Err.names.items _
-    c.loop-member-test.true c.member-item.is (ap (λ r. seen view r) (sym c.in-Err.is) ∙ c.in_ok-json.ensures) c.loop-member.invariant
+    c.loop-member-test.true c.member-item.is (ap (λ r. seen view r) (sym c.in-Err.is) ∙ c.in_ok-json.ensures.printed) c.loop-member.invariant
 
-pub members_json-returns : goal.members_json-returns
-members_json-returns t c =
+pub members_json-returns-clause-printed : goal.members_json-returns-clause-printed
+members_json-returns-clause-printed t c =
     printed_all c.args.sight.now c.args.members.now c.loop-member.member-index c.args.at.now.link c.args.at.now.object (lists_view c.loop-member.lists.now) (map member_view c.loop-member.printed.items) _
     c.loop-member-test.false c.loop-member.invariant
