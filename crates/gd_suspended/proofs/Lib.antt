@@ -7,3 +7,6 @@ pub mod Built
 pub mod Gathered
 pub mod Printed
 pub mod Begun
+pub mod Left
+pub mod Starting
+pub mod Going

@@ -7,3 +7,4 @@ pub mod Roots
 pub mod Rows
 pub mod Rounds
 pub mod Reading
+pub mod Left

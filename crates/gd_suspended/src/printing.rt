@@ -1,5 +1,5 @@
 //! Readings that print their page.
-ghost use Rattle.std.specs.Prelude.{◌≡◌, ◌+◌, ◌<◌, ◌≤◌, ◌^◌, [], Some, None, map, length, take, nat_lt, option_map, if◌then◌else◌, IfOk, codes};
+ghost use Rattle.std.specs.Prelude.{◌≡◌, ◌+◌, ◌<◌, ◌≤◌, ◌^◌, ℕ, [], Some, None, map, length, take, nat_lt, option_map, if◌then◌else◌, IfOk, codes};
 ghost use Rattle.gd_prim.specs.History.{prims_of};
 ghost use Rattle.gd_defs.specs.Lines.{err_line as err_line_of, refused_at};
 ghost use Rattle.gd_defs.specs.Reply as reply;
@@ -12,6 +12,8 @@ ghost use Rattle.gd_window.specs.Laws.{defined};
 ghost use Rattle.gd_suspended_laws.specs.Standing.{rows_of, page_rows};
 ghost use Rattle.gd_suspended.specs.Stages.{Prints, IsBuilt};
 ghost use Rattle.gd_suspended.specs.Rounds.{RoundGives, RoundCounts};
+ghost use Rattle.gd_shape.specs.Shaping.{shape_left, shape_most};
+ghost use Rattle.gd_suspended.specs.Left.{round_left};
 
 use crate::rows::page_of;
 use crate::stage::{Round, Stage};
@@ -58,7 +60,8 @@ pub(crate) fn print_page(
 ) -> Result<Round, Memory>
     requires line { line < 2 ^ 63 }
     requires built { IsBuilt view.now subject.now plan body window.now }
-    ensures { IfOk result (λ round. RoundGives view.now subject.now line window.now round) }
+    ensures gives { IfOk result (λ round. RoundGives view.now subject.now line window.now round) }
+    ensures left { (n : ℕ) → IfOk result (λ round. round_left n view.now window.now round ≤ shape_most n) }
 {
     if are_many(&plan, window) {
         drop(plan);
@@ -126,6 +129,8 @@ pub(crate) fn print_on<L>(
     requires prints { Prints view.now subject.now shape window.now }
     ensures gives { IfOk result (λ round. RoundGives view.now subject.now line window.now round) }
     ensures counted { IfOk result (λ round. RoundCounts steps.old steps.new round) }
+    ensures less { (n : ℕ) → 2 ^ 32 ≤ n → IfOk result (λ round. steps.new + round_left n view.now window.now round ≤ steps.old + shape_left n shape) }
+    ensures covered { (n : ℕ) → 2 ^ 32 ≤ n → steps.new ≤ steps.old + shape_left n shape }
     ensures work { steps.new ≤ steps.old + budget + 1024 }
     ensures later { steps.old ≤ steps.new }
 {

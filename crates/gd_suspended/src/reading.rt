@@ -17,6 +17,7 @@ ghost use Rattle.gd_suspended.specs.Begun.{fault_at, HasOffset, asked_from, date
 ghost use Rattle.gd_suspended.specs.Subject.{line_of};
 ghost use Rattle.gd_suspended.specs.Stages.{IsAsked};
 ghost use Rattle.gd_suspended.specs.Reading.{reading_view, IsGoing, Replies, is_unfinished};
+ghost use Rattle.gd_suspended.specs.Left.{reading_left};
 
 use crate::fault::ReadFault;
 use crate::first::first_stage;
@@ -267,6 +268,7 @@ impl Reading {
         ensures gives { IfOk result (λ reply. MatchOption reply (IsGoing view.now self.new) (λ bytes. bytes.items ≡ line_of view.now self.old.subject line)) }
         ensures subject { self.new.subject ≡ self.old.subject }
         ensures counted { IfOk result (λ reply. IsNone reply → Rose steps.old steps.new) }
+        ensures less { (n : ℕ) → 2 ^ 32 ≤ n → steps.new + reading_left n view.now self.new ≤ steps.old + reading_left n view.now self.old }
         ensures work { steps.new ≤ steps.old + budget + 1024 }
         ensures later { steps.old ≤ steps.new }
     {
@@ -290,8 +292,9 @@ impl Reading {
 
     /// Goes on over a view of the reading's dateline, on the store at which it began or a later one, until the budget of steps
     /// is reached or the reply line is there: the page at the dateline, or the refusal in its place. `line` is the number of
-    /// the line that the reply tells. It takes at most 1,024 steps more than the budget. `Memory`: an allocation was refused;
-    /// after that, and after a reply, nothing more is to be asked.
+    /// the line that the reply tells. It takes at most 1,024 steps more than the budget. The number of what is left
+    /// (`reading_left`) falls by at least the steps that it takes, so finitely many slices end a reading. `Memory`: an allocation
+    /// was refused; after that, and after a reply, nothing more is to be asked.
     pub fn slice<L>(
         &mut self,
         alloc: Global,
@@ -311,6 +314,9 @@ impl Reading {
         ensures same { reading_view self.new ≡ reading_view self.old }
         ensures still { IfOk result (λ progress. is_unfinished progress ≡ true → IsGoing view.now self.new) }
         ensures reached { IfOk result (λ progress. is_unfinished progress ≡ true → min (steps.old + budget) (2 ^ 64 - 1) ≤ steps.new) }
+
+        // What is left falls by at least the steps of the slice, whatever it comes to; `n` is a number that no id reaches.
+        ensures less { (n : ℕ) → 2 ^ 32 ≤ n → steps.new + reading_left n view.now self.new ≤ steps.old + reading_left n view.now self.old }
         ensures work { steps.new ≤ steps.old + budget + 1024 }
         ensures later { steps.old ≤ steps.new }
     {

@@ -1,7 +1,8 @@
 //! What a reading does.
-ghost use Rattle.std.specs.Prelude.{◌≡◌, ◌+◌, ◌<◌, ◌≤◌, ◌^◌, IfOk};
+ghost use Rattle.std.specs.Prelude.{◌≡◌, ◌+◌, ◌<◌, ◌≤◌, ◌^◌, ℕ, IfOk};
 ghost use Rattle.gd_suspended.specs.Stages.{StageOwes};
 ghost use Rattle.gd_suspended.specs.Rounds.{RoundGives, RoundCounts};
+ghost use Rattle.gd_suspended.specs.Left.{stage_left, round_left};
 
 use crate::building::Building;
 use crate::checking::Checking;
@@ -58,6 +59,10 @@ impl Stage {
         requires owes { StageOwes view.now subject.now self window.old }
         ensures gives { IfOk result (λ round. RoundGives view.now subject.now line window.new round) }
         ensures counted { IfOk result (λ round. RoundCounts steps.old steps.new round) }
+
+        // A round lowers what is left by at least the steps that it takes.
+        ensures less { (n : ℕ) → 2 ^ 32 ≤ n → IfOk result (λ round. steps.new + round_left n view.now window.new round ≤ steps.old + stage_left n view.now window.old self) }
+        ensures covered { (n : ℕ) → 2 ^ 32 ≤ n → steps.new ≤ steps.old + stage_left n view.now window.old self }
         ensures work { steps.new ≤ steps.old + budget + 1024 }
         ensures later { steps.old ≤ steps.new }
     {
