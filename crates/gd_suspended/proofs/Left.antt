@@ -58,10 +58,6 @@ passed_on l k j r s u m b one less most = omega (arith, one, less, most)
 pub passed_all : (l k j r s u v m b : ℕ) → s ≤ r + 1 → u + 1024 * (l - j) ≤ s + 901 + 1024 * (l - k) → v ≤ u + 1 → m ≤ b → v + m ≤ r + (1024 * (l - k) + 1024 + b)
 passed_all l k j r s u v m b one less more most = omega (arith, one, less, more, most)
 
--- LAW: whatever a round comes to
-pub passed_any : (l k j r s u v b : ℕ) → s ≤ r + 1 → u + 1024 * (l - j) ≤ s + 901 + 1024 * (l - k) → v ≤ u + 1 → v ≤ r + (1024 * (l - k) + 1024 + b)
-passed_any l k j r s u v b one less more = omega (arith, one, less, more)
-
 -- ---- asking of places
 
 -- LAW: of one more was asked
@@ -75,10 +71,6 @@ asked_on l k j a r s u m one less = omega (arith, one, less)
 -- LAW: a round behind asking
 pub asked_all : (l k j a r s u v m b : ℕ) → s ≤ r + 1 → u + 2 * (l - j) ≤ s + 1 + 2 * (l - k) → v ≤ u + 1 → m ≤ a + 0 + 1 + b → v + m ≤ r + (a + (2 * (l - k) + 4) + 1 + b)
 asked_all l k j a r s u v m b one less more most = omega (arith, one, less, more, most)
-
--- LAW: whatever a round comes to
-pub asked_any : (l k j a r s u v b : ℕ) → s ≤ r + 1 → u + 2 * (l - j) ≤ s + 1 + 2 * (l - k) → v ≤ u + 1 → v ≤ r + (a + (2 * (l - k) + 4) + 1 + b)
-asked_any l k j a r s u v b one less more = omega (arith, one, less, more)
 
 -- LAW: the scan behind asking, of whose places it is not asked again
 pub asked_maybe : (n : ℕ) (batches : List Batch) (w : Kept) (c : Checking) (x : Scanning) → x.plan ≡ c.plan → x.matcher ≡ c.matcher → x.places ≡ None
@@ -158,10 +150,6 @@ found_on a b d p q r s u ahead few page = omega (arith, ahead, few, page)
 pub done_all : (a d m b r s u : ℕ) → s + 0 + 64 * 0 ≤ r + 64 * a → u ≤ s + 1 → m ≤ b → u + m ≤ r + (64 * a + d + 1 + b)
 done_all a d m b r s u ahead more most = omega (arith, ahead, more, most)
 
--- LAW: a fault, behind which nothing is left
-pub fault_all : (a x r s : ℕ) → s + 0 + 64 * 0 ≤ r + 64 * a → s + 0 ≤ r + (64 * a + x)
-fault_all a x r s covers = omega (arith, covers)
-
 -- LAW: it goes on
 pub goes_on : (a b d m r s : ℕ) → s + 0 + 64 * b ≤ r + 64 * a → s + (64 * b + d + 1 + m) ≤ r + (64 * a + d + 1 + m)
 goes_on a b d m r s ahead = omega (arith, ahead)
@@ -237,7 +225,3 @@ round_less n batches w (Ok round) s m a left less = by (round_left n batches w r
   where
     by : (x : ℕ) → x ≤ m → s + x ≤ a
     by x few = omega (arith, few, less)
-
--- LAW: the steps alone
-pub without : (s m a : ℕ) → s + m ≤ a → s ≤ a
-without s m a less = omega (arith, less)
