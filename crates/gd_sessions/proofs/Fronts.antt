@@ -1,5 +1,5 @@
 -- A reading over the front of the batches that it reads.
-use Rattle.std.proofs.Common.{◌≡◌, ℕ, ◌≤◌, List, ◌++◌, take, length, Bool, true, false, Option, Some, None, Result, Ok, Err, refl, sym, ap, ◌∙◌, arith}
+use Rattle.std.proofs.Common.{◌≡◌, ℕ, ◌≤◌, List, take, Bool, true, false, Option, Some, None, Result, Ok, Err, refl, ap, ◌∙◌, arith}
 use Rattle.std.specs.Prelude.{if◌then◌else◌, nat_lt}
 use Rattle.std.proofs.lemmas.Bool.{ltb-false}
 use Rattle.std.proofs.lemmas.List.{take-take}
@@ -9,7 +9,7 @@ use Rattle.gd_prim.specs.History.{prims_of, prims_at}
 use Rattle.gd_bytes.specs.Cursor.{Cursor, cursor_of}
 use Rattle.gd_defs.specs.Query.{Query}
 use Rattle.gd_defs.specs.Asked.{Asked, Unknown, asked_query}
-use Rattle.gd_defs.specs.Lines.{Refusal, cursor_ahead}
+use Rattle.gd_defs.specs.Lines.{cursor_ahead}
 use Rattle.gd_defs.specs.Reply.{Mark, reply}
 use Rattle.gd_runs.specs.Request.{ReadRequest, CursorAsk, no_cursor, first_page, page_after, asks_page}
 use Rattle.gd_runs.specs.Core.{Reading, reading_of, with_meaning, owed_reply}

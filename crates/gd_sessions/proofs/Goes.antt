@@ -1,5 +1,5 @@
 -- What a write leaves once its session was told.
-use Rattle.std.proofs.Common.{◌≡◌, ℕ, ◌+◌, List, [], ◌∷◌, ◌++◌, Bool, Option, sym, ap, subst, ◌∙◌}
+use Rattle.std.proofs.Common.{◌≡◌, ℕ, List, [], ◌∷◌, ◌++◌, Bool, Option, sym, ap, subst, ◌∙◌}
 use Rattle.gd_writer.specs.Side.{SideValue, KeepsAll, GoesOn}
 use Rattle.gd_writer.proofs.Going.{goes_nothing}
 use Rattle.gd_runs.specs.Side.{Kept, Told, told_of}

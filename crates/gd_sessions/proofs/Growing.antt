@@ -1,9 +1,9 @@
 -- A write keeps the batches that there were in front, and shows no fewer.
-use Rattle.std.proofs.Common.{◌≡◌, ℕ, ◌+◌, ◌≤◌, List, [], ◌∷◌, ◌++◌, length, Bool, Option, Some, None, ◌⊎◌, ⊎_elim, refl, sym, ap, subst, ◌∙◌, arith, append-nil, append_assoc}
+use Rattle.std.proofs.Common.{◌≡◌, ℕ, ◌+◌, ◌≤◌, List, [], ◌∷◌, ◌++◌, Bool, Option, Some, None, ◌⊎◌, ⊎_elim, refl, sym, ap, subst, ◌∙◌, arith, append-nil, append_assoc}
 use Rattle.gd_prim.specs.declared.Batch.{Batch}
 use Rattle.gd_defs.specs.Write.{WriteRequest}
-use Rattle.gd_runs.specs.Legal.{Entry, History, batches, size, with_entry}
-use Rattle.gd_runs.specs.Core.{State, Settles, Writable, after_entry}
+use Rattle.gd_runs.specs.Legal.{Entry, batches, size, with_entry}
+use Rattle.gd_runs.specs.Core.{State, Settles}
 use Rattle.gd_runs.specs.Side.{Kept, WriteKeeps, stores, stores_late, refuses, doubts, leaves_doubt, lacks_memory, lacks_memory_settled}
 use Rattle.gd_runs.proofs.Rounds.{batches_more}
 use Rattle.gd_core_laws.proofs.Lines.{one_longer}

@@ -1,11 +1,11 @@
 -- What opening leaves of a disk that nobody touched.
-use Rattle.std.proofs.Common.{◌≡◌, ℕ, ◌≤◌, Bool, true, false, List, [], ◌∷◌, ◌++◌, Option, Some, None, refl, sym, subst, inl, inr, ⊎_elim, ◌∙◌, arith}
+use Rattle.std.proofs.Common.{◌≡◌, ℕ, Bool, true, false, List, [], ◌∷◌, ◌++◌, Option, Some, None, refl, sym, subst, inl, inr, ⊎_elim, ◌∙◌, arith}
 use Rattle.std.specs.Prelude.{IsSome}
 use Rattle.std.specs.Option.{ForSome}
 use Rattle.gd_disk.specs.Runs.{leaves_start}
 use Rattle.gd_log.specs.Opening.{MeansOneOf, Refuses}
 use Rattle.gd_prim.specs.declared.Batch.{Batch}
-use Rattle.gd_bytes.specs.File.{meaning, StandsFor, MayStandFor}
+use Rattle.gd_bytes.specs.File.{meaning, MayStandFor}
 use Rattle.gd_journal.specs.declared.fault.JournalFault.TheVariants.{Memory}
 use Rattle.gd_runs.proofs.Rounds.{some_same}
 use Rattle.gd_runs.specs.Legal.{batches}

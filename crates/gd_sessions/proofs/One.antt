@@ -1,5 +1,5 @@
 -- What is kept of one write line.
-use Rattle.std.proofs.Common.{◌≡◌, ℕ, ◌<◌, List, [], ◌∷◌, ◌++◌, length, map, Option, Some, slice_get, refl, sym, ap, subst, ◌∙◌}
+use Rattle.std.proofs.Common.{◌≡◌, ℕ, List, [], ◌∷◌, ◌++◌, length, map, slice_get, refl, ap, subst}
 use Rattle.std.specs.List.{AllByRecursion}
 use Rattle.gd_runs.specs.Side.{Kept, kept_stored, kept_late, kept_refused, kept_doubt, kept_unsettled, kept_memory, Told, told_of}
 use Rattle.gd_writer.specs.declared.outcome.WriteOf.{WriteOf}

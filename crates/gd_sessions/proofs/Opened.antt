@@ -1,12 +1,11 @@
 -- A store that is opened, or opened again.
 use Rattle.std.proofs.Common.{◌≡◌, ℕ, zero, suc, List, [], ◌∷◌, ◌++◌, length, map, codes, Bool, Option, Some, None, Result, Ok, Err, IfOk, ◌⊎◌, inl, inr, ⊎_elim, refl, sym, ap, subst, ◌∙◌}
-use Rattle.std.specs.Prelude.{get_or, IsTrue}
+use Rattle.std.specs.Prelude.{get_or}
 use Rattle.std.specs.Global.{Vec}
 use Rattle.std.specs.List.{AllByRecursion}
 use Rattle.gd_base.specs.declared.memory.Memory.{Memory}
-use Rattle.std.specs.Option.{ForSome, is_some}
 use Rattle.gd_prim.specs.declared.Batch.{Batch}
-use Rattle.gd_bytes.specs.File.{Meaning, meaning, groups, joined, StandsFor, MayStandFor}
+use Rattle.gd_bytes.specs.File.{groups, joined, StandsFor, MayStandFor}
 use Rattle.gd_runs.specs.Legal.{Entry, History, batches, size}
 use Rattle.gd_runs.specs.Core.{Session, State, opened, said, ReopenStep}
 use Rattle.gd_runs.specs.Side.{doubt_groups}

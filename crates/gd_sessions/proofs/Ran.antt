@@ -1,8 +1,7 @@
 -- What an event of a session does to a core.
-use Rattle.std.proofs.Common.{◌≡◌, ℕ, ◌+◌, ◌<◌, ◌≤◌, List, [], ◌++◌, length, Bool, true, Option, None, Result, Ok, Err, IfOk, OnErr, ◌⊎◌, inl, inr, ⊎_elim, refl, sym, ap, subst, ◌∙◌, arith}
+use Rattle.std.proofs.Common.{◌≡◌, ℕ, ◌<◌, ◌≤◌, List, [], length, Bool, true, None, Result, Ok, Err, IfOk, OnErr, ◌⊎◌, inl, inr, ⊎_elim, refl, sym, ap, subst, ◌∙◌, arith}
 use Rattle.std.specs.Prelude.{get_or, set}
 use Rattle.std.specs.Global.{Vec}
-use Rattle.std.specs.List.{AllByRecursion}
 use Rattle.gd_base.specs.Counts.{Rose}
 use Rattle.gd_base.specs.declared.memory.Memory.{Memory}
 use Rattle.gd_runs.specs.Explained.{memory_line}
@@ -10,7 +9,7 @@ use Rattle.std.proofs.lemmas.List.{length-set}
 use Rattle.gd_prim.specs.declared.Batch.{Batch}
 use Rattle.gd_defs.specs.Write.{WriteRequest}
 use Rattle.gd_runs.specs.Owed.{MembersOf}
-use Rattle.gd_runs.specs.Legal.{batches, size}
+use Rattle.gd_runs.specs.Legal.{batches}
 use Rattle.gd_runs.specs.Request.{ReadRequest}
 use Rattle.gd_runs.specs.Core.{Session, State, with_session, entered, BeginStep, SliceStep, LearnStep, WriteStep}
 use Rattle.gd_runs.specs.Side.{Kept, kept_stored, kept_late, kept_refused, kept_doubt, kept_unsettled, kept_memory, WriteKeeps, lacks_memory, is_fault}
@@ -26,7 +25,7 @@ use Rattle.gd_sessions.specs.Held.{session_view, sessions_of, HoldsGoing}
 use Rattle.gd_sessions.specs.Writes.{IsToldKept, WritesFor}
 use Rattle.gd_sessions.specs.Running.{IsRunning, Answers}
 use Rattle.gd_sessions.proofs.Steps.{session_stays, begin_step, slice_step, learn_step}
-use Rattle.gd_sessions.proofs.Growing.{Grows, write_grows}
+use Rattle.gd_sessions.proofs.Growing.{write_grows}
 use Rattle.gd_sessions.proofs.Table.{state_set, all_at, all_set, all_weaker, going_more}
 use Rattle.gd_sessions.proofs.Told.{at_session, told_state}
 

@@ -1,11 +1,11 @@
 -- The sessions of a core, by their numbers.
-use Rattle.std.proofs.Common.{◌≡◌, ℕ, zero, suc, ◌+◌, ◌<◌, ◌≤◌, List, [], ◌∷◌, ◌++◌, length, map, take, Bool, true, false, Option, Some, None, ◌==◌, refl, sym, ap, subst, ◌∙◌, arith}
+use Rattle.std.proofs.Common.{◌≡◌, ℕ, zero, suc, ◌<◌, ◌≤◌, List, [], ◌∷◌, ◌++◌, length, map, Bool, true, false, Option, Some, None, ◌==◌, refl, sym, ap, subst, ◌∙◌, arith}
 use Rattle.std.specs.Prelude.{if◌then◌else◌, get_or, set}
 use Rattle.std.specs.List.{AllByRecursion}
 use Rattle.std.proofs.lemmas.Bool.{eqb-true}
 use Rattle.std.proofs.lemmas.List.{map-set, get_or-set_same, get_or-set_other, length-map, take-append-le}
 use Rattle.gd_prim.specs.declared.Batch.{Batch}
-use Rattle.gd_runs.specs.Core.{Session, State, with_session}
+use Rattle.gd_runs.specs.Core.{Session, with_session}
 use Rattle.gd_suspended.specs.Reading.{reading_view, IsGoing}
 use Rattle.gd_suspended.specs.declared.reading.Reading.{Reading}
 use Rattle.gd_sessions.specs.Sessions.{new_session}

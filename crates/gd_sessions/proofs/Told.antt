@@ -1,9 +1,7 @@
 -- A session that was told what is kept of its write.
-use Rattle.std.proofs.Common.{◌≡◌, ℕ, zero, suc, ◌+◌, ◌<◌, List, [], ◌∷◌, length, refl, sym, ap, ◌∙◌, arith}
+use Rattle.std.proofs.Common.{◌≡◌, ℕ, zero, suc, ◌+◌, ◌<◌, List, [], ◌∷◌, length, sym, ap, ◌∙◌, arith}
 use Rattle.std.specs.Prelude.{get_or, set, min, max}
-use Rattle.gd_tree.specs.Json.{Json}
-use Rattle.gd_defs.specs.Write.{ChangeFault}
-use Rattle.gd_runs.specs.Core.{Session, State, with_session}
+use Rattle.gd_runs.specs.Core.{Session, with_session}
 use Rattle.gd_runs.specs.Side.{Kept, kept_stored, kept_late, kept_refused, kept_doubt, kept_unsettled, kept_memory}
 use Rattle.gd_core_laws.specs.Writes.{after_kept}
 use Rattle.gd_writer.specs.Side.{SideValue, state_of}

@@ -1,5 +1,5 @@
 -- Sessions as the definitions have them, and what holds of the readings that they hold.
-use Rattle.std.specs.Prelude.{◌≡◌, ℕ, ◌≤◌, List, map, take, get_or, Option, Some, None, option_map}
+use Rattle.std.specs.Prelude.{ℕ, ◌≤◌, List, map, take, get_or, Option, Some, None, option_map}
 use Rattle.gd_prim.specs.declared.Batch.{Batch}
 use Rattle.gd_runs.specs.Core.{Session}
 use Rattle.gd_suspended.specs.Reading.{reading_view, IsGoing}

@@ -1,5 +1,5 @@
 -- What a write does to the write side and to the session that asks for it.
-use Rattle.std.specs.Prelude.{◌≡◌, ℕ, ◌+◌, ◌<◌, max, min, List, [], length, Bool, true, Result, IfOk}
+use Rattle.std.specs.Prelude.{◌≡◌, ℕ, ◌+◌, ◌<◌, max, min, [], length, Bool, true, Result, IfOk}
 use Rattle.std.specs.Global.{Vec}
 use Rattle.gd_base.specs.Counts.{Rose}
 use Rattle.gd_base.specs.declared.memory.Memory.{Memory}

@@ -1,5 +1,5 @@
 -- The lines of a round were answered: what that comes to for a run that is served.
-use Rattle.std.proofs.Common.{◌≡◌, refl, ℕ, zero, suc, ◌+◌, ◌-◌, ◌≤◌, ◌⊎◌, ⊎_elim, min, Bool, IsTrue, List, [], ◌∷◌, length, map, Option, None, sym, subst, ap, ◌∙◌, arith}
+use Rattle.std.proofs.Common.{◌≡◌, refl, ℕ, zero, suc, ◌+◌, ◌≤◌, ⊎_elim, min, Bool, IsTrue, List, [], ◌∷◌, length, map, Option, None, sym, subst, ap, ◌∙◌, arith}
 use Rattle.std.specs.List.{AllByRecursion}
 use Rattle.gd_prim.specs.declared.Batch.{Batch}
 use Rattle.gd_input.specs.declared.line.RoundLine.{RoundLine}

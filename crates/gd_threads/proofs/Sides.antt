@@ -1,5 +1,5 @@
 -- Write sides in a round: before it, out of its lock, and before the writes that are left.
-use Rattle.std.proofs.Common.{◌≡◌, refl, ℕ, zero, suc, ◌-◌, ◌<◌, ◌≤◌, ◌⊎◌, inl, inr, ⊎_elim, min, Bool, List, [], ◌∷◌, length, map, take, Option, Result, Ok, Err, OnOk, OnErr, sym, subst, ap, ◌∙◌, arith}
+use Rattle.std.proofs.Common.{◌≡◌, refl, ℕ, zero, suc, ◌<◌, ◌≤◌, ◌⊎◌, inl, inr, ⊎_elim, min, Bool, List, [], ◌∷◌, length, map, take, Option, Result, Ok, Err, OnOk, OnErr, sym, subst, ap, arith}
 use Rattle.std.proofs.lemmas.Bool.{cases_lt}
 use Rattle.gd_base.specs.declared.memory.Memory.{Memory}
 use Rattle.gd_prim.specs.declared.Batch.{Batch}

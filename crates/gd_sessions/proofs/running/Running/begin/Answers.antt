@@ -1,6 +1,5 @@
-use Rattle.std.proofs.Common.{List, ℕ, ◌≡◌, ◌⊎◌, None, inl, inr, refl}
+use Rattle.std.proofs.Common.{◌≡◌, inl, inr, refl}
 use Rattle.gd_mql.specs.Requests.{read_view}
-use Rattle.gd_runs.specs.Owed.{MembersOf}
 use Rattle.gd_runs.specs.Core as core
 use Rattle.gd_runs.specs.Core.{BeginStep, SliceStep, LearnStep, entered}
 use Rattle.gd_replay_laws.specs.Built.{Takes}

@@ -1,7 +1,4 @@
-use Rattle.std.proofs.Common.{List, sym, subst, ap, ◌∙◌}
-use Rattle.std.specs.List.{AllByRecursion}
-use Rattle.gd_sessions.specs.declared.held.Held.{Held}
-use Rattle.gd_sessions.specs.Opened.{IsNew}
+use Rattle.std.proofs.Common.{ap, ◌∙◌}
 use Rattle.gd_sessions.specs.Running.{RunningValue}
 use Rattle.gd_sessions.specs.Held.{sessions_of}
 use Rattle.gd_sessions.proofs.Left.{lost_stands}

@@ -1,4 +1,4 @@
-use Rattle.std.proofs.Common.{List, ℕ, inl, inr, refl}
+use Rattle.std.proofs.Common.{inl, inr, refl}
 use Rattle.std.proofs.lemmas.Result.{IfOk-weaker}
 use Rattle.gd_runs.specs.Core as core
 use Rattle.gd_runs.specs.Core.{ReopenStep}

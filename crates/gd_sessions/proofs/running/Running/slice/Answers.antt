@@ -1,5 +1,4 @@
-use Rattle.std.proofs.Common.{List, ℕ, ◌≡◌, ◌⊎◌, None, inl, inr, refl}
-use Rattle.gd_mql.specs.Requests.{read_view}
+use Rattle.std.proofs.Common.{◌≡◌, ◌⊎◌, None, inl, inr, refl}
 use Rattle.gd_runs.specs.Owed.{MembersOf}
 use Rattle.gd_runs.specs.Core as core
 use Rattle.gd_runs.specs.Core.{BeginStep, SliceStep, LearnStep, entered}

@@ -1,4 +1,4 @@
-use Rattle.std.proofs.Common.{List, ℕ, inl, refl}
+use Rattle.std.proofs.Common.{inl, refl}
 use Rattle.gd_events.specs.Events.{event_view}
 use Rattle.gd_mql.specs.Requests.{write_view}
 use Rattle.gd_runs.specs.Core as core

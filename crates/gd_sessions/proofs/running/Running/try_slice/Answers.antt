@@ -1,10 +1,9 @@
 use Rattle.std.proofs.Common.{◌<◌, length, subst, arith, IfOk}
 use Rattle.std.specs.Prelude.{set}
-use Rattle.gd_mql.specs.Requests.{read_view}
 use Rattle.gd_runs.specs.Owed.{MembersOf}
-use Rattle.gd_runs.specs.Core.{BeginStep, SliceStep}
+use Rattle.gd_runs.specs.Core.{SliceStep}
 use Rattle.gd_sessions.specs.Running.{RunningValue, core_state}
-use Rattle.gd_sessions.proofs.Ran.{begins_ok, slices_ok, slices_err}
+use Rattle.gd_sessions.proofs.Ran.{slices_ok, slices_err}
 use Rattle.gd_sessions.proofs.running.Running.try_slice.Goals as goal
 
 pub returns-clause-step : goal.returns-clause-step
