@@ -1,94 +1,178 @@
 #!/usr/bin/env python3
 """Proves and builds the program graphd, and says on standard error how far it is.
 
-    build.py      afterwards crates/graphd/out/graphd is there
+    build.py [--jobs N]      afterwards crates/graphd/out/graphd is there
 
-The crates below it are proved side by side, as far as their chain, the processors and the memory allow. What was proved is
-kept, so a run that was stopped goes on where it was.
+The crates below it are proved side by side: as many as there are processors, or N, as far as their chain and the memory allow. What was
+proved is kept, so a run that was stopped goes on where it was. What each crate took is kept too, in crates/graphd/out/seconds.json; from
+that the next run says how long it is to go.
+
+The status is 0 where the program is built, 1 where it was stopped, and else that of the toolchain.
 """
+from __future__ import annotations
+
+import argparse
+import json
 import os
 import re
+import shutil
 import signal
 import subprocess
 import sys
 import threading
 import time
+from typing import Dict, List, Optional, Tuple
+
+sys.path.insert(0, os.path.dirname(os.path.abspath(__file__)))
+from progress import lasting
 
 TOP = os.path.dirname(os.path.dirname(os.path.abspath(__file__)))
 PROGRAM = "graphd"
+SECONDS = os.path.join(TOP, "crates", PROGRAM, "out", "seconds.json")
 # A check takes up to about so many bytes.
 ROOM = 3 << 30
 # Crates that are done within so many seconds of the first one were proved before.
 SOON = 10
 
 
-def crates_of(name):
-    """The crates that a crate stands on, and itself."""
+def crates_of(name: str) -> Dict[str, List[str]]:
+    """The crates that a crate stands on, and itself, each with those on which it stands at once."""
     needs = {}
     with open(os.path.join(TOP, "crates.txt"), encoding="utf-8") as text:
         for line in text:
             crate, colon, rest = line.split("#")[0].partition(":")
             if colon:
                 needs[crate.split()[0]] = rest.split()
-    found, waiting = set(), [name]
+    found: Dict[str, List[str]] = {}
+    waiting = [name]
     while waiting:
         crate = waiting.pop()
         if crate in needs and crate not in found:
-            found.add(crate)
-            waiting += needs[crate]
+            found[crate] = [below for below in needs[crate] if below in needs]
+            waiting += found[crate]
     return found
 
 
-def size_of(crate):
+def size_of(crate: str) -> int:
     """About how much there is to prove in a crate: the bytes of its code and proofs."""
     files = (os.path.join(folder, name) for part in ("src", "proofs")
              for folder, _, names in os.walk(os.path.join(TOP, "crates", crate, part)) for name in names)
     return 2000 + sum(os.path.getsize(file) for file in files)
 
 
-def side_by_side():
+def side_by_side() -> int:
     """How many checks run at a time: one for each processor, as far as there is memory."""
     with open("/proc/meminfo", encoding="utf-8") as text:
         free = next(int(line.split()[1]) * 1024 for line in text if line.startswith("MemAvailable"))
     return max(1, min(len(os.sched_getaffinity(0)), free // ROOM))
 
 
+class Times:
+    """What each crate took when it was last proved on this machine, in seconds."""
+
+    def __init__(self, sizes: Dict[str, int]) -> None:
+        try:
+            with open(SECONDS, encoding="utf-8") as text:
+                told = json.load(text)
+        except (OSError, ValueError):
+            told = {}
+        self.seconds: Dict[str, float] = {crate: told[crate] for crate in sizes if isinstance(told.get(crate), (int, float))}
+        self.sizes = sizes
+
+    def of(self, crate: str) -> Optional[float]:
+        """What a crate took, or, by its size, what it would have taken; None where nothing is known yet."""
+        if crate in self.seconds:
+            return self.seconds[crate]
+        known = sum(self.sizes[each] for each in self.seconds)
+        return self.sizes[crate] * sum(self.seconds.values()) / known if known else None
+
+    def keep(self) -> None:
+        """Keeps what they took for the next run."""
+        os.makedirs(os.path.dirname(SECONDS), exist_ok=True)
+        with open(SECONDS, "w", encoding="utf-8") as text:
+            json.dump({crate: round(took, 1) for crate, took in sorted(self.seconds.items())}, text, indent=1)
+
+
 class Progress:
     """Which crates are done, and since when."""
 
-    def __init__(self):
-        self.sizes = {crate: size_of(crate) for crate in crates_of(PROGRAM)}
-        self.done, self.before = {}, 0
-        self.began, self.first = time.monotonic(), None
+    def __init__(self, jobs: int) -> None:
+        self.needs = crates_of(PROGRAM)
+        self.times = Times({crate: size_of(crate) for crate in self.needs})
+        self.jobs = jobs
+        self.ended: Dict[str, float] = {}
+        self.began = time.monotonic()
+        # since when each of the checks that run at a time is at what it does
+        self.since = [self.began] * jobs
+        self.first: Optional[float] = None
         self.is_terminal = sys.stderr.isatty()
 
-    def add(self, crate):
+    def add(self, crate: str) -> None:
         """A crate is done."""
         now = time.monotonic()
         self.first = self.first or now
-        self.done[crate] = self.sizes[crate]
-        if now - self.first < SOON:
-            self.before += self.sizes[crate]
+        took = now - self.begun(crate, now)
+        # (what is done at once was proved before, and tells nothing)
+        if now - self.first >= SOON and took >= 1:
+            self.times.seconds[crate] = took
+        self.ended[crate] = now
         self.tell()
 
-    def tell(self):
+    def ready(self, crate: str) -> float:
+        """When the last of the crates below it was done."""
+        return max([self.ended[below] for below in self.needs[crate] if below in self.ended] + [self.began])
+
+    def begun(self, crate: str, now: float) -> float:
+        """When the check of a crate that ends now has begun: once all below was done, and a check before it. Which one is not told;
+        whichever it was, all checks together took as long."""
+        ready = self.ready(crate)
+        idle = [since for since in self.since if since <= ready]
+        since = max(idle) if idle else min(self.since)
+        self.since[self.since.index(since)] = now
+        return max(since, ready)
+
+    def to_go(self) -> Optional[float]:
+        """About how long it is to go: what is left for each processor, and no less than the longest chain of what is left."""
+        now, left, chains = time.monotonic(), 0.0, {}
+        for crate in self.upward():
+            took = 0.0 if crate in self.ended else self.times.of(crate)
+            if took is None:
+                return None
+            left += took
+            if took and all(each in self.ended for each in self.needs[crate]):
+                took = max(took - (now - self.ready(crate)), took / 10)
+            chains[crate] = took + max([chains[each] for each in self.needs[crate]] + [0.0])
+        under_way = sum(now - since for since in self.since)
+        return max((left - under_way) / self.jobs, max(chains.values()))
+
+    def upward(self) -> List[str]:
+        """The crates, each behind those on which it stands."""
+        found: Dict[str, None] = {}
+
+        def visit(crate: str) -> None:
+            if crate not in found:
+                for below in self.needs[crate]:
+                    visit(below)
+                found[crate] = None
+        visit(PROGRAM)
+        return list(found)
+
+    def tell(self) -> None:
         """Says how far it is."""
-        now = time.monotonic()
-        line = "graphd: %d of %d crates proved, %d s" % (len(self.done), len(self.sizes), now - self.began)
-        made = sum(self.done.values()) - self.before
-        left = sum(self.sizes.values()) - made - self.before
-        if made > 0 and left > 0:
-            line += ", about %d s to go" % ((now - self.first) * left / made)
+        line = "graphd: %d of %d crates proved, %s" % (len(self.ended), len(self.needs), lasting(time.monotonic() - self.began))
+        left = self.to_go() if len(self.ended) < len(self.needs) else None
+        if left is not None:
+            line += ", about %s to go" % lasting(left)
         sys.stderr.write("\r\033[K" + line if self.is_terminal else line + "\n")
         sys.stderr.flush()
 
-    def tick(self, ended):
+    def tick(self, ended: threading.Event) -> None:
         """Says so again from time to time, for a person who waits."""
         while self.is_terminal and not ended.wait(1):
             self.tell()
 
 
-def run(words, progress=None):
+def run(words: List[str], progress: Optional[Progress] = None) -> Tuple[int, Dict[str, str]]:
     """Runs a command of the toolchain in the program's folder. Gives its status, and what it said of each crate."""
     child = subprocess.Popen(words, cwd=os.path.join(TOP, "crates", PROGRAM), stdin=subprocess.DEVNULL,
                              stdout=subprocess.PIPE, stderr=subprocess.STDOUT, text=True, errors="replace")
@@ -98,7 +182,7 @@ def run(words, progress=None):
             if line.startswith("== "):
                 crate = line.split()[1]
                 said[crate] = ""
-                if progress and crate in progress.sizes:
+                if progress and crate in progress.needs:
                     progress.add(crate)
             said[crate] += line
         return child.wait(), said
@@ -113,15 +197,24 @@ def refusals(text):
     return "".join(lines[:1] + found[:20] if found else lines[-20:])
 
 
-def main():
+def main() -> int:
     """Proves all, and then builds the program."""
-    progress, ended = Progress(), threading.Event()
-    sys.stderr.write("graphd: proving %d crates and building the program; what is proved is kept, so it starts at once the next time\n" % len(progress.sizes))
+    parser = argparse.ArgumentParser(prog="build", description=__doc__, formatter_class=argparse.RawDescriptionHelpFormatter)
+    parser.add_argument("--jobs", type=int, help="how many crates are proved at a time; as many as there are processors, if it is not said")
+    jobs = parser.parse_args().jobs or side_by_side()
+    if shutil.which("rt") is None:
+        sys.exit("graphd: the command rt of the Rattle toolchain is not on the PATH")
+    progress, ended = Progress(jobs), threading.Event()
+    sys.stderr.write("graphd: proving %d crates, %d at a time, and building the program; what is proved is kept, so it starts at once the next time\n"
+                     % (len(progress.needs), jobs))
     ticker = threading.Thread(target=progress.tick, args=(ended,), daemon=True)
     ticker.start()
-    status, said = run(["rt", "all", "check", "--jobs", str(side_by_side())], progress)
-    ended.set()
-    ticker.join()
+    try:
+        status, said = run(["rt", "all", "check", "--jobs", str(jobs)], progress)
+    finally:
+        ended.set()
+        ticker.join()
+        progress.times.keep()
     if status == 0:
         status, said = run(["rt", "run", "--", "--version"])
     if progress.is_terminal:

@@ -1,42 +1,58 @@
 #!/usr/bin/env python3
-"""The list of definitions, docs/DEFINITIONS.md, from the comments in the specs.
+"""The two pages of definitions, docs/DEFINITIONS.md and docs/LAYERS.md, from the comments in the specs.
 
-    definitions.py            writes the list
-    definitions.py --check    fails where the list is not what the specs give
+    definitions.py            writes the pages
+    definitions.py --check    fails where a page is not what the specs give
+    definitions.py --order    names the definitions of the first page that stand before a word that they use
 
-Each definition has a comment of one sentence above it, and each file one in its first line; the list has these
-sentences, in the order in which one reads the files.
+Each definition has a comment of one sentence above it, and each file one in its first line; the pages have these
+sentences, in the order in which one reads the files. The first page has the definitions on which the clauses of the
+top call rest, as tools/rests_on.py finds them; the second has all others.
 """
 import os
 import re
 import sys
 
-TOP = os.path.dirname(os.path.dirname(os.path.abspath(__file__)))
-LIST = os.path.join(TOP, "docs", "DEFINITIONS.md")
+import rests_on
 
-HEAD = """# Definitions
+TOP = rests_on.TOP
+FIRST = os.path.join(TOP, "docs", "DEFINITIONS.md")
+SECOND = os.path.join(TOP, "docs", "LAYERS.md")
 
-What the program means is written down in definitions, apart from its code: sets, relations and recursions on plain lists, which know no index, no budget and no thread. The contracts of the code speak of them, and so do the promises of [PROMISES.md](PROMISES.md). This page lists each of them with one sentence, crate by crate and file by file, in the order in which one reads them. The sentences are the comments that stand above the definitions; `tools/definitions.py` collects them here. Words that a crate needs for itself, such as those of its readers and searches, stand in its own `specs/`.
+FIRST_HEAD = """# Definitions: the words of the headline
+
+What the program means is written down in definitions, apart from its code: sets, relations and recursions on plain lists, which know no index, no budget and no thread. This page lists those on which the clauses of the top call rest: what `graphd` in `gd_top` promises, from the bytes read to the bytes written, says what it says by these and by no others but the words of std. Whoever wants to know what the promises of [PROMISES.md](PROMISES.md) mean reads them; the words that the layers below speak in besides, each to the one above it, stand on a second page, [LAYERS.md](LAYERS.md).
+
+Each definition has one sentence, crate by crate and file by file, in the order in which one reads them. The sentences are the comments that stand above the definitions; `tools/definitions.py` collects them, and `tools/rests_on.py` tells which clauses rest on which. Of a file whose words do not all stand here the others stand on the second page.
 
 Some words run through all of them.
 
-- A **primitive** is one record of the store: references to a left, a right, a typ, a scope and a previous one, a value, a name, and whether it is live. The store is one list of primitives, to which batches are appended.
+- A **primitive** is one record of the store: references to a left, a right, a typ, a scope, a previous one and the language of its text, a value, a name, and whether it is live. The store is one list of primitives, to which batches are appended.
 - A **place** is the position of a primitive in that list, counted from 0; it is the identity of what stands there. A **guid** is its text.
 - An **object** is a live primitive without a typ. A **link** is a primitive with a typ: it leads from its left to its right, or has a value. A **key link** gives an object a key in a namespace.
 - A **batch** is what one write appends. A **dateline** is a number of batches: the state of the store after the first so many. A **snapshot** is the dateline at which a read is answered.
 - A **member** is a name with a value in a JSON object; a **clause** is an object of members that a query asks of something; the **root** is the clause outside.
 - Texts are lists of bytes throughout.
 
+What the clauses name of a source (`left`, `faults`), a sink (`held`, `faults`), a shelf (`content`, `images`, `faults`, `is_out`) and a clock (`may`) is what these objects tell of themselves; the traits say it, in `gd_outside/src` and `gd_disk/src`. `x.now`, and `x.old` with `x.new`, is what a contract sees of an object of the code.
+
 A name in `code` is that of the definition. Behind a type stand the cases or the parts that it has.
 """
 
+SECOND_HEAD = """# Definitions: the words of the layers
+
+What the crates promise to those above them is said in the words of [DEFINITIONS.md](DEFINITIONS.md) and in these: what a layer finds on the way to an answer, how a reading goes on from slice to slice, how much work it takes, and in what shape laws speak of it. No clause of the top call rests on them; the contracts between the layers speak in them, and laws do. Words that a crate needs for itself alone, such as those of its readers and searches, stand in its own `specs/` and on neither page.
+
+The page is made as the first one is, and in the same order. Of a file that the first page begins this one has the rest.
+"""
+
 # the crates in the order in which one reads them, what each is about, and its files; of a crate that is listed
-# with `whole` the other files follow
+# with True the other files follow, and of one with None only what the clauses of the top call rest on
 CRATES = [
     ("gd_grammar", "Words for grammars of texts, which know nothing of the store.", ["Chain", "Maybe", "Grammar", "Reading", "Options", "Mark"], True),
     ("gd_tree", "Trees: JSON values as every request and reply has them, and trees of places.",
      ["Hex", "Json", "Look", "Bounds", "JsonCode", "Trees"], True),
-    ("gd_base", "The order of data.", ["Order"], False),
+    ("gd_base", "The order of data, and counts.", ["Order", "Counts"], False),
     ("gd_postings", "Posting lists.", ["Postings"], False),
     ("gd_versions", "The successor of each place.", ["Versions"], False),
     ("gd_lists", "Lists of identities under keys.", ["Entries"], False),
@@ -58,20 +74,23 @@ CRATES = [
     ("gd_journal", "The file of a journal: which payloads it stands for, and what a journal is between two calls.",
      ["Meaning", "Shape", "State"], False),
     ("gd_runs", "Runs: lines and their replies, histories that explain them, suspended readings and how much work they take.",
-     ["Request", "Input", "Legal", "Explained/Lines", "Explained/Outcomes", "Explained/Runs", "Explained", "Explained/Rounds",
+     ["Request", "Input", "Legal", "Explained/Lines", "Explained/Outcomes", "Explained/Runs", "Explained/Rounds", "Explained",
       "RootSets", "Work", "Owed", "Scanned", "Shape/Answers", "Shape/Ids", "Shape", "Thawed", "Fitting",
       "Core", "Replay", "Pace", "Side"], True),
     ("gd_paging_laws", "Pages of a query that were read one after another.", ["Told", "Paged"], False),
     ("gd_shared", "Published copies: what contracts see of a publisher and of seats.", ["Shared"], False),
     ("gd_log", "A log: payloads that are groups of batches, and what its disk holds.", ["Groups", "State"], False),
-    ("gd_words", "The command line: which words give which command.", ["Options", "Words"], False),
+    ("gd_words", "The command line: which words give which command, and which verb and file it names.", ["Options", "Words", "Verbs"], False),
+    ("gd_writer", "What a disk tells.", ["Parts"], None),
+    ("gd_sessions", "What stands for a state of the core.", ["Running"], None),
     ("gd_core_laws", "Lines that are served through the core, one after another on one thread, and rounds of them on threads.", ["Serve", "Round", "Threads"], False),
-    ("gd_caller", "What a round prints, and what its writes leave of the count of faults.", ["Served", "Replies", "Writes"], False),
+    ("gd_round_lines", "Lines of a round: from where on a history has none, and their replies.", ["Fresh", "Replies"], False),
+    ("gd_caller", "What a round prints, and what its writes leave of the count of faults.", ["Served", "Writes"], False),
     ("gd_threads", "What contracts see of a run that is served on threads, and what a round comes to.", ["Served", "Rounds"], False),
     ("gd_round_laws", "Whole rounds, one after another.", ["Rounds"], False),
     ("gd_replay_laws", "Runs of events, as far as events are built.", ["Built", "Runs", "Faults"], False),
-    ("gd_replay", "What a run of events prints and leaves, and why it stops.", ["Runs", "Stops", "Kept"], False),
-    ("gd_top", "The top call: which words it takes, what it finds in a file and leaves there, what it prints for its input, and how it ends.", ["Words", "Held", "Kept", "Serves", "Ends", "Replays"], False),
+    ("gd_replay", "What a run of events prints and leaves, and why it stops.", ["Replays", "Runs", "Stops", "Kept"], False),
+    ("gd_top", "The top call: which words it takes, what it finds in a file and leaves there, what it prints for its input, and how it ends.", ["Words", "Ends", "Held", "Kept", "Serves", "Replays"], False),
 ]
 
 # comments that lean on the definition above them, said in full
@@ -152,20 +171,6 @@ def sentence(comment):
     return comment if comment[-1] in ".!?" else comment + "."
 
 
-def parts_of(lines, start, indent):
-    """The cases of a type, or the parts of a record, that begins at a line."""
-    names = []
-    for line in lines[start + 1:]:
-        if line.strip().startswith("--"):
-            continue
-        if not line.strip() or len(line) - len(line.lstrip()) <= indent:
-            break
-        found = re.match(r" {%d}(?:pub )?([\w' -]+?) :" % (indent + 2), line)
-        if found:
-            names.extend(found.group(1).split())
-    return names
-
-
 def definitions_of(path, strict):
     """The header comment of a file, and its definitions: the names, the parts, the comment. A definition without a
     comment shares that of the one before it, but a strict file has one for each."""
@@ -193,7 +198,7 @@ def definitions_of(path, strict):
             continue
         if not comment.startswith("-- "):
             sys.exit("definitions.py: %s:%d: `%s` has no comment" % (os.path.relpath(path, TOP), number + 1, name))
-        found.append(([name], parts_of(lines, number, indent) if kind else [], comment[3:]))
+        found.append(([name], rests_on.parts_of(lines, number, indent) if kind else [], comment[3:]))
         if kind:
             in_record = indent
     return " ".join(header), found
@@ -206,43 +211,101 @@ def files_of(crate, order, whole):
                    for folder, _, names in os.walk(specs) for name in names if name.endswith(".antt"))
     there.remove("Lib")
     listed = [name for name in order if name in there]
-    return [(name, whole) for name in listed] + ([(name, False) for name in there if name not in listed] if whole else [])
+    return [(name, bool(whole)) for name in listed] + ([(name, False) for name in there if name not in listed] if whole else [])
 
 
-def the_list():
-    """The whole page."""
-    out = [HEAD]
+def path_of(crate, name):
+    """A spec file."""
+    return os.path.join(rests_on.CRATES, crate, "specs", name + ".antt")
+
+
+def needs(path, names):
+    """Whether the clauses of the top call rest on one of these definitions of a file."""
+    return any((path, name) in rests_on.words() for name in names)
+
+
+def sections():
+    """The crates, each with its files: the name, the header comment and the definitions."""
     for crate, about, order, whole in CRATES:
-        out.append("## %s\n\n%s\n" % (crate, about))
+        files = []
         for name, strict in files_of(crate, order, whole):
-            header, found = definitions_of(os.path.join(TOP, "crates", crate, "specs", name + ".antt"), strict)
+            header, found = definitions_of(path_of(crate, name), strict)
+            if whole is None:
+                found = [entry for entry in found if needs(path_of(crate, name), entry[0])]
             said = SENTENCES.get(crate + "/" + name, {})
             for stale in set(said) - {names[0] for names, _, _ in found}:
                 sys.exit("definitions.py: %s/%s has no definition `%s`" % (crate, name, stale))
+            files.append((name, header, [(names, parts, said.get(names[0], comment)) for names, parts, comment in found]))
+        yield crate, about, files
+
+
+def page(head, keeps):
+    """A page: of the definitions those that it keeps."""
+    out = [head]
+    for crate, about, files in sections():
+        shown = [(name, header, [found for found in all_found if keeps(path_of(crate, name), found[0])])
+                 for name, header, all_found in files]
+        if not any(found for _, _, found in shown):
+            continue
+        out.append("## %s\n\n%s\n" % (crate, about))
+        for name, header, found in shown:
             if not found:
                 continue
             out.append("### %s\n\n%s\n" % (name.replace("/", "."), sentence(header)))
             for names, parts, comment in found:
                 with_parts = " (%s)" % code(parts) if parts else ""
-                out.append("- %s%s: %s" % (code(names), with_parts, sentence(said.get(names[0], comment))))
+                out.append("- %s%s: %s" % (code(names), with_parts, sentence(comment)))
             out.append("")
     return "\n".join(out).rstrip() + "\n"
 
 
+def pages():
+    """Both pages."""
+    words = rests_on.words()
+    listed = {(path_of(crate, name), word) for crate, _, files in sections()
+              for name, _, all_found in files for names, _, _ in all_found for word in names}
+    for file, word in sorted(words - listed):
+        if re.search(r"\bpub (data |record )?%s " % re.escape(word), rests_on.text_of(file)):
+            sys.exit("definitions.py: the clauses of the top call rest on `%s` of %s, which no page lists"
+                     % (word, os.path.relpath(file, TOP)))
+
+    return {FIRST: page(FIRST_HEAD, needs), SECOND: page(SECOND_HEAD, lambda path, names: not needs(path, names))}
+
+
+def print_order():
+    """Names the definitions of the first page that use a word of a later file."""
+    words = rests_on.words()
+    files = [path_of(crate, name) for crate, _, files in sections() for name, _, _ in files]
+    place = {file: number for number, file in enumerate(files)}
+    for file, name in sorted(words, key=lambda word: (place.get(word[0], -1), word[1])):
+        specs = rests_on.specs(file)
+        for other, word in sorted(specs.found_in("\n".join(specs.bodies[name]))):
+            if place.get(other, -1) > place.get(file, -1):
+                print("%s %s: %s %s" % (os.path.relpath(file, rests_on.CRATES), name,
+                                        os.path.relpath(other, rests_on.CRATES), word))
+
+
 def main():
-    """Writes or checks the list."""
-    text = the_list()
-    if sys.argv[1:] == ["--check"]:
-        with open(LIST, encoding="utf-8") as file:
-            if file.read() == text:
-                return 0
-        print("docs/DEFINITIONS.md is not what the specs give")
-        return 1
-    if sys.argv[1:]:
+    """Writes or checks the pages."""
+    if sys.argv[1:] == ["--help"]:
+        print(__doc__.strip())
+        return 0
+    if sys.argv[1:] == ["--order"]:
+        print_order()
+        return 0
+    if sys.argv[1:] not in ([], ["--check"]):
         sys.exit(__doc__)
-    with open(LIST, "w", encoding="utf-8") as file:
-        file.write(text)
-    return 0
+    stale = 0
+    for path, text in pages().items():
+        if not sys.argv[1:]:
+            with open(path, "w", encoding="utf-8") as file:
+                file.write(text)
+            continue
+        there = rests_on.text_of(path) if os.path.exists(path) else ""
+        if there != text:
+            print("%s is not what the specs give" % os.path.relpath(path, TOP))
+            stale = 1
+    return stale
 
 
 if __name__ == "__main__":

@@ -1,12 +1,12 @@
 #!/usr/bin/env python3
-"""Runs the sessions that docs/GUIDE.md shows, and writes what they print.
+"""Runs the sessions that docs/GUIDE.md and docs/CLIENT.md show, and writes what they print.
 
-    guide.py            writes the page
-    guide.py --check    fails where a session prints anything else than the page shows
+    guide.py [PAGE..]            writes the pages
+    guide.py --check [PAGE..]    fails where a session prints anything else than a page shows
 
 A session is a block of four blanks that begins with `$ `: a command, and under it what it prints. Below `tools/shell` the lines that
-somebody typed stand behind its prompts. All run in one new folder, where `tools`, `examples` and `graphd` are those of the repository;
-what they print to standard error is not shown.
+somebody typed stand behind its prompts. A block that begins with `>>> ` is a session of Python. Those of a page all run in one new
+folder, where `tools`, `examples` and `graphd` are those of the repository; what they print to standard error is not shown.
 """
 import os
 import re
@@ -14,8 +14,10 @@ import subprocess
 import sys
 import tempfile
 
+import python_sessions
+
 TOP = os.path.dirname(os.path.dirname(os.path.abspath(__file__)))
-PAGE = os.path.join(TOP, "docs", "GUIDE.md")
+PAGES = ("docs/GUIDE.md", "docs/CLIENT.md")
 SESSION = re.compile(r"(?m)^    \$ .*\n(?:    .*\n|\n(?=    ))*")
 PROMPT = re.compile(r"(?:graphd> |   \.\.\.> )(.*)")
 
@@ -48,23 +50,40 @@ def rewritten(page, folder):
     return SESSION.sub(session, page)
 
 
-def main():
-    with open(PAGE, encoding="utf-8") as text:
-        before = text.read()
-    with tempfile.TemporaryDirectory() as folder:
-        for name in ("tools", "examples", "graphd"):
-            os.symlink(os.path.join(TOP, name), os.path.join(folder, name))
-        after = rewritten(before, folder)
-    if sys.argv[1:] != ["--check"]:
-        with open(PAGE, "w", encoding="utf-8") as text:
-            text.write(after)
-        return
+def differs(name, before, after):
+    """Says where a page shows anything else than its sessions print, if it does."""
     for number, (shown, said) in enumerate(zip(before.split("\n"), after.split("\n")), 1):
         if shown != said:
-            sys.exit("guide.py: docs/GUIDE.md, line %d shows %r, and the session prints %r" % (number, shown, said))
-    if before != after:
-        sys.exit("guide.py: the sessions print more or less than docs/GUIDE.md shows")
+            return "%s, line %d shows %r, and the session prints %r" % (name, number, shown, said)
+    return "the sessions print more or less than %s shows" % name if before != after else None
+
+
+def checked(name, is_check):
+    """Runs the sessions of a page, and writes it or compares; gives whether it is as wanted."""
+    with open(os.path.join(TOP, name), encoding="utf-8") as text:
+        before = text.read()
+    with tempfile.TemporaryDirectory() as folder:
+        for linked in ("tools", "examples", "graphd"):
+            os.symlink(os.path.join(TOP, linked), os.path.join(folder, linked))
+        after = python_sessions.rewritten(rewritten(before, folder), folder)
+    fault = differs(name, before, after) if is_check else None
+    if fault:
+        print("guide.py: " + fault, file=sys.stderr)
+    elif not is_check and before != after:
+        with open(os.path.join(TOP, name), "w", encoding="utf-8") as text:
+            text.write(after)
+    return fault is None
+
+
+def main():
+    words = sys.argv[1:]
+    if words[:1] == ["--help"]:
+        print(__doc__.strip())
+        return 0
+    is_check = words[:1] == ["--check"]
+    names = [os.path.relpath(os.path.abspath(name), TOP) for name in words[is_check:]] or PAGES
+    return 0 if all([checked(name, is_check) for name in names]) else 1
 
 
 if __name__ == "__main__":
-    main()
+    sys.exit(main())

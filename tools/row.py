@@ -16,11 +16,17 @@ import os
 import re
 import sys
 
+from store_file import opened
+
 TOP = os.path.dirname(os.path.dirname(os.path.abspath(__file__)))
 TEXTS = os.path.join(TOP, "rows")
 CASES = os.path.join(TEXTS, "cases")
 PROOFS = os.path.join(TOP, "crates", "gd_runs", "proofs")
 PROGRAM = os.path.join(TOP, "crates", "gd_rows")
+
+
+# In place of what a file holds afterwards: what opening leaves of it, by the page of the format.
+OPENED = "opened"
 
 
 class BadText(Exception):
@@ -131,7 +137,7 @@ class Case:
             whose, count = rest.split()
             self.faults[whose] = count
         elif mark == "left":
-            self.left = bytes.fromhex(rest)
+            self.left = OPENED if rest == OPENED else bytes.fromhex(rest)
         else:
             return False
         return True
@@ -161,13 +167,15 @@ class Case:
             words = "words serve" + (" --workers " + name.rsplit("/", 1)[1] if on_threads else "")
             lines = ["row " + name] + ([] if named else [words])
             lines += (["file " + file.hex()] if file else []) + ([failing] if failing else []) + given
-            yield ("\n".join(lines) + "\n").encode(), self.wanted(name)
+            yield ("\n".join(lines) + "\n").encode(), self.wanted(name, file)
 
-    def wanted(self, name):
-        """What the program is to print of the run of this name."""
+    def wanted(self, name, file):
+        """What the program is to print of the run of this name, over this file."""
         out = [b"row " + name.encode(), b"status " + self.status.encode()]
         out += [("faults %s %s" % (who, self.faults[who])).encode() for who in ("source", "sink", "shelf") if who in self.faults]
-        out += self.output + ([] if self.left is None else [b"left " + self.left.hex().encode()])
+        left = opened(file) if self.left == OPENED else self.left
+        # what is left as it was is not printed
+        out += self.output + ([] if left in (None, file) else [b"left " + left.hex().encode()])
         return b"\n".join(out) + b"\n"
 
 

@@ -49,6 +49,9 @@ def shown(found):
 
 
 def main():
+    if sys.argv[1:] not in ([], ["--check"]):
+        print(__doc__.strip())
+        return 0 if sys.argv[1:] == ["--help"] else 2
     with open(PAGE, encoding="utf-8") as text:
         before = text.read()
     after = BLOCK.sub(shown, before)
@@ -58,7 +61,8 @@ def main():
     elif before != after:
         with open(PAGE, "w", encoding="utf-8") as text:
             text.write(after)
+    return 0
 
 
 if __name__ == "__main__":
-    main()
+    sys.exit(main())

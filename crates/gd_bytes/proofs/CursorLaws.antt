@@ -20,10 +20,10 @@ Place p w = PlaceFits p × (w ≡ place_text p)
 abbrev Given : Option ℕ → List ℕ → Type 0
 Given = Then (Number max_prims) (λ n. Only (Some n))
 
-place_small : max_prims < 2 ^ 60
+place_small : max_prims < 2 ^ 64
 place_small = omega arith
 
-dateline_small : max_requests < 2 ^ 60
+dateline_small : max_requests < 2 ^ 64
 dateline_small = omega arith
 
 Scans-given : Scans Given (chain (number_at max_prims) (λ n b. Ok (Some n, b)))
@@ -194,7 +194,7 @@ keys_head d o c u (ks, x, y, many, (c_is, none), u_is) =
     let u_x : u ≡ x = u_is ∙ ap (λ (l : List ℕ). x ++ l) none ∙ append-nil x in
     ⊎_elim (λ e. inl (u_x ∙ e)) (λ (t, e). inr (t, u_x ∙ e)) (many_head 4 ks x many)
 
-number_colon : (bound n : ℕ) (v u : List ℕ) → bound < 2 ^ 60 → Number bound n v → (u ≡ []) ⊎ ((t : List ℕ) × (u ≡ 58 ∷ t)) → Ends (Number bound) v u
+number_colon : (bound n : ℕ) (v u : List ℕ) → bound < 2 ^ 64 → Number bound n v → (u ≡ []) ⊎ ((t : List ℕ) × (u ≡ 58 ∷ t)) → Ends (Number bound) v u
 number_colon bound n v u small is (inl none) = ends_nil (Number bound) v u none
 number_colon bound n v u small is (inr (t, u_is)) = subst (Ends (Number bound) v) (sym u_is) (number_ends bound n 58 v t small is (λ (low, high). omega (arith, high)))
 

@@ -1,5 +1,6 @@
 -- What the bytes of a file mean.
-use Rattle.std.specs.Prelude.{◌⊎◌, ◌≡◌, ℕ, suc, zero, ◌+◌, List, [], ◌∷◌, ◌++◌, length, take, drop, ◌||◌, ◌==◌, nat_lt, nat_le, Option, Some, None, if◌then◌else◌, codes, bytes_eq, flat_map}
+use Rattle.std.specs.Prelude.{◌⊎◌, ◌≡◌, ℕ, suc, zero, ◌+◌, List, [], ◌∷◌, ◌++◌, length, take, drop, Bool, true, false, not, ◌&&◌, ◌||◌, ◌==◌, nat_lt, nat_le, Option, Some, None, is_some, if◌then◌else◌, codes, bytes_eq, flat_map}
+use Rattle.std.specs.List.{list_any}
 use Rattle.std.specs.Int.{w32, to_be_bytes, from_be_bytes}
 use Rattle.gd_prim.specs.declared.Batch.{Batch}
 use Rattle.gd_prim.specs.History.{prims_of}
@@ -12,9 +13,27 @@ pub data Meaning : Type 0 where
   damaged : ℕ → Meaning
   groups : List (List Batch) → Meaning
 
--- the first eight bytes of a file that is a store
-abbrev pub header : List ℕ
-header = codes "GRAPHD1\n"
+-- the versions of the format: in a file of the first one texts have no language before the mark
+pub data Version : Type 0 where
+  first second : Version
+
+-- the first eight bytes of a file that is a store of a version
+abbrev pub header : Version → List ℕ
+header first = codes "GRAPHD1\n"
+header second = codes "GRAPHD2\n"
+
+-- the version of a file by its first eight bytes, if it is a store
+abbrev pub version_of : List ℕ → Option Version
+version_of bytes = if bytes_eq (take 8 bytes) (header first) then Some first else if bytes_eq (take 8 bytes) (header second) then Some second else None
+
+-- the payload that marks a file of the first version: behind it texts may have languages
+abbrev pub mark : List ℕ
+mark = 0 ∷ 0 ∷ 0 ∷ 2 ∷ []
+
+-- texts may have languages, and no mark may stand: from the start in a file of the second version, behind the mark in one of the first
+abbrev pub is_marked : Version → Bool
+is_marked first = false
+is_marked second = true
 
 -- the greatest length of a payload
 abbrev pub max_payload : ℕ
@@ -49,17 +68,21 @@ payloads_from (suc more) offset (gate ∷ bytes) = if gate == 1 then next (paylo
     next None rest = record { list = []; damaged = Some offset }
     next (Some p) rest = let behind : Payloads = rest (length p) in record { list = (offset, p) ∷ behind.list; damaged = behind.damaged }
 
--- the payloads of a file that begins with the header
+-- the payloads of a file that begins with a header
 abbrev pub payloads : List ℕ → Payloads
 payloads bytes = payloads_from (length bytes) 8 (drop 8 bytes)
 
--- the batches of a payload, where they may follow those before
-abbrev pub record_batches : List Batch → List ℕ → Option (List Batch)
-record_batches before p = by (group_of p)
+-- some primitive of the batches names a language
+abbrev pub has_lang : List Batch → Bool
+has_lang bs = list_any (λ b. list_any (λ p. is_some p.lang) b.prims) bs
+
+-- the batches of a payload, where they may follow those before, and name no language where that is not allowed
+abbrev pub record_batches : Bool → List Batch → List ℕ → Option (List Batch)
+record_batches marked before p = by (group_of p)
   where
     by : Option (List Batch) → Option (List Batch)
     by None = None
-    by (Some bs) = if all_follow (prims_of before) (length before) bs then Some bs else None
+    by (Some bs) = if (marked || not (has_lang bs)) && all_follow (prims_of before) (length before) bs then Some bs else None
 
 -- a group in front of what follows
 abbrev pub with_group : List Batch → Meaning → Meaning
@@ -67,19 +90,24 @@ with_group bs not_store = not_store
 with_group bs (damaged offset) = damaged offset
 with_group bs (groups gs) = groups (bs ∷ gs)
 
--- the groups of payloads, behind these batches; a payload that is none is damage, and so is a record that is not there in full
-abbrev pub groups_of : List Batch → List (ℕ × List ℕ) → Option ℕ → Meaning
-groups_of before [] None = groups []
-groups_of before [] (Some offset) = damaged offset
-groups_of before (r ∷ rs) torn = next (record_batches before r.1) (λ bs. groups_of (before ++ bs) rs torn)
+-- the groups of payloads, behind these batches and behind the mark or not; the mark is no group, another payload that is none is damage, and so is a record that is not there in full
+abbrev pub groups_of : Bool → List Batch → List (ℕ × List ℕ) → Option ℕ → Meaning
+groups_of marked before [] None = groups []
+groups_of marked before [] (Some offset) = damaged offset
+groups_of marked before (r ∷ rs) torn = if not marked && bytes_eq r.1 mark then groups_of true before rs torn
+    else next (record_batches marked before r.1) (λ bs. groups_of marked (before ++ bs) rs torn)
   where
     next : Option (List Batch) → (List Batch → Meaning) → Meaning
     next None rest = damaged r.0
     next (Some bs) rest = with_group bs (rest bs)
 
--- what the bytes of a file mean: a file of at most 9 bytes is an unfinished creation and has no groups, one that does not begin with the header is no store, and the rest is that of its payloads
+-- what the bytes of a file mean: a file of at most 9 bytes is an unfinished creation and has no groups, one that does not begin with a header is no store, and the rest is that of its payloads
 abbrev pub meaning : List ℕ → Meaning
-meaning bytes = if nat_le (length bytes) 9 then groups [] else if bytes_eq (take 8 bytes) header then groups_of [] (payloads bytes).list (payloads bytes).damaged else not_store
+meaning bytes = if nat_le (length bytes) 9 then groups [] else by (version_of bytes)
+  where
+    by : Option Version → Meaning
+    by None = not_store
+    by (Some v) = groups_of (is_marked v) [] (payloads bytes).list (payloads bytes).damaged
 
 -- the bytes stand for this list of batches
 abbrev pub StandsFor : List ℕ → List Batch → Type 0
@@ -96,6 +124,6 @@ MayStandFor bs (g ∷ gs) bytes = MayStandFor bs gs bytes ⊎ MayStandFor (bs ++
 abbrev pub open_record : List ℕ → List ℕ
 open_record p = 1 ∷ to_be_bytes w32 (length p) ++ p
 
--- a file whose last gate is closed
-abbrev pub at_rest : List (List ℕ) → List ℕ
-at_rest payloads = header ++ flat_map open_record payloads ++ 0 ∷ []
+-- a file of a version whose last gate is closed
+abbrev pub at_rest : Version → List (List ℕ) → List ℕ
+at_rest v payloads = header v ++ flat_map open_record payloads ++ 0 ∷ []

@@ -1,7 +1,7 @@
 -- A group of batches as bytes: its one spelling, and its reading.
-use Rattle.std.specs.Prelude.{◌≡◌, ℕ, suc, zero, ◌+◌, ◌^◌, ◌<◌, ◌≤◌, List, [], ◌∷◌, ◌++◌, length, take, drop, flat_map, Bool, true, false, ◌&&◌, ◌||◌, ◌==◌, nat_lt, nat_le, Option, Some, None, is_some, if◌then◌else◌, IsUtf8, IsTrue}
+use Rattle.std.specs.Prelude.{◌≡◌, ℕ, ◌+◌, ◌^◌, ◌<◌, ◌≤◌, List, [], ◌∷◌, ◌++◌, length, flat_map, Bool, true, false, ◌&&◌, ◌||◌, ◌==◌, nat_lt, nat_le, Option, Some, None, is_some, if◌then◌else◌, IsUtf8, IsTrue}
 use Rattle.std.specs.List.{AllByRecursion}
-use Rattle.std.specs.Int.{w16, w32, w64, to_be_bytes, from_be_bytes, cast_signed, cast_unsigned, bit_at}
+use Rattle.std.specs.Int.{w16, w32, w64, to_be_bytes, cast_signed, cast_unsigned, bit_at}
 use Rattle.std.specs.Str.{is_utf8}
 use Rattle.gd_base.specs.declared.datum.Precision.{Precision}
 use Rattle.gd_base.specs.declared.datum.Precision.TheVariants.{Year, Month, Day, Time}
@@ -21,10 +21,10 @@ use Rattle.gd_prim.specs.WellFormed.{max_moment, is_moment}
 abbrev pub flag : ℕ → Bool → ℕ
 flag worth set = if set then worth else 0
 
--- the flag byte of a primitive: which references and whether a name are there, and whether it is live
+-- the flag byte of a primitive: which references and whether a name and a language are there, and whether it is live
 abbrev pub flags : Primitive → ℕ
 flags p = flag 1 (is_some p.left) + flag 2 (is_some p.right) + flag 4 (is_some p.typ) + flag 8 (is_some p.scope)
-    + flag 16 (is_some p.previous) + flag 32 (is_some p.name) + flag 64 p.live
+    + flag 16 (is_some p.previous) + flag 32 (is_some p.name) + flag 64 p.live + flag 128 (is_some p.lang)
 
 -- the bytes of a reference: four, where it is there
 abbrev pub reference_bytes : Option ℕ → List ℕ
@@ -51,7 +51,7 @@ name_bytes (Some t) = text_bytes t
 
 -- the bytes of a primitive: flags, the references that are there, the value, the name
 abbrev pub primitive_bytes : Primitive → List ℕ
-primitive_bytes p = flags p ∷ reference_bytes p.left ++ reference_bytes p.right ++ reference_bytes p.typ ++ reference_bytes p.scope ++ reference_bytes p.previous
+primitive_bytes p = flags p ∷ reference_bytes p.left ++ reference_bytes p.right ++ reference_bytes p.typ ++ reference_bytes p.scope ++ reference_bytes p.previous ++ reference_bytes p.lang
     ++ value_bytes p.value ++ name_bytes p.name
 
 -- the bytes of a batch: its moment, the number of its primitives, and the primitives
@@ -93,6 +93,7 @@ pub record PrimitiveFits (moment : ℕ) (p : Primitive) : Type 0 where
   pub typ : ReferenceFits p.typ
   pub scope : ReferenceFits p.scope
   pub previous : ReferenceFits p.previous
+  pub lang : ReferenceFits p.lang
   pub value : ValueFits p.value
   pub name : NameFits p.name
   pub same : p.moment ≡ moment
@@ -160,10 +161,10 @@ name_at true bytes = text_at bytes >>= λ t. Some (Some t.0, t.1)
 
 -- reads a primitive of this moment
 abbrev pub primitive_at : ℕ → List ℕ → Reads Primitive
-primitive_at moment bytes = u8_at bytes >>= λ f. if nat_le 128 f.0 then None else
-    (reference_at (bit_at f.0 0 == 1) f.1 >>= λ l. reference_at (bit_at f.0 1 == 1) l.1 >>= λ r. reference_at (bit_at f.0 2 == 1) r.1 >>= λ t.
-    reference_at (bit_at f.0 3 == 1) t.1 >>= λ s. reference_at (bit_at f.0 4 == 1) s.1 >>= λ p. value_at p.1 >>= λ v. name_at (bit_at f.0 5 == 1) v.1 >>= λ n.
-    Some (record { left = l.0; right = r.0; typ = t.0; scope = s.0; value = v.0; name = n.0; previous = p.0; live = bit_at f.0 6 == 1; moment = moment }, n.1))
+primitive_at moment bytes = u8_at bytes >>= λ f.
+    reference_at (bit_at f.0 0 == 1) f.1 >>= λ l. reference_at (bit_at f.0 1 == 1) l.1 >>= λ r. reference_at (bit_at f.0 2 == 1) r.1 >>= λ t.
+    reference_at (bit_at f.0 3 == 1) t.1 >>= λ s. reference_at (bit_at f.0 4 == 1) s.1 >>= λ p. reference_at (bit_at f.0 7 == 1) p.1 >>= λ g. value_at g.1 >>= λ v. name_at (bit_at f.0 5 == 1) v.1 >>= λ n.
+    Some (record { left = l.0; right = r.0; typ = t.0; scope = s.0; value = v.0; name = n.0; previous = p.0; live = bit_at f.0 6 == 1; moment = moment; lang = g.0 }, n.1)
 
 -- reads a batch
 abbrev pub batch_at : List ℕ → Reads Batch

@@ -10,8 +10,8 @@ use Rattle.gd_core_laws.proofs.Reading.{same_number}
 use Rattle.gd_core_laws.proofs.Lock.{same_numbers}
 use Rattle.gd_core_laws.proofs.RoundAfter.{equal}
 use Rattle.gd_core_laws.proofs.Sorted.{write_lines_rise}
-use Rattle.gd_caller.specs.Some.{IsSomeOf}
-use Rattle.gd_caller.proofs.Callers.{some_there}
+use Rattle.gd_round_lines.specs.Some.{IsSomeOf}
+use Rattle.gd_round_lines.proofs.Some.{some_there}
 
 -- ---- what is kept of a line
 

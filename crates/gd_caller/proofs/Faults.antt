@@ -9,9 +9,8 @@ use Rattle.gd_defs.specs.Lines.{Refusal, refused_at, bad_cursor, cursor_ahead, o
 use Rattle.gd_defs.specs.Query.{Query}
 use Rattle.gd_defs.specs.Asked.{Asked, Unknown, asked_query}
 use Rattle.gd_defs.specs.Reply.{Path, Mark, reply, meant_line, asked_line, result_line, within_reply, unknown_refusal, rows_after, page, page_cursor, has_more, result_json, has_heavy_candidate, is_heavy_page, max_candidate_weight, max_page_weight, max_reply}
-use Rattle.gd_runs.specs.Request.{ReadRequest, CursorAsk, no_cursor, first_page, page_after, reply_of, page_reply}
+use Rattle.gd_runs.specs.Request.{ReadRequest, CursorAsk, no_cursor, first_page, page_after, reply_of, page_reply, bad_line, bad_form}
 use Rattle.gd_json.specs.declared.from.JsonFault.TheVariants as json_fault
-use Rattle.gd_runs.specs.Request.{bad_line, bad_form}
 use Rattle.gd_runs.specs.Input.{InputFault, line_too_long, no_json, no_line, input_fault_line}
 use Rattle.gd_runs.specs.Explained.{tells_fault, fault_count, memory_line}
 use Rattle.gd_runs.specs.Side.{Kept, kept_stored, kept_late, kept_refused, kept_doubt, kept_unsettled, kept_memory, is_fault, Told}
@@ -19,82 +18,13 @@ use Rattle.gd_core_laws.specs.Bounds.{kept_of}
 use Rattle.gd_core_laws.specs.Round.{kept_reply}
 use Rattle.gd_core_laws.proofs.Lock.{same_numbers}
 use Rattle.gd_core_laws.proofs.Reading.{same_number}
+use Rattle.gd_core_laws.proofs.Quiet.{Quiet, read_quiet, fault_quiet, memory_quiet}
 use Rattle.gd_caller.specs.Told.{MayForget, Forgets, reply_or}
-use Rattle.gd_caller.specs.Served.{IsFirstReply}
+use Rattle.gd_round_lines.specs.Works.{IsFirstReply}
 
 module _ (k : ℕ) where
-  abbrev Quiet : List ℕ → Type 0
-  Quiet reply = tells_fault k reply ≡ false
-
-  ok_quiet : (dateline line : ℕ) (j : Json) → Quiet (ok_line dateline line j)
-  ok_quiet dateline line j = refl
-
-  cursor_quiet : (dateline line : ℕ) (c j : Json) → Quiet (ok_cursor_line dateline line c j)
-  cursor_quiet dateline line c j = refl
-
-  err_quiet : (dateline line : ℕ) (r : Refusal) → Quiet (err_line dateline line r)
-  err_quiet dateline line r = refl
-
-  either_quiet : (b : Bool) (x y : List ℕ) → Quiet x → Quiet y → Quiet (if b then x else y)
-  either_quiet true x y p q = p
-  either_quiet false x y p q = q
-
-  within_quiet : (dateline line : ℕ) (bytes : List ℕ) → Quiet bytes → Quiet (within_reply dateline line bytes)
-  within_quiet dateline line bytes q = either_quiet (nat_lt max_reply (length bytes)) (err_line dateline line (too_large (length bytes))) bytes (err_quiet dateline line (too_large (length bytes))) q
-
-  result_quiet : (dateline line : ℕ) (c : Option Json) (r : Result Json Path) → Quiet (result_line dateline line c r)
-  result_quiet dateline line c (Err path) = err_quiet dateline line (refused_at (codes "NotUnique") path)
-  result_quiet dateline line None (Ok j) = within_quiet dateline line (ok_line dateline line j) (ok_quiet dateline line j)
-  result_quiet dateline line (Some c) (Ok j) = within_quiet dateline line (ok_cursor_line dateline line c j) (cursor_quiet dateline line c j)
-
-  asked_quiet : (prims : List Primitive) (dateline line : ℕ) (w : Bool) (after : Option Mark) (q : Asked) → Quiet (asked_line prims dateline line w after q)
-  asked_quiet prims dateline line w after q =
-      let heavy : Refusal = too_wide (max_candidate_weight + 1) in
-      let wide : Refusal = too_wide (max_page_weight + 1) in
-      let cursor : Option Json = if w then Some (page_cursor dateline (page prims q after) (has_more prims q after)) else None in
-      let result : Result Json Path = result_json prims q (rows_after prims q after) (page prims q after) in
-      let rest : List ℕ = if is_heavy_page prims q after then err_line dateline line wide else result_line dateline line cursor result in
-      either_quiet (has_heavy_candidate prims q) (err_line dateline line heavy) rest (err_quiet dateline line heavy)
-      (either_quiet (is_heavy_page prims q after) (err_line dateline line wide) (result_line dateline line cursor result) (err_quiet dateline line wide) (result_quiet dateline line cursor result))
-
-  meant_quiet : (prims : List Primitive) (dateline line : ℕ) (w : Bool) (after : Option Mark) (r : Result Asked Unknown) → Quiet (meant_line prims dateline line w after r)
-  meant_quiet prims dateline line w after (Err u) = err_quiet dateline line (unknown_refusal u)
-  meant_quiet prims dateline line w after (Ok q) = asked_quiet prims dateline line w after q
-
-  reply_quiet : (prims : List Primitive) (dateline line : ℕ) (w : Bool) (after : Option Mark) (q : Query) → Quiet (reply prims dateline line w after q)
-  reply_quiet prims dateline line w after q = meant_quiet prims dateline line w after (asked_query prims q)
-
-  page_quiet : (bs : List Batch) (snapshot line : ℕ) (q : Query) (r : Result Cursor ℕ) → Quiet (page_reply bs snapshot line q r)
-  page_quiet bs snapshot line q (Err offset) = err_quiet snapshot line (bad_cursor offset)
-  page_quiet bs snapshot line q (Ok c) =
-      either_quiet (nat_lt snapshot c.dateline) (err_line snapshot line (cursor_ahead c.dateline snapshot)) (reply (prims_at bs c.dateline) c.dateline line true (Some c.after) q)
-      (err_quiet snapshot line (cursor_ahead c.dateline snapshot)) (reply_quiet (prims_at bs c.dateline) c.dateline line true (Some c.after) q)
-
-  by_ask : (bs : List Batch) (snapshot line : ℕ) (q : Query) (ask : CursorAsk) → Quiet (reply_of bs snapshot line (record { cursor = ask; query = q }))
-  by_ask bs snapshot line q no_cursor = reply_quiet (prims_at bs snapshot) snapshot line false None q
-  by_ask bs snapshot line q first_page = reply_quiet (prims_at bs snapshot) snapshot line true None q
-  by_ask bs snapshot line q (page_after t) = page_quiet bs snapshot line q (cursor_of t)
-
-  -- no reply to a read does
-  pub read_quiet : (bs : List Batch) (snapshot line : ℕ) (r : ReadRequest) → Quiet (reply_of bs snapshot line r)
-  read_quiet bs snapshot line r = by_ask bs snapshot line r.query r.cursor
-
-  -- nor what is no line, or for which there was no memory
-  pub fault_quiet : (line : ℕ) (f : InputFault) → Quiet (input_fault_line line f)
-  fault_quiet line line_too_long = refl
-  fault_quiet line (no_json json_fault.BadJson) = refl
-  fault_quiet line (no_json json_fault.TooDeep) = refl
-  fault_quiet line (no_json json_fault.TooWide) = refl
-  fault_quiet line (no_json json_fault.FloatValue) = refl
-  fault_quiet line (no_json json_fault.Memory) = refl
-  fault_quiet line (no_line bad_line) = refl
-  fault_quiet line (no_line (bad_form f)) = refl
-
-  pub memory_quiet : (line : ℕ) → Quiet (memory_line line)
-  memory_quiet line = refl
-
   -- the reply to a write tells one only where that is kept
-  pub kept_quiet : (line : ℕ) (kept : Kept) → is_fault kept ≡ false → Quiet (kept_reply line kept)
+  pub kept_quiet : (line : ℕ) (kept : Kept) → is_fault kept ≡ false → Quiet k (kept_reply line kept)
   kept_quiet line (kept_stored e r) none = refl
   kept_quiet line (kept_late e) none = refl
   kept_quiet line (kept_refused f n) none = refl

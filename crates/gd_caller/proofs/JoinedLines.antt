@@ -20,11 +20,14 @@ use Rattle.gd_core_laws.proofs.Sorted.{write_lines_rise, keeps_writes, front_of,
 use Rattle.gd_core_laws.proofs.SideWrites.{walk_keeps}
 use Rattle.gd_core_laws.proofs.Threads.{stands_shown}
 use Rattle.gd_core_laws.proofs.Bounds.{worked_by, read_again_by}
-use Rattle.gd_caller.specs.Some.{IsSomeOf}
+use Rattle.gd_round_lines.specs.Some.{IsSomeOf}
 use Rattle.gd_caller.specs.Told.{Forgets, reply_or}
-use Rattle.gd_caller.specs.Served.{printed, AreOf, IsFirstReply, IsFreshFrom, LeftAreFresh}
+use Rattle.gd_caller.specs.Served.{printed, AreOf, LeftAreFresh}
+use Rattle.gd_round_lines.specs.Works.{IsFirstReply}
+use Rattle.gd_round_lines.specs.Fresh.{IsFreshFrom}
 use Rattle.gd_caller.specs.Writes.{RoseBy}
-use Rattle.gd_caller.proofs.Callers.{some_there, callers_some, callers_fresh}
+use Rattle.gd_round_lines.proofs.Some.{some_there}
+use Rattle.gd_caller.proofs.Callers.{callers_some, callers_fresh}
 use Rattle.gd_caller.proofs.Came.{kept_from, left_from, came_all}
 use Rattle.gd_caller.proofs.ForgottenLock.{history_forgets, lock_forgets, callers_forget_all}
 

@@ -18,24 +18,29 @@ use Rattle.gd_core_laws.specs.Threads.{RoundServed}
 use Rattle.gd_core_laws.proofs.Lines.{session_read}
 use Rattle.gd_core_laws.proofs.LockRun.{history_begins, lock_begins}
 use Rattle.gd_core_laws.proofs.Threads.{are_new}
+use Rattle.gd_core_laws.proofs.Quiet.{read_quiet}
+use Rattle.gd_core_laws.proofs.Prefix.{callers_pass}
 use Rattle.gd_writer.specs.Side.{SideValue, state_of}
-use Rattle.gd_caller.specs.declared.work.ReadLine.{ReadLine}
-use Rattle.gd_caller.specs.declared.work.WriteLine.{WriteLine as Written}
-use Rattle.gd_caller.specs.declared.work.Works.{Works}
+use Rattle.gd_round_lines.specs.declared.work.ReadLine.{ReadLine}
+use Rattle.gd_round_lines.specs.declared.work.WriteLine.{WriteLine as Written}
+use Rattle.gd_round_lines.specs.declared.work.Works.{Works}
 use Rattle.gd_caller.specs.Told.{Forgets, reply_or}
-use Rattle.gd_caller.specs.Served.{printed, AreOf, IsFreshFrom}
-use Rattle.gd_caller.specs.Replies.{round_text, no_memory}
-use Rattle.gd_caller.specs.Works.{write_of, IsReadAmong, AreWithin, AreRead}
+use Rattle.gd_caller.specs.Served.{printed, AreOf}
+use Rattle.gd_round_lines.specs.Fresh.{IsFreshFrom}
+use Rattle.gd_round_lines.specs.Replies.{round_text, no_memory}
+use Rattle.gd_round_lines.specs.Works.{write_of, IsReadAmong, AreWithin, AreRead}
 use Rattle.gd_caller.specs.Writes.{RoseBy, faults_kept}
 use Rattle.gd_caller.specs.Joined.{IsOfWrites, SessionAt, JoinedReply, by_kept, by_caller, by_worker, AnswersJoined}
-use Rattle.gd_caller.proofs.Callers.{some_all, callers_pass, callers_among}
+use Rattle.gd_round_lines.proofs.Some.{some_all}
+use Rattle.gd_caller.proofs.Callers.{callers_among}
 use Rattle.gd_caller.proofs.Forgotten.{forgets_back}
-use Rattle.gd_caller.proofs.Faults.{faults_told_most, forgets_faults, quiet_or, first_quiet, read_quiet, fault_at_line}
+use Rattle.gd_caller.proofs.Faults.{faults_told_most, forgets_faults, quiet_or, first_quiet, fault_at_line}
 use Rattle.gd_caller.proofs.JoinedLines.{CameAs, JoinedLine, first_line, read_line, read_told, joined_round_served, joined_fresh}
 use Rattle.gd_caller.proofs.Left.{written_at}
-use Rattle.gd_caller.proofs.Read.{all_at}
-use Rattle.gd_caller.proofs.Lines.{written_back, lines_within, passed_many, passed_at}
-use Rattle.gd_caller.proofs.Sets.{there}
+use Rattle.gd_round_lines.proofs.Read.{all_at}
+use Rattle.gd_round_lines.proofs.Lines.{written_back, lines_within}
+use Rattle.gd_caller.proofs.Lines.{passed_many, passed_at}
+use Rattle.gd_round_lines.proofs.Sets.{there}
 
 -- ---- what is kept is of the writes that were read
 

@@ -11,16 +11,16 @@ use Rattle.gd_core_laws.specs.Bounds.{kept_of, least_later}
 use Rattle.gd_core_laws.specs.Writes.{RisesBy}
 use Rattle.gd_core_laws.proofs.Reading.{same_number}
 use Rattle.gd_core_laws.proofs.Lock.{same_numbers}
-use Rattle.gd_caller.specs.declared.work.ReadLine.{ReadLine}
-use Rattle.gd_caller.specs.declared.work.WriteLine.{WriteLine}
-use Rattle.gd_caller.specs.declared.worked.Worked.{Worked}
-use Rattle.gd_caller.specs.Works.{write_of, AreApart}
+use Rattle.gd_round_lines.specs.declared.work.ReadLine.{ReadLine}
+use Rattle.gd_round_lines.specs.declared.work.WriteLine.{WriteLine}
+use Rattle.gd_round_lines.specs.declared.worked.Worked.{Worked}
+use Rattle.gd_round_lines.specs.Works.{write_of, AreApart}
 use Rattle.gd_caller.specs.Fits.{FollowsWrite}
 use Rattle.gd_caller.specs.Reads.{IsAnswer, AnswersOne}
-use Rattle.gd_caller.specs.Worked.{IsWorked, AreWorked}
+use Rattle.gd_round_lines.specs.Worked.{IsWorked, AreWorked}
 use Rattle.gd_caller.specs.Joined.{IsOfWrites, SessionAt, JoinedReply, by_kept, by_caller, by_worker, AnswersReads}
-use Rattle.gd_caller.proofs.Read.{all_at}
-use Rattle.gd_caller.proofs.Sets.{set_cases, there, less_or}
+use Rattle.gd_round_lines.proofs.Read.{all_at}
+use Rattle.gd_round_lines.proofs.Sets.{set_cases, there, less_or}
 
 -- the dateline that a stored write told, and 0 where nothing is stored
 abbrev pub entry_told : Option Kept → ℕ

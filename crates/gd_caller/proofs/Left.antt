@@ -12,13 +12,14 @@ use Rattle.gd_runs.specs.Side.{Kept, Told, told_of, WriteLine, IsLeft, is_fault}
 use Rattle.gd_runs.proofs.Rounds.{no_some, some_same}
 use Rattle.gd_core_laws.specs.Writes.{CallerWrites}
 use Rattle.gd_core_laws.specs.Bounds.{kept_of}
+use Rattle.gd_core_laws.proofs.Prefix.{callers_pass}
 use Rattle.gd_writer.specs.Parts.{Tells}
 use Rattle.gd_writer.specs.Side.{SideValue, state_of, KeepsAll, StandsForEither, Writes, GoesOn}
-use Rattle.gd_caller.specs.declared.work.WriteLine.{WriteLine as Written}
-use Rattle.gd_caller.specs.Works.{write_of}
+use Rattle.gd_round_lines.specs.declared.work.WriteLine.{WriteLine as Written}
+use Rattle.gd_round_lines.specs.Works.{write_of}
 use Rattle.gd_caller.specs.Served.{LeftAreFresh}
 use Rattle.gd_caller.specs.Writes.{RoseBy, faults_kept, StandsWritten, WritesLeft}
-use Rattle.gd_caller.proofs.Callers.{callers_join, callers_pass, left_stay_fresh}
+use Rattle.gd_caller.proofs.Callers.{callers_join, left_stay_fresh}
 use Rattle.gd_caller.proofs.Came.{left_from}
 
 -- no session

@@ -4,10 +4,8 @@ pub mod ForgottenLock
 pub mod Came
 pub mod JoinedLines
 pub mod JoinedRounds
-pub mod Read
 pub mod Answered
 pub mod Least
-pub mod Sets
 pub mod Joins
 pub mod Left
 pub mod Tells

@@ -19,18 +19,18 @@ use Rattle.gd_writer.specs.declared.outcome.WriteOf.{WriteOf}
 use Rattle.gd_writer.specs.declared.outcome.Outcome.{Outcome}
 use Rattle.gd_writer.specs.declared.outcome.Outcome.TheVariants as outcome
 use Rattle.gd_writer.specs.Outcomes.{kept_view, told_view, IsTold}
-use Rattle.gd_caller.specs.declared.replies.RoundReply.{RoundReply}
-use Rattle.gd_caller.specs.declared.replies.RoundReply.TheVariants.{Line, Failed, Late}
+use Rattle.gd_round_lines.specs.declared.replies.RoundReply.{RoundReply}
+use Rattle.gd_round_lines.specs.declared.replies.RoundReply.TheVariants.{Line, Failed, Late}
 use Rattle.gd_caller.specs.declared.told.ToldWrite.{ToldWrite}
-use Rattle.gd_caller.specs.declared.work.LineNumber.{LineNumber}
-use Rattle.gd_caller.specs.Replies.{round_text}
-use Rattle.gd_caller.specs.declared.work.WriteLine.{WriteLine}
-use Rattle.gd_caller.specs.Told.{Forgets, no_number, line_number, number_or, reply_or, IsNumber, AreNumbers}
-use Rattle.gd_caller.specs.Works.{IsWriteWithin}
+use Rattle.gd_round_lines.specs.declared.work.LineNumber.{LineNumber}
+use Rattle.gd_round_lines.specs.Replies.{round_text}
+use Rattle.gd_round_lines.specs.declared.work.WriteLine.{WriteLine}
+use Rattle.gd_caller.specs.Told.{Forgets, line_number, number_or, reply_or, IsNumber, AreNumbers}
+use Rattle.gd_round_lines.specs.Works.{no_number, IsWriteWithin}
 use Rattle.gd_caller.specs.Joined.{IsOfWrites}
 use Rattle.gd_caller.specs.Tells.{TellsKept, TellsOne, TellsAll, IsOutcomeWithin}
-use Rattle.gd_caller.proofs.Read.{all_at}
-use Rattle.gd_caller.proofs.Sets.{set_cases, there}
+use Rattle.gd_round_lines.proofs.Read.{all_at}
+use Rattle.gd_round_lines.proofs.Sets.{set_cases, there}
 
 kept_here : (t : Told) (outs : List Told) (k : ℕ) → t.line ≡ k → kept_of (t ∷ outs) k ≡ Some t.kept
 kept_here t outs k is = ap (λ (b : Bool). if b then Some t.kept else kept_of outs k) (ap (λ (n : ℕ). n == k) is ∙ same_number k)

@@ -4,8 +4,8 @@ use Rattle.std.specs.List.{AllByRecursion}
 use Rattle.gd_tree.specs.Json.{Json}
 use Rattle.gd_runs.specs.Side.{Told, kept_stored}
 use Rattle.gd_core_laws.specs.Bounds.{kept_of}
-use Rattle.gd_caller.specs.declared.work.ReadLine.{ReadLine}
-use Rattle.gd_caller.specs.declared.work.WriteLine.{WriteLine}
+use Rattle.gd_round_lines.specs.declared.work.ReadLine.{ReadLine}
+use Rattle.gd_round_lines.specs.declared.work.WriteLine.{WriteLine}
 
 -- a number is greater than the entry of a write, where it is one of the read's session before it that was stored
 abbrev pub FollowsWrite : List Told → ReadLine → ℕ → WriteLine → Type 0

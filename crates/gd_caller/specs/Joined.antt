@@ -6,15 +6,15 @@ use Rattle.gd_runs.specs.Legal.{batches}
 use Rattle.gd_runs.specs.Side.{Told, kept_stored}
 use Rattle.gd_core_laws.specs.Bounds.{kept_of, least_later}
 use Rattle.gd_writer.specs.Side.{SideValue}
-use Rattle.gd_caller.specs.declared.work.ReadLine.{ReadLine}
-use Rattle.gd_caller.specs.declared.work.WriteLine.{WriteLine}
-use Rattle.gd_caller.specs.declared.work.Works.{Works}
-use Rattle.gd_caller.specs.declared.worked.Worked.{Worked}
+use Rattle.gd_round_lines.specs.declared.work.ReadLine.{ReadLine}
+use Rattle.gd_round_lines.specs.declared.work.WriteLine.{WriteLine}
+use Rattle.gd_round_lines.specs.declared.work.Works.{Works}
+use Rattle.gd_round_lines.specs.declared.worked.Worked.{Worked}
 use Rattle.gd_caller.specs.Told.{Forgets, reply_or}
-use Rattle.gd_caller.specs.Replies.{round_text}
-use Rattle.gd_caller.specs.Works.{write_of}
+use Rattle.gd_round_lines.specs.Replies.{round_text}
+use Rattle.gd_round_lines.specs.Works.{write_of}
 use Rattle.gd_caller.specs.Reads.{read_reply}
-use Rattle.gd_caller.specs.Worked.{IsWorked}
+use Rattle.gd_round_lines.specs.Worked.{IsWorked}
 
 -- what is kept is of one of these write lines
 abbrev pub IsOfWrites : List WriteLine → Told → Type 0

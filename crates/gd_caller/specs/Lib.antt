@@ -1,11 +1,7 @@
-pub mod Some
 pub mod Told
 pub mod Served
-pub mod Replies
-pub mod Works
 pub mod Reads
 pub mod Fits
 pub mod Writes
 pub mod Tells
-pub mod Worked
 pub mod Joined

@@ -5,10 +5,10 @@ use Rattle.gd_runs.specs.Request.{reply_of}
 use Rattle.gd_runs.specs.Side.{Told, WriteLine}
 use Rattle.gd_mql.specs.Requests.{read_view}
 use Rattle.gd_core_laws.specs.Bounds.{least_later}
-use Rattle.gd_caller.specs.declared.work.ReadLine.{ReadLine}
-use Rattle.gd_caller.specs.declared.work.WriteLine.{WriteLine as Written}
-use Rattle.gd_caller.specs.declared.worked.Worked.{Worked}
-use Rattle.gd_caller.specs.Works.{write_of}
+use Rattle.gd_round_lines.specs.declared.work.ReadLine.{ReadLine}
+use Rattle.gd_round_lines.specs.declared.work.WriteLine.{WriteLine as Written}
+use Rattle.gd_round_lines.specs.declared.worked.Worked.{Worked}
+use Rattle.gd_round_lines.specs.Works.{write_of}
 use Rattle.gd_caller.specs.Fits.{FollowsWrites}
 
 -- the reply to a read over batches, so many of which are shown, at the greatest number that fits it

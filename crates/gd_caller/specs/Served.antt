@@ -1,8 +1,7 @@
 -- Rounds that are served to their end, or as far as a stop lets them come.
-use Rattle.std.specs.Prelude.{◌≡◌, ◌⊎◌, ℕ, ◌≤◌, List, [], ◌∷◌, ◌++◌, flat_map, Bool, Option, Some, Err, slice_get}
-use Rattle.gd_runs.specs.Input.{InputFault, line_from, input_fault_line}
+use Rattle.std.specs.Prelude.{◌≡◌, ℕ, List, [], ◌∷◌, ◌++◌, flat_map, Bool, Option, Some, slice_get}
 use Rattle.gd_runs.specs.Legal.{Entry, History, batches}
-use Rattle.gd_runs.specs.Explained.{Numbered, Run, memory_line}
+use Rattle.gd_runs.specs.Explained.{Numbered, Run}
 use Rattle.gd_runs.specs.Core.{State}
 use Rattle.gd_runs.specs.Side.{Told, WriteLine, IsFresh, IsLeft, doubt_groups}
 use Rattle.gd_bytes.specs.File.{MayStandFor}
@@ -17,17 +16,9 @@ printed replies = flat_map (λ reply. reply ++ 10 ∷ []) replies
 abbrev pub AreOf : ℕ → List Numbered → Type 0
 AreOf round given = (j : ℕ) (l : Numbered) → slice_get given j ≡ Some l → l.round ≡ round
 
--- no entry and no group in doubt is of line n or a later one
-abbrev pub IsFreshFrom : ℕ → History → Option Entry → Type 0
-IsFreshFrom n h doubt = (k : ℕ) → n ≤ k → IsFresh h doubt k
-
 -- no entry and no group in doubt is of a write line of which nothing is kept
 abbrev pub LeftAreFresh : List WriteLine → History → Option Entry → List Told → Type 0
 LeftAreFresh ls h doubt outcomes = (x : ℕ) (a : WriteLine) → slice_get ls x ≡ Some a → IsLeft outcomes a.line → IsFresh h doubt a.line
-
--- the first reply to line k of these bytes: why they are no line, or that there was no memory
-abbrev pub IsFirstReply : ℕ → List ℕ → List ℕ → Type 0
-IsFirstReply k bytes reply = ((f : InputFault) × (line_from bytes ≡ Err f) × (reply ≡ input_fault_line k f)) ⊎ (reply ≡ memory_line k)
 
 -- the bytes stand for the history of a state, with all or none of the group in doubt
 abbrev pub StandsForState : State → List ℕ → Type 0

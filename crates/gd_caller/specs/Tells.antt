@@ -5,8 +5,8 @@ use Rattle.gd_core_laws.specs.Bounds.{kept_of}
 use Rattle.gd_core_laws.specs.Round.{kept_reply}
 use Rattle.gd_writer.specs.declared.outcome.WriteOf.{WriteOf}
 use Rattle.gd_caller.specs.declared.told.ToldWrite.{ToldWrite}
-use Rattle.gd_caller.specs.declared.work.LineNumber.{LineNumber}
-use Rattle.gd_caller.specs.Replies.{round_text}
+use Rattle.gd_round_lines.specs.declared.work.LineNumber.{LineNumber}
+use Rattle.gd_round_lines.specs.Replies.{round_text}
 use Rattle.gd_caller.specs.Told.{MayForget, Forgets, line_number, number_or, reply_or}
 
 -- what is kept is of a line of the round, from line first up to an end

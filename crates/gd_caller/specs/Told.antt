@@ -3,7 +3,7 @@ use Rattle.std.specs.Prelude.{◌≡◌, ◌⊎◌, ℕ, ◌+◌, List, [], ◌�
 use Rattle.gd_runs.specs.Side.{Kept, kept_stored, kept_refused, kept_memory, number_of, Told}
 use Rattle.gd_core_laws.specs.Bounds.{kept_of}
 use Rattle.gd_core_laws.specs.Round.{kept_reply}
-use Rattle.gd_caller.specs.declared.work.LineNumber.{LineNumber}
+use Rattle.gd_round_lines.specs.declared.work.LineNumber.{LineNumber}
 
 -- what was kept is told, or of a refusal that there was no memory
 abbrev pub MayForget : Kept → Kept → Type 0
@@ -20,10 +20,6 @@ Forgets _ _ = ⊥
 abbrev pub entry_of : Kept → Option ℕ
 entry_of (kept_stored e r) = Some e
 entry_of _ = None
-
--- a line without a number
-abbrev pub no_number : LineNumber
-no_number = record { number = None; entry = None }
 
 -- what a line came to, by numbers
 abbrev pub line_number : Kept → LineNumber

@@ -1,26 +1,18 @@
 -- What the writes that are left to the caller do to a write side.
-use Rattle.std.specs.Prelude.{◌≡◌, ◌<◌, ℕ, ◌+◌, ◌-◌, ◌^◌, ◌≤◌, min, List, count_by, Bool, Option}
+use Rattle.std.specs.Prelude.{◌≡◌, ℕ, ◌+◌, ◌^◌, ◌≤◌, List, count_by, Bool, Option}
 use Rattle.std.specs.Option.{is_some}
+pub use Rattle.gd_base.specs.Counts.{RoseBy}
 use Rattle.gd_bytes.specs.Disk.{LeavesOnly}
 use Rattle.gd_runs.specs.Core.{Session}
 use Rattle.gd_runs.specs.Side.{Told, WriteLine, is_fault}
 use Rattle.gd_core_laws.specs.Writes.{CallerWrites}
 use Rattle.gd_writer.specs.Parts.{Tells}
 use Rattle.gd_writer.specs.Side.{SideValue, state_of}
-use Rattle.gd_caller.specs.declared.work.WriteLine.{WriteLine as Written}
 use Rattle.gd_caller.specs.Served.{StandsAfterSome}
-
--- the count of faults rose by so many, or stands at its type's end
-abbrev pub RoseBy : ℕ → ℕ → ℕ → Type 0
-RoseBy before after n = min (before + n) (2 ^ 64 - 1) ≤ after
 
 -- how many of what is kept tell a failure of the disk
 abbrev pub faults_kept : List Told → ℕ
 faults_kept outcomes = count_by (λ t. is_fault t.kept) outcomes
-
--- a write has no more bytes than a line has, and a number that a reply tells
-abbrev pub MayBeWritten : Written → Type 0
-MayBeWritten w = (w.bytes ≤ 262_144) × (w.line < 2 ^ 63)
 
 -- the bytes stand for a side after some of these writes, whichever sessions there are
 abbrev pub StandsWritten : {D C : Type 0} → (ℕ → Bool) → SideValue D C → List WriteLine → List ℕ → Type 0

@@ -2,20 +2,20 @@
 ghost use Rattle.std.specs.Prelude.{◌≡◌, ◌<◌, ◌+◌, ◌^◌, [], length, map};
 ghost use Rattle.std.specs.List.{AllByRecursion};
 ghost use Rattle.gd_runs.specs.Legal.{batches};
-ghost use Rattle.gd_caller.specs.Replies.{round_text};
-ghost use Rattle.gd_caller.specs.Works.{AreWithin};
-ghost use Rattle.gd_caller.specs.Worked.{AreWorked};
+ghost use Rattle.gd_round_lines.specs.Replies.{round_text};
+ghost use Rattle.gd_round_lines.specs.Works.{AreWithin};
+ghost use Rattle.gd_round_lines.specs.Worked.{AreWorked};
 ghost use Rattle.gd_caller.specs.Joined.{IsOfWrites, AnswersJoined};
 
 use crate::numbers::Standing;
 use crate::reads::answer_reads;
-use crate::replies::RoundReply;
 use crate::told::tell_all;
-use crate::work::Works;
-use crate::worked::Worked;
 use gd_base::steps::Steps;
 use gd_disk::disk::Disk;
 use gd_outside::clock::Clock;
+use gd_round_lines::replies::RoundReply;
+use gd_round_lines::work::Works;
+use gd_round_lines::worked::Worked;
 use gd_writer::side::WriteSide;
 use std::alloc::Global;
 

@@ -4,8 +4,5 @@
 pub mod joined;
 pub mod numbers;
 pub mod reads;
-pub mod replies;
 mod told;
-pub mod work;
-pub mod worked;
 pub mod writes;

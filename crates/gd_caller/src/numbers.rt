@@ -5,10 +5,10 @@ ghost use Rattle.gd_runs.specs.Side.{Told};
 ghost use Rattle.gd_core_laws.specs.Bounds as bounds;
 ghost use Rattle.gd_core_laws.specs.Bounds.{kept_of};
 ghost use Rattle.gd_caller.specs.Told.{AreNumbers, IsNumber};
-ghost use Rattle.gd_caller.specs.Works.{write_of, IsWriteWithin};
+ghost use Rattle.gd_round_lines.specs.Works.{write_of, IsWriteWithin};
 ghost use Rattle.gd_caller.specs.Fits.{FollowsWrite, FollowsWrites};
 
-use crate::work::{LineNumber, ReadLine, WriteLine};
+use gd_round_lines::work::{LineNumber, ReadLine, WriteLine};
 use gd_store::store::Store;
 
 /// What stands when the reads of a round are answered: the working store, how much of it is shown, and the write lines of

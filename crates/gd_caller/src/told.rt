@@ -7,17 +7,17 @@ ghost use Rattle.gd_runs.specs.Side.{kept_refused};
 ghost use Rattle.gd_change.specs.Fault.{fault_of, IsSmall};
 ghost use Rattle.gd_reply.specs.Refusals.{refusal_of, CountsFit};
 ghost use Rattle.gd_writer.specs.Outcomes.{kept_view, told_view, IsTold};
-ghost use Rattle.gd_caller.specs.Replies.{round_text};
+ghost use Rattle.gd_round_lines.specs.Replies.{round_text};
 ghost use Rattle.gd_caller.specs.Tells.{TellsKept, TellsOne, TellsAll, IsOutcomeWithin};
 
 use crate::reads::put;
-use crate::replies::RoundReply;
-use crate::work::LineNumber;
 use gd_base::memory::Memory;
 use gd_change::fault::ChangeFault;
 use gd_reply::lines::err_line;
 use gd_reply::refusal::Refusal;
 use gd_reply::reply::Failure;
+use gd_round_lines::replies::RoundReply;
+use gd_round_lines::work::LineNumber;
 use gd_writer::outcome::{Outcome, WriteOf};
 use std::alloc::Global;
 

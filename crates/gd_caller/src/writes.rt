@@ -4,13 +4,13 @@ ghost use Rattle.std.specs.List.{AllByRecursion};
 ghost use Rattle.std.specs.Option.{is_some};
 ghost use Rattle.gd_runs.specs.Side.{IsLeft, IsFresh};
 ghost use Rattle.gd_core_laws.specs.Bounds.{kept_of};
-ghost use Rattle.gd_caller.specs.Works.{write_of};
-ghost use Rattle.gd_caller.specs.Writes.{MayBeWritten, WritesLeft};
+ghost use Rattle.gd_round_lines.specs.Works.{write_of, MayBeWritten};
+ghost use Rattle.gd_caller.specs.Writes.{WritesLeft};
 ghost use Rattle.gd_caller.specs.Served.{LeftAreFresh};
 
-use crate::work::WriteLine;
 use gd_disk::disk::Disk;
 use gd_outside::clock::Clock;
+use gd_round_lines::work::WriteLine;
 use gd_writer::side::WriteSide;
 use std::sync::Wait;
 

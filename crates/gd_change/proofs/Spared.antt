@@ -12,7 +12,7 @@ use Rattle.gd_defs.specs.Change as change
 use Rattle.gd_defs.specs.Change.{CreateWord, unless_exists, unconditional, ConnectWord, insert, delete, update}
 use Rattle.gd_defs.specs.Write.{carried_root, root_subject}
 use Rattle.gd_defs.specs.Write.Parts.{Target, to_object, to_value, to_key, has_fact, is_target, equal_links, Item, as_spelled, its_id, its_guid, fact, connect, nested, several, ManyItems, no_more, and_then, Members, no_members, member, created}
-use Rattle.gd_defs.specs.Write.Links.{ChangeFault, unknown, not_unique, stale_version, full, Stamp, Done, deletion, new_link, other_holder, unless_taken, refused, inserted, deleted, updated, is_link_of, updated_from, connected}
+use Rattle.gd_defs.specs.Write.Links.{ChangeFault, unknown, not_unique, stale_version, full, Stamp, Done, deletion, new_link, other_holder, unless_taken, refused, inserted, deleted, updated, is_link_of, target_language, updated_from, connected}
 use Rattle.gd_defs.specs.Write.Carried.{answered, has_own, Subject, subject_of, created_text, fact_made, carried, carried_item, carried_items}
 
 -- the refusal tells of no limit
@@ -68,8 +68,8 @@ updated_from-spares : (s : Stamp) (path : List (List ℕ)) (prims : List Primiti
 updated_from-spares s path prims p o t k = by (successor prims k) refl
   where
     by : (n : Option ℕ) → successor prims k ≡ n → Spares (updated_from s path prims p o t k)
-    by (Some n) succeeds = rw succeeds (either (not (is_link_of prims p o k)) (refused bad_previous (path ++ codes "previous" ∷ [])) (Err (stale_version k n)) tt tt)
-    by None succeeds = rw succeeds (of_three (not (is_link_of prims p o k)) (is_target prims p t k) (refused bad_previous (path ++ codes "previous" ∷ [])) (Ok (prims, codes "present")) (Ok (prims ++ new_link s p o t (Some k) ∷ [], codes "updated")) tt tt tt)
+    by (Some n) succeeds = rw succeeds (either (not (is_link_of prims p o (target_language p t) k)) (refused bad_previous (path ++ codes "previous" ∷ [])) (Err (stale_version k n)) tt tt)
+    by None succeeds = rw succeeds (of_three (not (is_link_of prims p o (target_language p t) k)) (is_target prims p t k) (refused bad_previous (path ++ codes "previous" ∷ [])) (Ok (prims, codes "present")) (Ok (prims ++ new_link s p o t (Some k) ∷ [], codes "updated")) tt tt tt)
 
 connected-spares : (s : Stamp) (path : List (List ℕ)) (prims : List Primitive) (p : Property) (o : ℕ) (w : ConnectWord) (t : Target) (previous : Option ℕ) → Spares (connected s path prims p o w t previous)
 connected-spares s path prims p o insert t previous = inserted-spares s path prims p o t

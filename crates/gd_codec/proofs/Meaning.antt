@@ -257,23 +257,29 @@ module _ (m f : ℕ) where
   abbrev Ref : Type 0
   Ref = Option ℕ
 
-  abbrev named_at : Ref → Ref → Ref → Ref → Ref → Datum → List ℕ → Reads Primitive
-  named_at l r t s p v bytes = meant.name_at (flag_at f 5) bytes >>= λ n. Some (prims.made m f l r t s p v n.0, n.1)
+  abbrev named_at : Ref → Ref → Ref → Ref → Ref → Ref → Datum → List ℕ → Reads Primitive
+  named_at l r t s p g v bytes = meant.name_at (flag_at f 5) bytes >>= λ n. Some (prims.made m f l r t s p g v n.0, n.1)
 
-  named : (l r t s p : Ref) (v : Datum) → Means (prims.Named m f l r t s p v) (named_at l r t s p v)
-  named l r t s p v = Means-then (values.Name (flag_at f 5)) (λ n. Only (prims.made m f l r t s p v n)) (meant.name_at (flag_at f 5)) (λ n bytes. Some (prims.made m f l r t s p v n, bytes)) (means_name (flag_at f 5)) (λ n. Means-only (prims.made m f l r t s p v n))
+  named : (l r t s p g : Ref) (v : Datum) → Means (prims.Named m f l r t s p g v) (named_at l r t s p g v)
+  named l r t s p g v = Means-then (values.Name (flag_at f 5)) (λ n. Only (prims.made m f l r t s p g v n)) (meant.name_at (flag_at f 5)) (λ n bytes. Some (prims.made m f l r t s p g v n, bytes)) (means_name (flag_at f 5)) (λ n. Means-only (prims.made m f l r t s p g v n))
 
-  abbrev valued_at : Ref → Ref → Ref → Ref → Ref → List ℕ → Reads Primitive
-  valued_at l r t s p bytes = meant.value_at bytes >>= λ v. named_at l r t s p v.0 v.1
+  abbrev valued_at : Ref → Ref → Ref → Ref → Ref → Ref → List ℕ → Reads Primitive
+  valued_at l r t s p g bytes = meant.value_at bytes >>= λ v. named_at l r t s p g v.0 v.1
 
-  valued : (l r t s p : Ref) → Means (prims.Valued m f l r t s p) (valued_at l r t s p)
-  valued l r t s p = Means-then values.Value (prims.Named m f l r t s p) meant.value_at (named_at l r t s p) means_value (λ v. named l r t s p v)
+  valued : (l r t s p g : Ref) → Means (prims.Valued m f l r t s p g) (valued_at l r t s p g)
+  valued l r t s p g = Means-then values.Value (prims.Named m f l r t s p g) meant.value_at (named_at l r t s p g) means_value (λ v. named l r t s p g v)
+
+  abbrev lang_at : Ref → Ref → Ref → Ref → Ref → List ℕ → Reads Primitive
+  lang_at l r t s p bytes = meant.reference_at (flag_at f 7) bytes >>= λ g. valued_at l r t s p g.0 g.1
+
+  lang : (l r t s p : Ref) → Means (prims.Lang m f l r t s p) (lang_at l r t s p)
+  lang l r t s p = Means-then (values.Reference (flag_at f 7)) (prims.Valued m f l r t s p) (meant.reference_at (flag_at f 7)) (valued_at l r t s p) (means_reference (flag_at f 7)) (λ g. valued l r t s p g)
 
   abbrev previous_at : Ref → Ref → Ref → Ref → List ℕ → Reads Primitive
-  previous_at l r t s bytes = meant.reference_at (flag_at f 4) bytes >>= λ p. valued_at l r t s p.0 p.1
+  previous_at l r t s bytes = meant.reference_at (flag_at f 4) bytes >>= λ p. lang_at l r t s p.0 p.1
 
   previous : (l r t s : Ref) → Means (prims.Previous m f l r t s) (previous_at l r t s)
-  previous l r t s = Means-then (values.Reference (flag_at f 4)) (prims.Valued m f l r t s) (meant.reference_at (flag_at f 4)) (valued_at l r t s) (means_reference (flag_at f 4)) (λ p. valued l r t s p)
+  previous l r t s = Means-then (values.Reference (flag_at f 4)) (prims.Lang m f l r t s) (meant.reference_at (flag_at f 4)) (lang_at l r t s) (means_reference (flag_at f 4)) (λ p. lang l r t s p)
 
   abbrev scope_at : Ref → Ref → Ref → List ℕ → Reads Primitive
   scope_at l r t bytes = meant.reference_at (flag_at f 3) bytes >>= λ s. previous_at l r t s.0 s.1
@@ -300,24 +306,23 @@ module _ (m f : ℕ) where
   left = Means-then (values.Reference (flag_at f 0)) (prims.Right m f) (meant.reference_at (flag_at f 0)) right_at (means_reference (flag_at f 0)) (λ l. right l)
 
 abbrev Flagged : ℕ → Primitive → List ℕ → Type 0
-Flagged m = Then OneOf (λ f. Unless (nat_le 128 f) (prims.Left m f))
+Flagged m = Then OneOf (prims.Left m)
 
 to_parts : (m : ℕ) (x : Primitive) (w : List ℕ) → Flagged m x w → prims.Parts m x w
-to_parts m x w (f, v, u, (small, v_is), (fails, s), w_is) =
-    let few = not_le 128 f fails in
+to_parts m x w (f, v, u, (small, v_is), s, w_is) =
     let byte : f ≡ f % 256 = omega arith in
-    (f, bytes_high_first 1 f, u, (omega arith, omega (arith, few), refl), s, w_is ∙ ap (λ (l : List ℕ). l ++ u) v_is ∙ ap (λ (b : ℕ). b ∷ u) byte)
+    (f, bytes_high_first 1 f, u, (omega arith, omega arith, refl), s, w_is ∙ ap (λ (l : List ℕ). l ++ u) v_is ∙ ap (λ (b : ℕ). b ∷ u) byte)
 
 from_parts : (m : ℕ) (x : Primitive) (w : List ℕ) → prims.Parts m x w → Flagged m x w
 from_parts m x w (f, v, u, (low, high, v_is), s, w_is) =
     let byte : f % 256 ≡ f = omega (arith, high) in
-    (f, f ∷ [], u, (omega (arith, high), refl), (le_not 128 f (omega (arith, high)), s), w_is ∙ ap (λ (l : List ℕ). l ++ u) v_is ∙ ap (λ (b : ℕ). b ∷ u) byte)
+    (f, f ∷ [], u, (omega (arith, high), refl), s, w_is ∙ ap (λ (l : List ℕ). l ++ u) v_is ∙ ap (λ (b : ℕ). b ∷ u) byte)
 
 means_primitive : (m : ℕ) → Means (prims.Spelled m) (meant.primitive_at m)
 means_primitive m =
     Means-same (prims.Parts m) (prims.Spelled m) (meant.primitive_at m) (prims.to_spelled m) (prims.from_spelled m)
     (Means-same (Flagged m) (prims.Parts m) (meant.primitive_at m) (to_parts m) (from_parts m)
-    (Means-then OneOf (λ f. Unless (nat_le 128 f) (prims.Left m f)) options.u8_at (λ f bytes. if nat_le 128 f then None else left_at m f bytes) Means-u8 (λ f. Means-unless (nat_le 128 f) (prims.Left m f) (left_at m f) (left m f))))
+    (Means-then OneOf (prims.Left m) options.u8_at (λ f bytes. left_at m f bytes) Means-u8 (λ f. left m f)))
 
 -- ---- batches
 

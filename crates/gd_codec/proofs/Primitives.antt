@@ -32,14 +32,14 @@ digit_one true = refl
 digit_one false = refl
 
 -- the flags, each worth twice the one before
-abbrev sum : Bool → Bool → Bool → Bool → Bool → Bool → Bool → ℕ
-sum a b c d e f g = flag 1 a + flag 2 b + flag 4 c + flag 8 d + flag 16 e + flag 32 f + flag 64 g
+abbrev sum : Bool → Bool → Bool → Bool → Bool → Bool → Bool → Bool → ℕ
+sum a b c d e f g h = flag 1 a + flag 2 b + flag 4 c + flag 8 d + flag 16 e + flag 32 f + flag 64 g + flag 128 h
 
-digits : (a b c d e f g : Bool) → sum a b c d e f g ≡ digit a + 2 * digit b + 4 * digit c + 8 * digit d + 16 * digit e + 32 * digit f + 64 * digit g
-digits a b c d e f g = omega (arith, flag_is 1 a, flag_is 2 b, flag_is 4 c, flag_is 8 d, flag_is 16 e, flag_is 32 f, flag_is 64 g)
+digits : (a b c d e f g h : Bool) → sum a b c d e f g h ≡ digit a + 2 * digit b + 4 * digit c + 8 * digit d + 16 * digit e + 32 * digit f + 64 * digit g + 128 * digit h
+digits a b c d e f g h = omega (arith, flag_is 1 a, flag_is 2 b, flag_is 4 c, flag_is 8 d, flag_is 16 e, flag_is 32 f, flag_is 64 g, flag_is 128 h)
 
-record Seven (n : ℕ) (a b c d e f g : Bool) : Type 0 where
-  small : n ≤ 127
+record Eight (n : ℕ) (a b c d e f g h : Bool) : Type 0 where
+  small : n ≤ 255
   at_0 : flag_at n 0 ≡ a
   at_1 : flag_at n 1 ≡ b
   at_2 : flag_at n 2 ≡ c
@@ -47,18 +47,19 @@ record Seven (n : ℕ) (a b c d e f g : Bool) : Type 0 where
   at_4 : flag_at n 4 ≡ e
   at_5 : flag_at n 5 ≡ f
   at_6 : flag_at n 6 ≡ g
+  at_7 : flag_at n 7 ≡ h
 
 bit : (n i : ℕ) (b : Bool) → n / 2 ^ i % 2 ≡ digit b → flag_at n i ≡ b
 bit n i b is = ap (λ (x : ℕ). x == 1) is ∙ digit_one b
 
-number_bits : (n a b c d e f g : ℕ) → a < 2 → b < 2 → c < 2 → d < 2 → e < 2 → f < 2 → g < 2 → n ≡ a + 2 * b + 4 * c + 8 * d + 16 * e + 32 * f + 64 * g
-    → (n ≤ 127) × (n / 1 % 2 ≡ a) × (n / 2 % 2 ≡ b) × (n / 4 % 2 ≡ c) × (n / 8 % 2 ≡ d) × (n / 16 % 2 ≡ e) × (n / 32 % 2 ≡ f) × (n / 64 % 2 ≡ g)
-number_bits n a b c d e f g p q r s t u v is = (omega arith, omega arith, omega arith, omega arith, omega arith, omega arith, omega arith, omega arith)
+number_bits : (n a b c d e f g h : ℕ) → a < 2 → b < 2 → c < 2 → d < 2 → e < 2 → f < 2 → g < 2 → h < 2 → n ≡ a + 2 * b + 4 * c + 8 * d + 16 * e + 32 * f + 64 * g + 128 * h
+    → (n ≤ 255) × (n / 1 % 2 ≡ a) × (n / 2 % 2 ≡ b) × (n / 4 % 2 ≡ c) × (n / 8 % 2 ≡ d) × (n / 16 % 2 ≡ e) × (n / 32 % 2 ≡ f) × (n / 64 % 2 ≡ g) × (n / 128 % 2 ≡ h)
+number_bits n a b c d e f g h p q r s t u v w is = (omega arith, omega arith, omega arith, omega arith, omega arith, omega arith, omega arith, omega arith, omega arith)
 
-seven : (a b c d e f g : Bool) → Seven (sum a b c d e f g) a b c d e f g
-seven a b c d e f g =
-    let n = sum a b c d e f g in
-    let (small, x0, x1, x2, x3, x4, x5, x6) = number_bits n (digit a) (digit b) (digit c) (digit d) (digit e) (digit f) (digit g) (digit_small a) (digit_small b) (digit_small c) (digit_small d) (digit_small e) (digit_small f) (digit_small g) (digits a b c d e f g) in
+eight : (a b c d e f g h : Bool) → Eight (sum a b c d e f g h) a b c d e f g h
+eight a b c d e f g h =
+    let n = sum a b c d e f g h in
+    let (small, x0, x1, x2, x3, x4, x5, x6, x7) = number_bits n (digit a) (digit b) (digit c) (digit d) (digit e) (digit f) (digit g) (digit h) (digit_small a) (digit_small b) (digit_small c) (digit_small d) (digit_small e) (digit_small f) (digit_small g) (digit_small h) (digits a b c d e f g h) in
     record {
       small = small;
       at_0 = bit n 0 a x0;
@@ -68,6 +69,7 @@ seven a b c d e f g =
       at_4 = bit n 4 e x4;
       at_5 = bit n 5 f x5;
       at_6 = bit n 6 g x6;
+      at_7 = bit n 7 h x7;
     }
 
 bit_digit : (n i : ℕ) → digit (flag_at n i) ≡ n / 2 ^ i % 2
@@ -76,51 +78,60 @@ bit_digit n i = two (n / 2 ^ i % 2) (omega arith)
     two : (x : ℕ) → x < 2 → (if x == 1 then 1 else 0) ≡ x
     two x h = grind (arith, nat_tests)
 
-number_sum : (n : ℕ) → n ≤ 127 → n / 1 % 2 + 2 * (n / 2 % 2) + 4 * (n / 4 % 2) + 8 * (n / 8 % 2) + 16 * (n / 16 % 2) + 32 * (n / 32 % 2) + 64 * (n / 64 % 2) ≡ n
+number_sum : (n : ℕ) → n ≤ 255 → n / 1 % 2 + 2 * (n / 2 % 2) + 4 * (n / 4 % 2) + 8 * (n / 8 % 2) + 16 * (n / 16 % 2) + 32 * (n / 32 % 2) + 64 * (n / 64 % 2) + 128 * (n / 128 % 2) ≡ n
 number_sum n h = omega arith
 
 -- a number is the sum of its flags
-sum_back : (n : ℕ) → n ≤ 127 → sum (flag_at n 0) (flag_at n 1) (flag_at n 2) (flag_at n 3) (flag_at n 4) (flag_at n 5) (flag_at n 6) ≡ n
+sum_back : (n : ℕ) → n ≤ 255 → sum (flag_at n 0) (flag_at n 1) (flag_at n 2) (flag_at n 3) (flag_at n 4) (flag_at n 5) (flag_at n 6) (flag_at n 7) ≡ n
 sum_back n h =
-    let all = digits (flag_at n 0) (flag_at n 1) (flag_at n 2) (flag_at n 3) (flag_at n 4) (flag_at n 5) (flag_at n 6) in
+    let all = digits (flag_at n 0) (flag_at n 1) (flag_at n 2) (flag_at n 3) (flag_at n 4) (flag_at n 5) (flag_at n 6) (flag_at n 7) in
     let whole = number_sum n h in
-    omega (arith, all, whole, bit_digit n 0, bit_digit n 1, bit_digit n 2, bit_digit n 3, bit_digit n 4, bit_digit n 5, bit_digit n 6)
+    omega (arith, all, whole, bit_digit n 0, bit_digit n 1, bit_digit n 2, bit_digit n 3, bit_digit n 4, bit_digit n 5, bit_digit n 6, bit_digit n 7)
 
 -- ---- the parts of a primitive, one after another
 
 abbrev pub Ref : Type 0
 Ref = Option ℕ
 
-abbrev pub made : ℕ → ℕ → Ref → Ref → Ref → Ref → Ref → Datum → Option (List ℕ) → Primitive
-made m f l r t s p v n = record { left = l; right = r; typ = t; scope = s; value = v; name = n; previous = p; live = flag_at f 6; moment = m }
+abbrev pub made : ℕ → ℕ → Ref → Ref → Ref → Ref → Ref → Ref → Datum → Option (List ℕ) → Primitive
+made m f l r t s p g v n = record { left = l; right = r; typ = t; scope = s; value = v; name = n; previous = p; live = flag_at f 6; moment = m; lang = g }
 
 module _ (m f : ℕ) where
-  abbrev pub Named : Ref → Ref → Ref → Ref → Ref → Datum → Primitive → List ℕ → Type 0
-  Named l r t s p v = Then (Name (flag_at f 5)) (λ n. Only (made m f l r t s p v n))
+  abbrev pub Named : Ref → Ref → Ref → Ref → Ref → Ref → Datum → Primitive → List ℕ → Type 0
+  Named l r t s p g v = Then (Name (flag_at f 5)) (λ n. Only (made m f l r t s p g v n))
 
-  abbrev named_at : Ref → Ref → Ref → Ref → Ref → Datum → List ℕ → Reads Primitive
-  named_at l r t s p v = chain (name_at (flag_at f 5)) (λ n bytes. Ok (made m f l r t s p v n, bytes))
+  abbrev named_at : Ref → Ref → Ref → Ref → Ref → Ref → Datum → List ℕ → Reads Primitive
+  named_at l r t s p g v = chain (name_at (flag_at f 5)) (λ n bytes. Ok (made m f l r t s p g v n, bytes))
 
-  named : (l r t s p : Ref) (v : Datum) → Sound (Named l r t s p v) (named_at l r t s p v)
-  named l r t s p v = Sound-then (Name (flag_at f 5)) (λ n. Only (made m f l r t s p v n)) (name_at (flag_at f 5)) (λ n bytes. Ok (made m f l r t s p v n, bytes)) (Sound-name (flag_at f 5)) (λ n w x. Sound-only (made m f l r t s p v n))
+  named : (l r t s p g : Ref) (v : Datum) → Sound (Named l r t s p g v) (named_at l r t s p g v)
+  named l r t s p g v = Sound-then (Name (flag_at f 5)) (λ n. Only (made m f l r t s p g v n)) (name_at (flag_at f 5)) (λ n bytes. Ok (made m f l r t s p g v n, bytes)) (Sound-name (flag_at f 5)) (λ n w x. Sound-only (made m f l r t s p g v n))
 
-  abbrev pub Valued : Ref → Ref → Ref → Ref → Ref → Primitive → List ℕ → Type 0
-  Valued l r t s p = Then Value (Named l r t s p)
+  abbrev pub Valued : Ref → Ref → Ref → Ref → Ref → Ref → Primitive → List ℕ → Type 0
+  Valued l r t s p g = Then Value (Named l r t s p g)
 
-  abbrev valued_at : Ref → Ref → Ref → Ref → Ref → List ℕ → Reads Primitive
-  valued_at l r t s p = chain value_at (named_at l r t s p)
+  abbrev valued_at : Ref → Ref → Ref → Ref → Ref → Ref → List ℕ → Reads Primitive
+  valued_at l r t s p g = chain value_at (named_at l r t s p g)
 
-  valued : (l r t s p : Ref) → Sound (Valued l r t s p) (valued_at l r t s p)
-  valued l r t s p = Sound-then Value (Named l r t s p) value_at (named_at l r t s p) Sound-value (λ v w x. named l r t s p v)
+  valued : (l r t s p g : Ref) → Sound (Valued l r t s p g) (valued_at l r t s p g)
+  valued l r t s p g = Sound-then Value (Named l r t s p g) value_at (named_at l r t s p g) Sound-value (λ v w x. named l r t s p g v)
+
+  abbrev pub Lang : Ref → Ref → Ref → Ref → Ref → Primitive → List ℕ → Type 0
+  Lang l r t s p = Then (Reference (flag_at f 7)) (Valued l r t s p)
+
+  abbrev lang_at : Ref → Ref → Ref → Ref → Ref → List ℕ → Reads Primitive
+  lang_at l r t s p = chain (reference_at (flag_at f 7)) (valued_at l r t s p)
+
+  lang : (l r t s p : Ref) → Sound (Lang l r t s p) (lang_at l r t s p)
+  lang l r t s p = Sound-then (Reference (flag_at f 7)) (Valued l r t s p) (reference_at (flag_at f 7)) (valued_at l r t s p) (Sound-reference (flag_at f 7)) (λ g w x. valued l r t s p g)
 
   abbrev pub Previous : Ref → Ref → Ref → Ref → Primitive → List ℕ → Type 0
-  Previous l r t s = Then (Reference (flag_at f 4)) (Valued l r t s)
+  Previous l r t s = Then (Reference (flag_at f 4)) (Lang l r t s)
 
   abbrev previous_at : Ref → Ref → Ref → Ref → List ℕ → Reads Primitive
-  previous_at l r t s = chain (reference_at (flag_at f 4)) (valued_at l r t s)
+  previous_at l r t s = chain (reference_at (flag_at f 4)) (lang_at l r t s)
 
   previous : (l r t s : Ref) → Sound (Previous l r t s) (previous_at l r t s)
-  previous l r t s = Sound-then (Reference (flag_at f 4)) (Valued l r t s) (reference_at (flag_at f 4)) (valued_at l r t s) (Sound-reference (flag_at f 4)) (λ p w x. valued l r t s p)
+  previous l r t s = Sound-then (Reference (flag_at f 4)) (Lang l r t s) (reference_at (flag_at f 4)) (lang_at l r t s) (Sound-reference (flag_at f 4)) (λ p w x. lang l r t s p)
 
   abbrev pub Scope : Ref → Ref → Ref → Primitive → List ℕ → Type 0
   Scope l r t = Then (Reference (flag_at f 3)) (Previous l r t)
@@ -159,28 +170,28 @@ module _ (m f : ℕ) where
   left = Sound-then (Reference (flag_at f 0)) Right (reference_at (flag_at f 0)) right_at (Sound-reference (flag_at f 0)) (λ l w x. right l)
 
 abbrev pub Flags : ℕ → List ℕ → Type 0
-Flags = InRange 0 127 1
+Flags = InRange 0 255 1
 
 abbrev pub Parts : ℕ → Primitive → List ℕ → Type 0
 Parts m = Then Flags (Left m)
 
 parts : (m : ℕ) → Sound (Parts m) (primitive_at m)
 unfolding primitive_at
-parts m = Sound-then Flags (Left m) (number_at (up_to 127) 1) (left_at m) (Sound-range 0 127 1 (omega arith) refl refl) (λ f w x. left m f)
+parts m = Sound-then Flags (Left m) (number_at (up_to 255) 1) (left_at m) (Sound-range 0 255 1 (omega arith) refl refl) (λ f w x. left m f)
 
 -- ---- the parts are the spelling
 
 abbrev pub Spelled : ℕ → Primitive → List ℕ → Type 0
 Spelled m = IsText primitive_bytes (PrimitiveFits m)
 
-regroup : (x : ℕ) (l r t s p v n : List ℕ) → (x ∷ []) ++ (l ++ (r ++ (t ++ (s ++ (p ++ (v ++ (n ++ []))))))) ≡ x ∷ l ++ r ++ t ++ s ++ p ++ v ++ n
-regroup x l r t s p v n = simp (append_assoc, append-nil)
+regroup : (x : ℕ) (l r t s p g v n : List ℕ) → (x ∷ []) ++ (l ++ (r ++ (t ++ (s ++ (p ++ (g ++ (v ++ (n ++ [])))))))) ≡ x ∷ l ++ r ++ t ++ s ++ p ++ g ++ v ++ n
+regroup x l r t s p g v n = simp (append_assoc, append-nil)
 
 -- the flag byte of a primitive that was made of its parts
-flags_made : (m f : ℕ) (l r t s p : Ref) (v : Datum) (n : Option (List ℕ)) → f ≤ 127 → is_some l ≡ flag_at f 0 → is_some r ≡ flag_at f 1 → is_some t ≡ flag_at f 2 → is_some s ≡ flag_at f 3 → is_some p ≡ flag_at f 4
-    → is_some n ≡ flag_at f 5 → flags (made m f l r t s p v n) ≡ f
-flags_made m f l r t s p v n small at_0 at_1 at_2 at_3 at_4 at_5 =
-    (λ i. sum (at_0 i) (at_1 i) (at_2 i) (at_3 i) (at_4 i) (at_5 i) (flag_at f 6)) ∙ sum_back f small
+flags_made : (m f : ℕ) (l r t s p g : Ref) (v : Datum) (n : Option (List ℕ)) → f ≤ 255 → is_some l ≡ flag_at f 0 → is_some r ≡ flag_at f 1 → is_some t ≡ flag_at f 2 → is_some s ≡ flag_at f 3 → is_some p ≡ flag_at f 4
+    → is_some n ≡ flag_at f 5 → is_some g ≡ flag_at f 7 → flags (made m f l r t s p g v n) ≡ f
+flags_made m f l r t s p g v n small at_0 at_1 at_2 at_3 at_4 at_5 at_7 =
+    (λ i. sum (at_0 i) (at_1 i) (at_2 i) (at_3 i) (at_4 i) (at_5 i) (flag_at f 6) (at_7 i)) ∙ sum_back f small
 
 pub to_spelled : (m : ℕ) (x : Primitive) (w : List ℕ) → Parts m x w → Spelled m x w
 to_spelled m x w (
@@ -214,11 +225,18 @@ to_spelled m x w (
             u5,
             (p_there, p_fits, a5_is),
             (
-              v,
+              g,
               a6,
               u6,
-              (v_fits, a6_is),
-              (n, a7, u7, (n_there, n_fits, a7_is), (x_is, u7_is), u6_is),
+              (g_there, g_fits, a6_is),
+              (
+                v,
+                a7,
+                u7,
+                (v_fits, a7_is),
+                (n, a8, u8, (n_there, n_fits, a8_is), (x_is, u8_is), u7_is),
+                u6_is,
+              ),
               u5_is,
             ),
             u4_is,
@@ -233,24 +251,24 @@ to_spelled m x w (
   ),
   w_is,
 ) =
-    let made_flags = flags_made m f l r t s p v n small l_there r_there t_there s_there p_there n_there in
-    let byte : f % 256 ≡ flags (made m f l r t s p v n) = omega (arith, small, made_flags) in
-    let text : w ≡ (flags (made m f l r t s p v n) ∷ []) ++ (reference_bytes l ++ (reference_bytes r ++ (reference_bytes t ++ (reference_bytes s ++ (reference_bytes p ++ (value_bytes v ++ (name_bytes n ++ []))))))) =
-    join w_is (a0_is ∙ ap (λ (b : ℕ). b ∷ []) byte) (join u0_is a1_is (join u1_is a2_is (join u2_is a3_is (join u3_is a4_is (join u4_is a5_is (join u5_is a6_is (join u6_is a7_is u7_is))))))) in
+    let made_flags = flags_made m f l r t s p g v n small l_there r_there t_there s_there p_there n_there g_there in
+    let byte : f % 256 ≡ flags (made m f l r t s p g v n) = omega (arith, small, made_flags) in
+    let text : w ≡ (flags (made m f l r t s p g v n) ∷ []) ++ (reference_bytes l ++ (reference_bytes r ++ (reference_bytes t ++ (reference_bytes s ++ (reference_bytes p ++ (reference_bytes g ++ (value_bytes v ++ (name_bytes n ++ [])))))))) =
+    join w_is (a0_is ∙ ap (λ (b : ℕ). b ∷ []) byte) (join u0_is a1_is (join u1_is a2_is (join u2_is a3_is (join u3_is a4_is (join u4_is a5_is (join u5_is a6_is (join u6_is a7_is (join u7_is a8_is u8_is)))))))) in
     subst (λ (y : Primitive). Spelled m y w) (sym x_is) (
-      record { left = l_fits; right = r_fits; typ = t_fits; scope = s_fits; previous = p_fits; value = v_fits; name = n_fits; same = refl },
-      text ∙ regroup (flags (made m f l r t s p v n)) (reference_bytes l) (reference_bytes r) (reference_bytes t) (reference_bytes s) (reference_bytes p) (value_bytes v) (name_bytes n),
+      record { left = l_fits; right = r_fits; typ = t_fits; scope = s_fits; previous = p_fits; lang = g_fits; value = v_fits; name = n_fits; same = refl },
+      text ∙ regroup (flags (made m f l r t s p g v n)) (reference_bytes l) (reference_bytes r) (reference_bytes t) (reference_bytes s) (reference_bytes p) (reference_bytes g) (value_bytes v) (name_bytes n),
     )
 
 pub from_spelled : (m : ℕ) (x : Primitive) (w : List ℕ) → Spelled m x w → Parts m x w
 from_spelled m x w (fits, w_is) =
     let f = flags x in
-    let bits = seven (is_some x.left) (is_some x.right) (is_some x.typ) (is_some x.scope) (is_some x.previous) (is_some x.name) x.live in
+    let bits = eight (is_some x.left) (is_some x.right) (is_some x.typ) (is_some x.scope) (is_some x.previous) (is_some x.name) x.live (is_some x.lang) in
     let byte : f ≡ f % 256 = omega (arith, bits.small) in
-    let whole : w ≡ bytes_high_first 1 f ++ (reference_bytes x.left ++ (reference_bytes x.right ++ (reference_bytes x.typ ++ (reference_bytes x.scope ++ (reference_bytes x.previous ++ (value_bytes x.value ++ (name_bytes x.name ++ []))))))) =
-    w_is ∙ sym (regroup f (reference_bytes x.left) (reference_bytes x.right) (reference_bytes x.typ) (reference_bytes x.scope) (reference_bytes x.previous) (value_bytes x.value) (name_bytes x.name))
-    ∙ ap (λ (b : ℕ). (b ∷ []) ++ (reference_bytes x.left ++ (reference_bytes x.right ++ (reference_bytes x.typ ++ (reference_bytes x.scope ++ (reference_bytes x.previous ++ (value_bytes x.value ++ (name_bytes x.name ++ [])))))))) byte in
-    let same : x ≡ made m f x.left x.right x.typ x.scope x.previous x.value x.name = (λ i. record { left = x.left; right = x.right; typ = x.typ; scope = x.scope; value = x.value; name = x.name; previous = x.previous; live = (sym bits.at_6) i; moment = fits.same i }) in (
+    let whole : w ≡ bytes_high_first 1 f ++ (reference_bytes x.left ++ (reference_bytes x.right ++ (reference_bytes x.typ ++ (reference_bytes x.scope ++ (reference_bytes x.previous ++ (reference_bytes x.lang ++ (value_bytes x.value ++ (name_bytes x.name ++ [])))))))) =
+    w_is ∙ sym (regroup f (reference_bytes x.left) (reference_bytes x.right) (reference_bytes x.typ) (reference_bytes x.scope) (reference_bytes x.previous) (reference_bytes x.lang) (value_bytes x.value) (name_bytes x.name))
+    ∙ ap (λ (b : ℕ). (b ∷ []) ++ (reference_bytes x.left ++ (reference_bytes x.right ++ (reference_bytes x.typ ++ (reference_bytes x.scope ++ (reference_bytes x.previous ++ (reference_bytes x.lang ++ (value_bytes x.value ++ (name_bytes x.name ++ []))))))))) byte in
+    let same : x ≡ made m f x.left x.right x.typ x.scope x.previous x.lang x.value x.name = (λ i. record { left = x.left; right = x.right; typ = x.typ; scope = x.scope; value = x.value; name = x.name; previous = x.previous; live = (sym bits.at_6) i; moment = fits.same i; lang = x.lang }) in (
       f,
       bytes_high_first 1 f,
       _,
@@ -281,11 +299,18 @@ from_spelled m x w (fits, w_is) =
                 _,
                 (sym bits.at_4, fits.previous, refl),
                 (
-                  x.value,
-                  value_bytes x.value,
+                  x.lang,
+                  reference_bytes x.lang,
                   _,
-                  (fits.value, refl),
-                  (x.name, name_bytes x.name, [], (sym bits.at_5, fits.name, refl), (same, refl), refl),
+                  (sym bits.at_7, fits.lang, refl),
+                  (
+                    x.value,
+                    value_bytes x.value,
+                    _,
+                    (fits.value, refl),
+                    (x.name, name_bytes x.name, [], (sym bits.at_5, fits.name, refl), (same, refl), refl),
+                    refl,
+                  ),
                   refl,
                 ),
                 refl,

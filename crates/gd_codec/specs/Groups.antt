@@ -62,14 +62,19 @@ name_at present bytes = if present then (text_at bytes >>= λ t. Ok (Some t.0, t
 abbrev pub flag_at : ℕ → ℕ → Bool
 flag_at flags i = bit_at flags i == 1
 
+-- reads what stands behind the first five references of a primitive of this moment and these flags
+abbrev pub behind_previous_at : ℕ → ℕ → Option ℕ → Option ℕ → Option ℕ → Option ℕ → Option ℕ → List ℕ → Reads Primitive
+behind_previous_at moment flags left right typ scope previous bytes = reference_at (flag_at flags 7) bytes >>= λ g. value_at g.1 >>= λ v. name_at (flag_at flags 5) v.1 >>= λ n.
+    Ok (record { left = left; right = right; typ = typ; scope = scope; value = v.0; name = n.0; previous = previous; live = flag_at flags 6; moment = moment; lang = g.0 }, n.1)
+
 -- reads what stands behind the first three references of a primitive of this moment and these flags
 abbrev pub behind_typ_at : ℕ → ℕ → Option ℕ → Option ℕ → Option ℕ → List ℕ → Reads Primitive
-behind_typ_at moment flags left right typ bytes = reference_at (flag_at flags 3) bytes >>= λ s. reference_at (flag_at flags 4) s.1 >>= λ p. value_at p.1 >>= λ v. name_at (flag_at flags 5) v.1 >>= λ n.
-    Ok (record { left = left; right = right; typ = typ; scope = s.0; value = v.0; name = n.0; previous = p.0; live = flag_at flags 6; moment = moment }, n.1)
+behind_typ_at moment flags left right typ bytes = reference_at (flag_at flags 3) bytes >>= λ s. reference_at (flag_at flags 4) s.1 >>= λ p.
+    behind_previous_at moment flags left right typ s.0 p.0 p.1
 
 -- reads a primitive of this moment: its flags, the references that they announce, its value, and its name where they announce one
 unfoldable pub primitive_at : ℕ → List ℕ → Reads Primitive
-primitive_at moment bytes = number_at (up_to 127) 1 bytes >>= λ f. reference_at (flag_at f.0 0) f.1 >>= λ l. reference_at (flag_at f.0 1) l.1 >>= λ r. reference_at (flag_at f.0 2) r.1 >>= λ t.
+primitive_at moment bytes = number_at (up_to 255) 1 bytes >>= λ f. reference_at (flag_at f.0 0) f.1 >>= λ l. reference_at (flag_at f.0 1) l.1 >>= λ r. reference_at (flag_at f.0 2) r.1 >>= λ t.
     behind_typ_at moment f.0 l.0 r.0 t.0 t.1
 
 -- reads a batch: its moment, the number of its primitives, and the primitives

@@ -1,9 +1,11 @@
 //! Groups of batches, read from bytes.
-ghost use Rattle.std.specs.Prelude.{◌≡◌, ◌<◌, ◌≤◌, ℕ, List, None, Some, IfOk, ◌≢◌, MatchResult};
+ghost use Rattle.std.specs.Prelude.{◌≡◌, ◌<◌, ◌≤◌, ℕ, List, None, Some, IfOk, ◌≢◌, MatchResult, is_some};
 ghost use Rattle.gd_grammar.specs.Reading.{items_at};
 ghost use Rattle.gd_codec.specs.Groups as defined;
 ghost use Rattle.gd_codec.specs.Stop.{Finds, IsCause};
 ghost use Rattle.gd_bytes.specs.Group.{IsGroup, group_of};
+ghost use Rattle.gd_bytes.specs.File.{has_lang};
+ghost use Rattle.std.specs.List.{list_any};
 ghost use Rattle.gd_prim.specs.declared.Batch.{Batch};
 ghost use Rattle.gd_codec.specs.Writable.{MayWrite};
 ghost use Rattle.gd_codec.specs.declared.stop.CodecFault.TheVariants as fault;
@@ -91,6 +93,13 @@ fn whole_group(alloc: Global, bytes: &[u8]) -> Result<Vec<Batch>, Stop>
     Ok(batches)
 }
 
+/// Whether some primitive names a language.
+fn names_lang(prims: &[Primitive]) -> bool
+    ensures { result ≡ list_any (λ p. is_some p.lang) prims.now }
+{
+    prims.iter().any(|prim| prim.lang.is_some())
+}
+
 /// The batches that a record of a log holds. Contracts see them as their list.
 #[derive(Drop)]
 pub struct Group {
@@ -107,11 +116,27 @@ impl Model for Group {
 }
 
 impl Group {
-    /// The batches in their order, 1 to 256.
+    /// The group of these batches. It takes no memory.
+    pub fn of(batches: Vec<Batch>) -> Group
+        ensures { result ≡ batches.items }
+    {
+        Group { batches }
+    }
+
+    /// The batches in their order; of a group that was read 1 to 256.
     pub fn batches(&self) -> &[Batch]
         ensures { result.now ≡ self.now }
     {
         self.batches.as_slice()
+    }
+
+    /// Whether some primitive of the batches names a language. It takes no memory.
+    pub fn has_lang(&self) -> bool
+        ensures { result ≡ has_lang self.now }
+    {
+        self.batches
+            .iter()
+            .any(|batch| names_lang(batch.prims.as_slice()))
     }
 
     /// The vector of these batches. It takes no memory.

@@ -57,22 +57,23 @@ fn value_length(value: &Datum) -> usize
 /// The bytes of a primitive.
 fn primitive_length(prim: &Primitive) -> usize
     ensures length { result ≡ length (group.primitive_bytes prim.now) }
-    ensures bound { result ≤ 8_218 }
+    ensures bound { result ≤ 8_222 }
 {
     1 + reference_length(prim.left)
         + reference_length(prim.right)
         + reference_length(prim.typ)
         + reference_length(prim.scope)
         + reference_length(prim.previous)
+        + reference_length(prim.lang)
         + value_length(&prim.value)
         + name_length(&prim.name)
 }
 
-/// The bytes of at most 4,096 primitives.
-fn primitives_length(prims: &[Primitive]) -> usize
+/// How many bytes at most 4,096 primitives have in a group. They are not made.
+pub fn primitives_length(prims: &[Primitive]) -> usize
     requires { length prims.now ≤ 4_096 }
     ensures length { result ≡ length (flat_map group.primitive_bytes prims.now) }
-    ensures bound { result ≤ 33_660_928 }
+    ensures bound { result ≤ 33_677_312 }
 {
     let mut total = 0;
     for prim in prims {
@@ -85,7 +86,7 @@ fn primitives_length(prims: &[Primitive]) -> usize
 fn batch_length(batch: &Batch) -> usize
     requires { BatchMay batch.now }
     ensures length { result ≡ length (group.batch_bytes batch.now) }
-    ensures bound { result ≤ 33_660_938 }
+    ensures bound { result ≤ 33_677_322 }
 {
     10 + primitives_length(batch.prims.as_slice())
 }

@@ -11,5 +11,6 @@ mod value;
 mod write;
 
 pub use group::{Group, decode_group};
+pub use length::primitives_length;
 pub use stop::CodecFault;
 pub use write::encode_group;

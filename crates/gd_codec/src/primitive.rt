@@ -12,7 +12,7 @@ use gd_base::text::Text;
 use gd_prim::Primitive;
 use std::alloc::Global;
 
-const FLAGS: [Range; 1] = [(0, 127)];
+const FLAGS: [Range; 1] = [(0, 255)];
 
 const PLACES: [Range; 1] = [(0, u32::MAX as u64)];
 
@@ -48,6 +48,45 @@ fn name(alloc: Global, present: bool, bytes: &[u8]) -> Result<(Option<Text>, &[u
     Ok((Some(text), rest))
 }
 
+/// The place of a reference, where it is there.
+fn id(place: Option<u32>) -> Option<Id>
+    ensures { result ≡ place }
+{
+    place.map(Id::new)
+}
+
+/// Reads what stands behind the first five references of a primitive of this moment and these flags.
+fn behind_previous(
+    alloc: Global,
+    moment: u64,
+    flags: u64,
+    left: Option<u32>,
+    right: Option<u32>,
+    typ: Option<u32>,
+    scope: Option<u32>,
+    previous: Option<u32>,
+    bytes: &[u8],
+) -> Result<(Primitive, &[u8]), Stop>
+    ensures { Finds (λ x. (x.0, x.1.now)) (defined.behind_previous_at moment flags left right typ scope previous bytes.now) result }
+{
+    let (lang, rest) = reference(flag(flags, 7), bytes)?;
+    let (value, rest) = value(alloc, rest)?;
+    let (name, rest) = name(alloc, flag(flags, 5), rest)?;
+    let prim = Primitive {
+        left: id(left),
+        right: id(right),
+        typ: id(typ),
+        scope: id(scope),
+        value,
+        name,
+        previous: id(previous),
+        live: flag(flags, 6),
+        moment,
+        lang: id(lang),
+    };
+    Ok((prim, rest))
+}
+
 /// Reads what stands behind the first three references of a primitive of this moment and these flags.
 fn behind_typ(
     alloc: Global,
@@ -62,20 +101,9 @@ fn behind_typ(
 {
     let (scope, rest) = reference(flag(flags, 3), bytes)?;
     let (previous, rest) = reference(flag(flags, 4), rest)?;
-    let (value, rest) = value(alloc, rest)?;
-    let (name, rest) = name(alloc, flag(flags, 5), rest)?;
-    let prim = Primitive {
-        left: left.map(Id::new),
-        right: right.map(Id::new),
-        typ: typ.map(Id::new),
-        scope: scope.map(Id::new),
-        value,
-        name,
-        previous: previous.map(Id::new),
-        live: flag(flags, 6),
-        moment,
-    };
-    Ok((prim, rest))
+    behind_previous(
+        alloc, moment, flags, left, right, typ, scope, previous, rest,
+    )
 }
 
 /// Reads a primitive of this moment.

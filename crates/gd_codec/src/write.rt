@@ -99,7 +99,7 @@ fn flag(worth: u8, set: bool) -> u8
     if set { worth } else { 0 }
 }
 
-/// The flag byte of a primitive: which references and whether a name are there, and whether it is live.
+/// The flag byte of a primitive: which references and whether a name and a language are there, and whether it is live.
 fn flags(prim: &Primitive) -> u8
     ensures { result ≡ group.flags prim.now }
 {
@@ -110,6 +110,7 @@ fn flags(prim: &Primitive) -> u8
         + flag(16, prim.previous.is_some())
         + flag(32, prim.name.is_some())
         + flag(64, prim.live)
+        + flag(128, prim.lang.is_some())
 }
 
 /// Writes a primitive: flags, the references that are there, the value, the name.
@@ -124,6 +125,7 @@ fn write_primitive(out: &mut Vec<u8>, prim: &Primitive) -> Result<(), Memory>
     write_reference(out, prim.typ)?;
     write_reference(out, prim.scope)?;
     write_reference(out, prim.previous)?;
+    write_reference(out, prim.lang)?;
     write_value(out, &prim.value)?;
     write_name(out, &prim.name)
 }

@@ -3,5 +3,6 @@ pub mod Gathers
 pub mod Plans
 pub mod SortWords
 pub mod Sorts
+pub mod Spoken
 pub mod Tests
 pub mod Walks

@@ -39,7 +39,7 @@ own_leads prims context path n f o r is leads = leads_same (asked_member prims c
     same rest = ap (λ (own : Option defs.Own). option_map_or (λ o. defs.own_member path n o f (defs.own_test prims path o n.operator) rest) own
         (defs.member_property prims context path n >>= λ p. defs.asked_form prims path n p f >>= λ g. led g rest)) (sym is)
 
--- the members of a form on a value or a key: its link, its value, its namespace
+-- the members of a form on a value or a key: its link, its value, its namespace, its language
 by_link : (b : Bool) (link other : Outcome) → b ≡ true → (if b then link else other) ≡ link
 by_link true link other is = refl
 by_link false link other is = cc
@@ -64,6 +64,12 @@ pub namespace_leads : (prims : List Primitive) (e : Expects) (path : List (List 
     → Leads (defs.own_member path n defs.its_namespace f (defs.own_test prims path defs.its_namespace n.operator)) r → Leads (defs.value_member prims e path n f) r
 namespace_leads prims e path n f r link value namespace leads = leads_same (defs.value_member prims e path n f) (defs.own_member path n defs.its_namespace f (defs.own_test prims path defs.its_namespace n.operator)) r
     (λ rest. not_link (query.is_link n.word) _ _ link ∙ (not_link (bytes_eq n.word (codes "value")) _ _ value ∙ by_link (bytes_eq n.word (codes "namespace") && defs.has_namespace e) _ _ namespace)) leads
+
+pub lang_leads : (prims : List Primitive) (e : Expects) (path : List (List ℕ)) (n : query.Name) (f : query.Form) (r : Result Member Unknown)
+    → query.is_link n.word ≡ false → bytes_eq n.word (codes "value") ≡ false → (bytes_eq n.word (codes "namespace") && defs.has_namespace e) ≡ false → (bytes_eq n.word (codes "lang") && defs.has_lang e) ≡ true
+    → Leads (defs.own_member path n defs.its_lang f (defs.own_test prims path defs.its_lang n.operator)) r → Leads (defs.value_member prims e path n f) r
+lang_leads prims e path n f r link value namespace lang leads = leads_same (defs.value_member prims e path n f) (defs.own_member path n defs.its_lang f (defs.own_test prims path defs.its_lang n.operator)) r
+    (λ rest. not_link (query.is_link n.word) _ _ link ∙ (not_link (bytes_eq n.word (codes "value")) _ _ value ∙ (not_link (bytes_eq n.word (codes "namespace") && defs.has_namespace e) _ _ namespace ∙ by_link (bytes_eq n.word (codes "lang") && defs.has_lang e) _ _ lang))) leads
 
 -- a literal or an operand with the test that it makes
 pub tested : (prims : List Primitive) (path : List (List ℕ)) (name : List ℕ) (p : Property) (operator : query.Operator) (literal : Bool) (j : Json) (e : Expects) (t : Test) (g : defs.Members → defs.Members)

@@ -18,7 +18,9 @@ use gd_json::value::{Json, JsonText};
 use gd_mql::directive::{Directives, Mode as SpelledMode};
 use gd_plan::asked::{Asking, Member, SortKey, Style};
 use gd_plan::expects::{Expects, expects_of, holds_values};
+use gd_plan::spoken::spoken;
 use gd_plan::test::Test;
+use gd_prim::ENGLISH;
 use gd_resolve::property::Property;
 use gd_template::template::Mode;
 use std::alloc::Global;
@@ -57,7 +59,7 @@ fn bare_asking(alloc: Global, property: &Property, style: Style) -> Asking
     asking_with(alloc, property, style, Test::Anything)
 }
 
-/// The property `name`.
+/// The property `name`, in English.
 fn name_property() -> Property
     ensures { result ≡ forms.name_property }
 {
@@ -66,6 +68,7 @@ fn name_property() -> Property
         reversed: false,
         expected: Some(TEXT),
         unique: true,
+        language: Some(ENGLISH),
     }
 }
 
@@ -314,6 +317,7 @@ pub(crate) fn clause_form(
 ) -> Result<Member, Memory>
     ensures { IfOk result (λ member. put member ≡ forms.clause_form name.now property.now (directives_view directives.now) listed (clause_view clause)) }
 {
-    let asking = clause_asking(alloc, property, directives, listed, clause.sort);
+    let spoken = spoken(property, &clause.members);
+    let asking = clause_asking(alloc, &spoken, directives, listed, clause.sort);
     asks(alloc, name, asking, clause.members)
 }

@@ -24,7 +24,7 @@ use gd_json::value::{Json, JsonText};
 use gd_mql::clause::{Form, Members, Part};
 use gd_mql::name::Name;
 use gd_plan::asked::{Member, Own};
-use gd_plan::expects::Expects;
+use gd_plan::expects::{Expects, has_lang};
 use gd_plan::test::Test;
 use gd_store::view::View;
 use std::alloc::Global;
@@ -143,8 +143,15 @@ fn is_namespace(expects: Expects, word: &str) -> bool
     word == "namespace" && has_namespace(expects)
 }
 
-/// What a member of a form on a value or a key asks: its link, its value, or of a key the namespace. `BadQuery` with
-/// `ObjectForm` and the path: it is another member.
+/// Whether the word asks for the language of such answers, which are texts.
+fn is_lang(expects: Expects, word: &str) -> bool
+    ensures { result ≡ (bytes_eq word.now (codes "lang") && defs.has_lang (expects_view expects)) }
+{
+    word == "lang" && has_lang(expects)
+}
+
+/// What a member of a form on a value or a key asks: its link, its value, of a key the namespace, or of a text the language.
+/// `BadQuery` with `ObjectForm` and the path: it is another member.
 fn value_member<L>(
     alloc: Global,
     view: &View<'_>,
@@ -165,6 +172,9 @@ fn value_member<L>(
     }
     if is_namespace(expects, name.word) {
         return own_member(alloc, view, path, name, Own::Namespace, form, steps);
+    }
+    if is_lang(expects, name.word) {
+        return own_member(alloc, view, path, name, Own::Lang, form, steps);
     }
     Err(bad(alloc, Code::ObjectForm, path))
 }

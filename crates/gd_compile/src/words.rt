@@ -3,18 +3,21 @@ ghost use Rattle.std.specs.Prelude.{◌≡◌, ◌≤◌, ◌+◌, ◌*◌, Ok, 
 ghost use Rattle.gd_base.specs.Counts.{Rose};
 ghost use Rattle.gd_prim.specs.History.{prims_of};
 ghost use Rattle.gd_defs.specs.Asked as defs;
+ghost use Rattle.gd_defs.specs.Cost.{said_of};
 ghost use Rattle.gd_defs.specs.Property as property;
 ghost use Rattle.gd_defs.specs.Query as query;
 ghost use Rattle.gd_json.specs.View.{view as json_of};
 ghost use Rattle.gd_tree.specs.Look.{item_count};
 ghost use Rattle.gd_mql.specs.Names.{operator_view, name_view};
 ghost use Rattle.gd_compile.specs.Fault.{Finds};
+ghost use Rattle.gd_compile.specs.Spoken.{language_steps, object_named};
 ghost use Rattle.gd_plan.specs.Seen.{expects_view, test_view};
 ghost use Rattle.gd_plan.specs.Seen.{own_view};
 
 use crate::fault::{Code, Unknown, bad, no_property};
 use crate::operand::place_named;
 use crate::test::{allows, test_of};
+use gd_base::datum::Datum;
 use gd_base::id::Id;
 use gd_base::steps::Steps;
 use gd_datum::value::Kind;
@@ -23,7 +26,7 @@ use gd_mql::name::{Name, Operator};
 use gd_plan::asked::Own;
 use gd_plan::expects::{Expects, expects_of, holds_values};
 use gd_plan::test::Test;
-use gd_resolve::property::{Property, expected_type};
+use gd_resolve::property::{Property, expected_type, is_language};
 use gd_resolve::words::{Named, named_property};
 use gd_store::view::View;
 use std::alloc::Global;
@@ -90,28 +93,78 @@ fn timestamp_takes(operator: Operator) -> bool
     )
 }
 
-fn namespace_takes(operator: Operator) -> bool
-    ensures { result ≡ defs.takes defs.its_namespace (operator_view operator) }
+/// Whether what a link leads to takes this operator: none at all but an operand by itself.
+fn reference_takes(operator: Operator) -> bool
+    ensures namespace { result ≡ defs.takes defs.its_namespace (operator_view operator) }
+    ensures language { result ≡ defs.takes defs.its_lang (operator_view operator) }
 {
     matches!(operator, Operator::Absent)
 }
 
-/// Whether a computed word takes this operator: `link` none, the namespace of a key no operator at all but an operand
-/// by itself, the timestamp the comparisons, and the others what objects allow. It takes no memory.
+/// Whether a computed word takes this operator: `link` none, the namespace of a key and the language of a text no operator
+/// at all but an operand by itself, the timestamp the comparisons, and the others what objects allow. It takes no memory.
 pub fn takes(own: Own, operator: Operator) -> bool
     ensures { result ≡ defs.takes (own_view own) (operator_view operator) }
 {
     match own {
         Own::Link => false,
         Own::Timestamp => timestamp_takes(operator),
-        Own::Namespace => namespace_takes(operator),
+        Own::Namespace | Own::Lang => reference_takes(operator),
         Own::Id | Own::Guid | Own::Value => allows(Expects::SystemObject, operator),
+    }
+}
+
+/// The object that a test asks for, if it asks for one alone.
+fn asked_object(test: &Test) -> Option<Id>
+    ensures { result ≡ defs.asked_object (test_view test.now) }
+{
+    match test {
+        Test::Equals(Datum::Object(object)) => Some(*object),
+        _ => None,
+    }
+}
+
+/// Whether a test asks for a language. It takes no memory.
+fn names_language<L>(view: &View<'_>, test: &Test, steps: &mut Steps<L>) -> bool
+    ensures language { result ≡ defs.names_language (prims_of view.now) (test_view test.now) }
+    ensures work { steps.new ≤ steps.old + 22 + 4 * said_of (prims_of view.now) (defs.asked_object (test_view test.now)) }
+    ensures later { steps.old ≤ steps.new }
+{
+    match asked_object(test) {
+        Some(object) => is_language(view, object, steps),
+        None => false,
+    }
+}
+
+/// What a computed word asks of its test: `lang` that it names a language, the others nothing.
+fn told<L>(
+    alloc: Global,
+    view: &View<'_>,
+    path: &[&str],
+    own: Own,
+    test: Test,
+    steps: &mut Steps<L>,
+) -> Result<Test, Unknown>
+    ensures test { Finds test_view (defs.told (prims_of view.now) (map (λ name. name.now) path.now) (own_view own) (test_view test)) result }
+    ensures work { steps.new ≤ steps.old + language_steps (prims_of view.now) (own_view own) (defs.asked_object (test_view test)) }
+    ensures later { steps.old ≤ steps.new }
+{
+    match own {
+        Own::Lang => {
+            if names_language(view, &test, steps) {
+                Ok(test)
+            } else {
+                Err(bad(alloc, Code::BadLang, path))
+            }
+        }
+        Own::Id | Own::Guid | Own::Timestamp | Own::Link | Own::Value | Own::Namespace => Ok(test),
     }
 }
 
 /// The test that an operator makes with its operand on a computed word. `BadQuery` with `BadOperator` and the path: the
 /// word does not take the operator; else what `test_of` says, where objects are named by ids and `timestamp` is compared
-/// with moments. `Memory`: an allocation was refused. It looks at no more than 500 things for each operand.
+/// with moments; of `lang` then `BadQuery` with `BadLang` and the path: the object is no language. `Memory`: an allocation
+/// was refused. It looks at no more than 500 things for each operand, and of `lang` at what is said of the object.
 pub fn own_test<L>(
     alloc: Global,
     view: &View<'_>,
@@ -122,11 +175,12 @@ pub fn own_test<L>(
     steps: &mut Steps<L>,
 ) -> Result<Test, Unknown>
     ensures test { Finds test_view (defs.own_test (prims_of view.now) (map (λ name. name.now) path.now) (own_view own) (operator_view operator) (json_of json.now)) result }
-    ensures work { steps.new ≤ steps.old + 500 + 500 * item_count (json_of json.now) }
+    ensures work { steps.new ≤ steps.old + 500 + 500 * item_count (json_of json.now) + language_steps (prims_of view.now) (own_view own) (object_named (prims_of view.now) (json_of json.now)) }
     ensures later { steps.old ≤ steps.new }
 {
     if takes(own, operator) {
-        test_of(alloc, view, own_expects(own), path, operator, json, steps)
+        let test = test_of(alloc, view, own_expects(own), path, operator, json, steps)?;
+        told(alloc, view, path, own, test, steps)
     } else {
         Err(bad(alloc, Code::BadOperator, path))
     }

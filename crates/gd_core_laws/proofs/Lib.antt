@@ -1,3 +1,5 @@
+pub mod Shapes
+pub mod Quiet
 pub mod Reading
 pub mod OneLine
 pub mod Lines

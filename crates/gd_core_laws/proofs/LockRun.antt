@@ -1,5 +1,5 @@
 -- What the lock of a round keeps holds when it begins, and after all of its writes.
-use Rattle.std.proofs.Common.{◌≡◌, refl, ℕ, inl, Bool, List, [], ◌∷◌, ◌++◌, length, Option, Some, None, sym, arith}
+use Rattle.std.proofs.Common.{◌≡◌, refl, ℕ, ◌≤◌, ◌⊎◌, inl, inr, ⊎_elim, Bool, List, [], ◌∷◌, ◌++◌, length, Option, Some, None, sym, arith}
 use Rattle.gd_prim.specs.declared.Batch.{Batch}
 use Rattle.gd_runs.specs.Legal.{Entry, History}
 use Rattle.gd_runs.specs.Explained.{Numbered, Run}
@@ -30,9 +30,10 @@ history_begins loaded may before printed h shown doubt runs st = record {
     by None is = tt
     by (Some e) d = (more_legal may h e st.explained.legal d.after (λ n x at same. let of = st.explained.entries n x at in (d.old.last n x of.0 at of.1).2 same), d.moment)
 
-pub lock_begins : (h : History) (shown : ℕ) (doubt : Option Entry) (faults most k : ℕ) (given : List Numbered) → AreNew (begun_at h shown doubt faults k given) → KeepsRound (begun_at h shown doubt faults k given) h shown doubt faults most [] []
-lock_begins h shown doubt faults most k given fresh = record {
-  grown = sym (nothing_more h);
+-- what the lock keeps before the first write, whatever of the disk's count it is asked
+pub lock_starts : (l : Begun) (faults most : ℕ) → (l.faults ≤ faults) ⊎ (faults ≡ most) → AreNew l → KeepsRound l l.history l.shown l.doubt faults most [] []
+lock_starts l faults most counted fresh = record {
+  grown = sym (nothing_more l.history);
   fresh = fresh.entries;
   fresh_doubt = fresh.doubted;
   entries = λ i x at. no_some at;
@@ -43,8 +44,12 @@ lock_begins h shown doubt faults most k given fresh = record {
   shows = omega arith;
   shows_stored = λ j e r t at is. no_some at;
   firsts = λ s. (0, refl);
-  failed = inl (omega arith);
+  failed = ⊎_elim (λ less. inl (omega (arith, less))) (λ full. inr full) counted;
 }
+
+-- where it is that of the moment when the round begins
+pub lock_begins : (h : History) (shown : ℕ) (doubt : Option Entry) (faults most k : ℕ) (given : List Numbered) → AreNew (begun_at h shown doubt faults k given) → KeepsRound (begun_at h shown doubt faults k given) h shown doubt faults most [] []
+lock_begins h shown doubt faults most k given fresh = lock_starts (begun_at h shown doubt faults k given) faults most (inl (omega arith)) fresh
 
 -- after all writes
 pub run_keeps : (may : ℕ → Bool) (l : Begun) (first : ℕ) (given : List Numbered) (lines : l.lines ≡ write_lines first given) (most : ℕ) (s : State) (faults : ℕ) (outcomes : List Told) (t : State) (end : ℕ) (outs : List Told)

@@ -24,16 +24,17 @@ use Rattle.gd_core_laws.proofs.LockRun.{history_begins, lock_begins}
 pub served_stands : (loaded : List Batch) (may : ℕ → Bool) (given : List Numbered) (output : List ℕ) (s : State) (runs : List Run) → IsServed loaded may given output s runs → StandsAt loaded may given output s.history s.shown s.doubt runs
 served_stands loaded may given output s runs inv = record { explained = inv.explained; least = inv.least; most = inv.most; told = inv.told; doubted = inv.doubted }
 
-pass_all : (may : ℕ → Bool) (s : State) (outcomes : List Told) (ls : List WriteLine) → CallerWrites may s outcomes ls s outcomes
-pass_all may s outcomes [] = (refl, refl)
-pass_all may s outcomes (a ∷ ls) = inl (pass_all may s outcomes ls)
+-- the caller passes over all of its writes
+pub callers_pass : (may : ℕ → Bool) (ls : List WriteLine) (s : State) (outcomes : List Told) → CallerWrites may s outcomes ls s outcomes
+callers_pass may [] s outcomes = (refl, refl)
+callers_pass may (a ∷ ls) s outcomes = inl (callers_pass may ls s outcomes)
 
 module _ (loaded : List Batch) (may : ℕ → Bool) (before : List Numbered) (printed : List ℕ) (s : State) (runs : List Run) (st : StandsAt loaded may before printed s.history s.shown s.doubt runs) (l : Numbered) where
   abbrev this : Run
   this = run_of l outcome.no_memory (memory_line (length runs))
 
   -- a round of one line that is not run
-  unrun : RoundServed may s runs l.round (l ∷ []) (memory_line (length runs) ++ 10 ∷ []) s (this ∷ [])
+  pub unrun : RoundServed may s runs l.round (l ∷ []) (memory_line (length runs) ++ 10 ∷ []) s (this ∷ [])
   unrun = record {
     here = λ j m at. here j m at;
     shown = s.shown;
@@ -49,7 +50,7 @@ module _ (loaded : List Batch) (may : ℕ → Bool) (before : List Numbered) (pr
     lock = lock_begins s.history s.shown s.doubt 0 0 (length runs) (l ∷ []) (are_new loaded may before printed s.history s.shown s.doubt runs 0 (l ∷ []) st);
     most = st.most;
     outcomes = [];
-    caller = pass_all may s [] (write_lines (length runs) (l ∷ []));
+    caller = callers_pass may (write_lines (length runs) (l ∷ [])) s [];
     lines = refl;
     replies = sym (append-nil (memory_line (length runs) ++ 10 ∷ []));
     came = λ j r at. came j r at;

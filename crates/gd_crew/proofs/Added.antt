@@ -12,15 +12,14 @@ use Rattle.gd_core_laws.specs.Round.{one_write}
 use Rattle.gd_core_laws.proofs.Lock.{same_numbers}
 use Rattle.gd_core_laws.proofs.Reading.{same_number}
 use Rattle.gd_mql.specs.Requests.{read_view, write_view}
-use Rattle.gd_caller.specs.declared.work.ReadLine.{ReadLine}
-use Rattle.gd_caller.specs.declared.work.WriteLine.{WriteLine}
-use Rattle.gd_caller.specs.declared.work.Works.{Works}
-use Rattle.gd_caller.specs.Works.{write_of, IsReadWithin, IsWriteWithin}
-use Rattle.gd_caller.specs.Writes.{MayBeWritten}
-use Rattle.gd_caller.proofs.Read.{all_append, all_weaker}
-use Rattle.gd_workers.specs.declared.job.Job.{Job}
-use Rattle.gd_workers.specs.Runs.{JobValue, writes}
-use Rattle.gd_workers.specs.Seated.{job_view}
+use Rattle.gd_round_lines.specs.declared.work.ReadLine.{ReadLine}
+use Rattle.gd_round_lines.specs.declared.work.WriteLine.{WriteLine}
+use Rattle.gd_round_lines.specs.declared.work.Works.{Works}
+use Rattle.gd_round_lines.specs.Works.{write_of, IsReadWithin, IsWriteWithin, MayBeWritten}
+use Rattle.gd_round_lines.proofs.Read.{all_append, all_weaker}
+use Rattle.gd_crew.specs.declared.job.Job.{Job}
+use Rattle.gd_crew.specs.Runs.{JobValue, writes}
+use Rattle.gd_crew.specs.Seated.{job_view}
 use Rattle.gd_crew.specs.Jobs.{IsJob, job_of_read, job_of_write, AreJobs, AreJobsOf, Adds, MayBeRead, AreNumbered}
 
 pub writes_append : (xs ys : List JobValue) → writes (xs ++ ys) ≡ writes xs ++ writes ys

@@ -38,11 +38,11 @@ use Rattle.gd_template.proofs.template.Template.TheLaws.TheKnot as template_knot
 use Rattle.gd_template.specs.contracts.template.Template as template
 use Rattle.gd_trees.proofs.tree.Tree.TheLaws.TheKnot as tree_knot
 use Rattle.gd_window.proofs.window.Window.TheSendSync as window_sent
-use Rattle.gd_workers.proofs.job.ReadReply.TheSendSync as reply
-use Rattle.gd_workers.proofs.job.Stop.TheSendSync as stop
-use Rattle.gd_workers.specs.contracts.job.Job as job
-use Rattle.gd_workers.specs.contracts.seated.Seated as seated
-use Rattle.gd_workers.specs.contracts.worker.Worker as worker
+use Rattle.gd_crew.proofs.job.ReadReply.TheSendSync as reply
+use Rattle.gd_crew.proofs.job.Stop.TheSendSync as stop
+use Rattle.gd_crew.specs.contracts.job.Job as job
+use Rattle.gd_crew.specs.contracts.seated.Seated as seated
+use Rattle.gd_crew.specs.contracts.worker.Worker as worker
 
 -- ---- a reading
 

@@ -8,14 +8,14 @@ use Rattle.gd_runs.specs.Side.{Begun}
 use Rattle.gd_shared.specs.History.{FrontValue}
 use Rattle.gd_shared.specs.Shared.{longer}
 use Rattle.gd_seats.specs.Session.{SessionValue, reads as what_reads}
-use Rattle.gd_caller.specs.declared.work.Works.{Works}
-use Rattle.gd_caller.specs.Works.{write_of}
-use Rattle.gd_caller.proofs.Read.{all_at}
-use Rattle.gd_workers.specs.declared.job.Job.{Job}
-use Rattle.gd_workers.specs.declared.seated.Seated.{Seated}
-use Rattle.gd_workers.specs.declared.worker.Worker.{Worker}
-use Rattle.gd_workers.specs.Runs.{JobValue, Share, AreOfRound, BeginsShare}
-use Rattle.gd_workers.specs.Seated.{share_of, job_view, IsNew}
+use Rattle.gd_round_lines.specs.declared.work.Works.{Works}
+use Rattle.gd_round_lines.specs.Works.{write_of}
+use Rattle.gd_round_lines.proofs.Read.{all_at}
+use Rattle.gd_crew.specs.declared.job.Job.{Job}
+use Rattle.gd_crew.specs.declared.seated.Seated.{Seated}
+use Rattle.gd_crew.specs.declared.worker.Worker.{Worker}
+use Rattle.gd_crew.specs.Runs.{JobValue, Share, AreOfRound, BeginsShare}
+use Rattle.gd_crew.specs.Seated.{share_of, job_view, IsNew}
 use Rattle.gd_crew.specs.Jobs.{IsJob, AreJobs, AreJobsOf}
 use Rattle.gd_crew.specs.Ready.{IsIdle, IsReady, IsManned, MayHire, lent}
 

@@ -17,15 +17,15 @@ use Rattle.gd_input.specs.declared.line.RoundLine.TheVariants.{Bytes, TooLong}
 use Rattle.gd_input.specs.Line.{IsShort}
 use Rattle.gd_input.specs.Rounds.{AreKept}
 use Rattle.gd_writer.specs.Side.{SideValue}
-use Rattle.gd_writers.specs.Round.{Named, begun, most, StandsInRound, LeavesSince, BeginsRound, IsLocked}
-use Rattle.gd_caller.specs.declared.work.ReadLine.{ReadLine}
-use Rattle.gd_caller.specs.declared.work.Works.{Works}
-use Rattle.gd_caller.specs.Works.{texts_of, write_of}
-use Rattle.gd_caller.specs.Served.{IsFreshFrom}
-use Rattle.gd_workers.specs.declared.seated.Seated.{Seated}
-use Rattle.gd_workers.specs.declared.worker.Worker.{Worker}
-use Rattle.gd_workers.specs.Runs.{JobValue, ReplyValue, is_read, reads, IsReply, RunsShare}
-use Rattle.gd_workers.specs.Seated.{share_of}
+use Rattle.gd_crew.specs.Round.{Named, begun, most, StandsInRound, LeavesSince, BeginsRound, IsLocked}
+use Rattle.gd_round_lines.specs.declared.work.ReadLine.{ReadLine}
+use Rattle.gd_round_lines.specs.declared.work.Works.{Works}
+use Rattle.gd_round_lines.specs.Works.{texts_of, write_of}
+use Rattle.gd_round_lines.specs.Fresh.{IsFreshFrom}
+use Rattle.gd_crew.specs.declared.seated.Seated.{Seated}
+use Rattle.gd_crew.specs.declared.worker.Worker.{Worker}
+use Rattle.gd_crew.specs.Runs.{JobValue, ReplyValue, is_read, reads, IsReply, RunsShare}
+use Rattle.gd_crew.specs.Seated.{share_of}
 use Rattle.gd_crew.specs.Jobs.{IsJob, AreJobs}
 use Rattle.gd_crew.specs.Ready.{IsReady, IsManned, lent}
 use Rattle.gd_crew.specs.Texts.{too_many, kept_lines}

@@ -1,3 +1,10 @@
+pub mod Kept
+pub mod Rounds
+pub mod Before
+pub mod Grown
+pub mod Passes
+pub mod Turned
+pub mod Turns
 pub mod Added
 pub mod Crosses
 pub mod Shares

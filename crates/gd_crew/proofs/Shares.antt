@@ -16,8 +16,8 @@ use Rattle.gd_writer.specs.contracts.ledger.Ledger as ledger
 use Rattle.gd_writer.specs.contracts.made.Made as made
 use Rattle.gd_writer.specs.contracts.outcome.WriteOf as write_of
 use Rattle.gd_writer.specs.contracts.side.WriteSide as side
-use Rattle.gd_writers.specs.contracts.writers.Held as held
-use Rattle.gd_writers.specs.declared.writers.Round as round
+use Rattle.gd_crew.specs.contracts.writers.Held as held
+use Rattle.gd_crew.specs.declared.writers.Round as round
 
 -- ---- a write side
 

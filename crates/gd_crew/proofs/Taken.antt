@@ -9,19 +9,19 @@ use Rattle.gd_prim.specs.declared.Batch.{Batch}
 use Rattle.gd_runs.specs.Request.{ReadRequest, reply_of}
 use Rattle.gd_runs.specs.Side.{Begun}
 use Rattle.gd_runs.proofs.Rounds.{no_some, some_same}
-use Rattle.gd_caller.specs.declared.work.ReadLine.{ReadLine}
-use Rattle.gd_caller.specs.declared.work.Works.{Works}
-use Rattle.gd_caller.specs.declared.worked.Worked.{Worked}
-use Rattle.gd_caller.specs.Works.{write_of}
-use Rattle.gd_caller.specs.Worked.{IsWorked, AreWorked}
-use Rattle.gd_caller.proofs.Read.{all_append, all_front, all_last}
-use Rattle.gd_caller.proofs.Sets.{set_cases}
-use Rattle.gd_workers.specs.declared.job.ReadReply.{ReadReply}
-use Rattle.gd_workers.specs.declared.seated.Seated.{Seated}
-use Rattle.gd_workers.specs.declared.worker.Worker.{Worker}
-use Rattle.gd_workers.specs.Runs.{ReplyValue}
-use Rattle.gd_workers.specs.Reading.{bytes_of}
-use Rattle.gd_workers.specs.Seated.{reply_view}
+use Rattle.gd_round_lines.specs.declared.work.ReadLine.{ReadLine}
+use Rattle.gd_round_lines.specs.declared.work.Works.{Works}
+use Rattle.gd_round_lines.specs.declared.worked.Worked.{Worked}
+use Rattle.gd_round_lines.specs.Works.{write_of}
+use Rattle.gd_round_lines.specs.Worked.{IsWorked, AreWorked}
+use Rattle.gd_round_lines.proofs.Read.{all_append, all_front, all_last}
+use Rattle.gd_round_lines.proofs.Sets.{set_cases}
+use Rattle.gd_crew.specs.declared.job.ReadReply.{ReadReply}
+use Rattle.gd_crew.specs.declared.seated.Seated.{Seated}
+use Rattle.gd_crew.specs.declared.worker.Worker.{Worker}
+use Rattle.gd_crew.specs.Runs.{ReplyValue}
+use Rattle.gd_crew.specs.Reading.{bytes_of}
+use Rattle.gd_crew.specs.Seated.{reply_view}
 use Rattle.gd_crew.specs.Ready.{IsManned}
 use Rattle.gd_crew.specs.Joined.{RepliesTo, IsReplyOver, HasRead, HasWorked}
 use Rattle.gd_crew.specs.Collected.{IsOfTable, IsFrontOf, TakesReplies, TakesSessions, TakesWorkers}

@@ -3,12 +3,12 @@ use Rattle.std.specs.Prelude.{◌≡◌, ℕ, ◌≤◌, List, length, take, Opt
 use Rattle.std.specs.List.{All, AllByRecursion}
 use Rattle.logbook.specs.Pages.{Book}
 use Rattle.gd_prim.specs.declared.Batch.{Batch}
-use Rattle.gd_caller.specs.declared.work.ReadLine.{ReadLine}
-use Rattle.gd_caller.specs.declared.worked.Worked.{Worked}
-use Rattle.gd_caller.specs.Worked.{AreWorked}
-use Rattle.gd_workers.specs.declared.seated.Seated.{Seated}
-use Rattle.gd_workers.specs.declared.worker.Worker.{Worker}
-use Rattle.gd_workers.specs.Runs.{ReplyValue}
+use Rattle.gd_round_lines.specs.declared.work.ReadLine.{ReadLine}
+use Rattle.gd_round_lines.specs.declared.worked.Worked.{Worked}
+use Rattle.gd_round_lines.specs.Worked.{AreWorked}
+use Rattle.gd_crew.specs.declared.seated.Seated.{Seated}
+use Rattle.gd_crew.specs.declared.worker.Worker.{Worker}
+use Rattle.gd_crew.specs.Runs.{ReplyValue}
 use Rattle.gd_crew.specs.Joined.{IsReplyOver, HasRead, HasWorked}
 
 -- the seat of a session is of this table

@@ -3,11 +3,11 @@ use Rattle.std.specs.Prelude.{◌≡◌, ℕ, ◌+◌, ◌^◌, ◌<◌, ◌≤�
 use Rattle.std.specs.List.{AllByRecursion}
 use Rattle.gd_runs.specs.Request.{ReadRequest, read, write}
 use Rattle.gd_mql.specs.Requests.{read_view, write_view}
-use Rattle.gd_caller.specs.declared.work.ReadLine.{ReadLine}
-use Rattle.gd_caller.specs.declared.work.WriteLine.{WriteLine}
-use Rattle.gd_caller.specs.declared.work.Works.{Works}
-use Rattle.gd_caller.specs.Works.{write_of, AreWithin}
-use Rattle.gd_workers.specs.Runs.{JobValue, writes}
+use Rattle.gd_round_lines.specs.declared.work.ReadLine.{ReadLine}
+use Rattle.gd_round_lines.specs.declared.work.WriteLine.{WriteLine}
+use Rattle.gd_round_lines.specs.declared.work.Works.{Works}
+use Rattle.gd_round_lines.specs.Works.{write_of, AreWithin}
+use Rattle.gd_crew.specs.Runs.{JobValue, writes}
 
 -- one of these reads is of this line, and asks this
 pub record IsAmong (reads : List ReadLine) (line : ℕ) (q : ReadRequest) : Type 0 where

@@ -9,12 +9,12 @@ use Rattle.gd_runs.specs.Request.{ReadRequest, reply_of}
 use Rattle.gd_runs.specs.Side.{Begun, WriteLine, KeepsRound}
 use Rattle.gd_writer.specs.Parts.{Tells}
 use Rattle.gd_writer.specs.Side.{SideValue}
-use Rattle.gd_writers.specs.Round.{most, StandsInRound, LeavesSince}
-use Rattle.gd_caller.specs.declared.work.ReadLine.{ReadLine}
-use Rattle.gd_workers.specs.declared.seated.Seated.{Seated}
-use Rattle.gd_workers.specs.declared.worker.Worker.{Worker}
-use Rattle.gd_workers.specs.Runs.{ReplyValue}
-use Rattle.gd_workers.specs.Seated.{reply_view, Begins, AllRun}
+use Rattle.gd_crew.specs.Round.{most, StandsInRound, LeavesSince}
+use Rattle.gd_round_lines.specs.declared.work.ReadLine.{ReadLine}
+use Rattle.gd_crew.specs.declared.seated.Seated.{Seated}
+use Rattle.gd_crew.specs.declared.worker.Worker.{Worker}
+use Rattle.gd_crew.specs.Runs.{ReplyValue}
+use Rattle.gd_crew.specs.Seated.{reply_view, Begins, AllRun}
 use Rattle.gd_crew.specs.Jobs.{IsAmong}
 
 -- ---- the side

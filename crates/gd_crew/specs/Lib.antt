@@ -1,3 +1,9 @@
+pub mod Round
+pub mod Reading
+pub mod Runs
+pub mod Seated
+pub mod Turns
+pub mod Writing
 pub mod Jobs
 pub mod Ready
 pub mod Texts

@@ -4,11 +4,11 @@ use Rattle.std.specs.List.{All}
 use Rattle.logbook.specs.Pages.{Book}
 use Rattle.gd_runs.specs.Side.{Begun}
 use Rattle.gd_seats.specs.Session.{SessionValue, reads as what_reads}
-use Rattle.gd_caller.specs.declared.work.Works.{Works}
-use Rattle.gd_caller.specs.Works.{write_of}
-use Rattle.gd_workers.specs.declared.seated.Seated.{Seated}
-use Rattle.gd_workers.specs.declared.worker.Worker.{Worker}
-use Rattle.gd_workers.specs.Seated.{share_of, Begins}
+use Rattle.gd_round_lines.specs.declared.work.Works.{Works}
+use Rattle.gd_round_lines.specs.Works.{write_of}
+use Rattle.gd_crew.specs.declared.seated.Seated.{Seated}
+use Rattle.gd_crew.specs.declared.worker.Worker.{Worker}
+use Rattle.gd_crew.specs.Seated.{share_of, Begins}
 use Rattle.gd_crew.specs.Jobs.{AreJobs}
 
 -- a session that nobody has is over a seat of this table, and reads nothing

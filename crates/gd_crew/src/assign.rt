@@ -5,15 +5,15 @@ ghost use Rattle.gd_crew.specs.Jobs.{AreNumbered};
 ghost use Rattle.gd_crew.specs.Ready.{IsIdle, IsReady, IsManned, MayHire, lent};
 
 use crate::collect::dismiss;
+use crate::seated::Seated;
 use crate::seats::lend;
+use crate::worker::Worker;
 use gd_base::memory::Memory;
-use gd_caller::work::{ReadLine, Works};
 use gd_disk::disk::Disk;
 use gd_outside::clock::Clock;
+use gd_round_lines::work::{ReadLine, Works};
 use gd_seats::session::Session;
 use gd_shared::Receipt;
-use gd_workers::seated::Seated;
-use gd_workers::worker::Worker;
 use gd_writer::side::WriteSide;
 use std::alloc::Global;
 

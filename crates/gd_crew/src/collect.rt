@@ -2,22 +2,22 @@
 ghost use Rattle.std.specs.Prelude.{◌≡◌, ◌≤◌, ◌<◌, ◌+◌, ◌∷◌, [], length, map, None, Some, slice_set, vec_capacity};
 ghost use Rattle.std.specs.List.{All, AllByRecursion};
 ghost use Rattle.gd_runs.specs.Legal.{batches};
-ghost use Rattle.gd_caller.specs.Worked.{AreWorked};
-ghost use Rattle.gd_workers.specs.Seated.{reply_view};
+ghost use Rattle.gd_round_lines.specs.Worked.{AreWorked};
+ghost use Rattle.gd_crew.specs.Seated.{reply_view};
 ghost use Rattle.gd_crew.specs.Ready.{IsIdle, lent};
 ghost use Rattle.gd_crew.specs.Joined.{HasWorked};
 ghost use Rattle.gd_crew.specs.Collected.{IsOfTable, TakesReplies, TakesSessions, TakesWorkers};
 
+use crate::job::ReadReply;
+use crate::seated::Seated;
 use crate::seats::take_back;
-use gd_caller::work::Works;
-use gd_caller::worked::Worked;
+use crate::worker::Worker;
 use gd_disk::disk::Disk;
 use gd_outside::clock::Clock;
+use gd_round_lines::work::Works;
+use gd_round_lines::worked::Worked;
 use gd_seats::session::Session;
 use gd_shared::Receipt;
-use gd_workers::job::ReadReply;
-use gd_workers::seated::Seated;
-use gd_workers::worker::Worker;
 use gd_writer::side::WriteSide;
 use std::alloc::Global;
 

@@ -1,13 +1,13 @@
 //! The jobs of a session.
 ghost use Rattle.std.specs.Prelude.{◌≡◌, ◌<◌, ◌==◌, ◌∷◌, [], length, map, filter, IfOk, OnOk};
 ghost use Rattle.std.specs.List.{AllByRecursion};
-ghost use Rattle.gd_caller.specs.Writes.{MayBeWritten};
-ghost use Rattle.gd_workers.specs.Seated.{job_view};
+ghost use Rattle.gd_round_lines.specs.Works.{MayBeWritten};
+ghost use Rattle.gd_crew.specs.Seated.{job_view};
 ghost use Rattle.gd_crew.specs.Jobs.{job_of_read, job_of_write, Adds, AreJobsOf, AreNumbered, MayBeRead};
 
+use crate::job::{Job, Work};
 use gd_base::memory::Memory;
-use gd_caller::work::{ReadLine, Works, WriteLine};
-use gd_workers::job::{Job, Work};
+use gd_round_lines::work::{ReadLine, Works, WriteLine};
 use std::alloc::Global;
 
 /// The job of a read line. Its length is told nobody.

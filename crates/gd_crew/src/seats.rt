@@ -5,11 +5,11 @@ ghost use Rattle.gd_crew.specs.Jobs.{AreNumbered};
 ghost use Rattle.gd_crew.specs.Ready.{IsIdle, IsReady};
 
 use crate::jobs::jobs_of;
+use crate::seated::Seated;
 use gd_base::memory::Memory;
-use gd_caller::work::Works;
+use gd_round_lines::work::Works;
 use gd_seats::session::Session;
 use gd_shared::Receipt;
-use gd_workers::seated::Seated;
 use std::alloc::Global;
 
 /// Takes a seat back. Its reading ends, if it holds one.

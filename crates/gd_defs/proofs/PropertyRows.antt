@@ -13,13 +13,14 @@ use Rattle.gd_defs.specs.Asked.{test_of, bad_query}
 pub long_pattern : test_of [] (a_value of_text) [] words (text (replicate 4097 97)) ≡ Err (bad_query bad_value [])
 long_pattern = refl
 
--- links to an object, and to a value
-pub links : (has_link builtin 1 14 (datum.Object 12) && has_link builtin 3 13 (datum.Text (codes "English")) && not (has_link builtin 3 13 (datum.Text (codes "Deutsch")))) ≡ true
+-- links to an object, and to a text in its language
+pub links : (has_link builtin 1 14 (datum.Object 12) 3 && has_link builtin 3 13 (datum.Text (codes "English")) 3 && not (has_link builtin 3 13 (datum.Text (codes "Deutsch")) 3)
+    && not (has_link builtin 3 13 (datum.Text (codes "English")) 2)) ≡ true
 links = refl
 
 -- a property has to be an object: here the name's own primitive has a successor
 abbrev dead : Primitive
-dead = record { left = None; right = None; typ = None; scope = None; value = datum.Empty; name = None; previous = Some 13; live = false; moment = 0 }
+dead = record { left = None; right = None; typ = None; scope = None; value = datum.Empty; name = None; previous = Some 13; live = false; moment = 0; lang = None }
 
 pub no_object : property_object (builtin ++ dead ∷ []) None (codes "name") ≡ None
 no_object = refl

@@ -3,17 +3,18 @@ pub mod Tests
 pub mod Parts
 pub mod Forms
 pub use Rattle.gd_defs.specs.Asked.Tests.{Unknown, no_such_id, no_such_property, bad_query, bad, place_named, operand_datum, test_of}
-pub use Rattle.gd_defs.specs.Asked.Parts.{Own, its_id, its_guid, its_timestamp, its_link, its_value, its_namespace, Key, by_guid, by_timestamp, by_property, SortKey, Style, as_operand, as_value, as_name, as_id, as_clause, Asking, Members, no_members, own, asks, Clause}
+pub use Rattle.gd_defs.specs.Asked.Parts.{Own, its_id, its_guid, its_timestamp, its_link, its_value, its_namespace, its_lang, Key, by_guid, by_timestamp, by_property, SortKey, Style, as_operand, as_value, as_name, as_id, as_clause, Asking, Members, no_members, own, asks, Clause}
 pub use Rattle.gd_defs.specs.Asked.Forms.{name_property}
 use Rattle.std.specs.Prelude.{ℕ, List, [], ◌∷◌, ◌++◌, Bool, true, false, ◌&&◌, Option, Some, None, unwrap_or, Result, Ok, Err, if◌then◌else◌, codes, bytes_eq}
 use Rattle.std.specs.Option.{option_map_or}
+use Rattle.gd_base.specs.declared.datum.Datum.TheVariants as datum
 use Rattle.gd_prim.specs.declared.Primitive.{Primitive}
 use Rattle.gd_grammar.specs.Chain.{◌>>=◌}
 use Rattle.gd_tree.specs.Json.{Json, text}
-use Rattle.gd_defs.specs.Data.{of_datetime, Test, anything}
+use Rattle.gd_defs.specs.Data.{of_text, of_datetime, Test, anything, equals}
 use Rattle.gd_defs.specs.Query as query
-use Rattle.gd_defs.specs.Query.{Name, Operator, Form, SortWord, bad_operator, value_reversed, object_form, bad_sort, Query, is_word, is_link}
-use Rattle.gd_defs.specs.Property.{Property, Expects, a_value, a_key, an_object_of_system, expects_of, property, property_object, holds_values, is_reversed_value}
+use Rattle.gd_defs.specs.Query.{Name, Operator, Form, SortWord, bad_operator, value_reversed, object_form, bad_sort, bad_lang, Query, is_word, is_link}
+use Rattle.gd_defs.specs.Property.{Property, Expects, a_value, a_key, an_object_of_system, expects_of, property, property_object, holds_values, is_language, is_reversed_value}
 use Rattle.gd_defs.specs.Asked.Tests.{allows, checked_test}
 use Rattle.gd_defs.specs.Asked.Forms.{ask_form, operand_form, clause_form, asks_single}
 
@@ -69,6 +70,8 @@ abbrev pub takes : Own → Operator → Bool
 takes its_link _ = false
 takes its_namespace query.one_of = false
 takes its_namespace query.differs = false
+takes its_lang query.one_of = false
+takes its_lang query.differs = false
 takes its_timestamp query.no_operator = false
 takes its_timestamp query.one_of = false
 takes its_timestamp query.differs = false
@@ -76,9 +79,27 @@ takes its_timestamp query.words = false
 takes its_timestamp _ = true
 takes o operator = allows an_object_of_system operator
 
+-- the object that a test asks for, if it asks for one alone
+abbrev pub asked_object : Test → Option ℕ
+asked_object (equals (datum.Object o)) = Some o
+asked_object t = None
+
+-- a test asks for a language
+abbrev pub names_language : List Primitive → Test → Bool
+names_language prims t = option_map_or (is_language prims) (asked_object t) false
+
+-- a test of the language of texts has to ask for a language
+abbrev pub speaks : List Primitive → List (List ℕ) → Test → Result Test Unknown
+speaks prims path t = if names_language prims t then Ok t else bad bad_lang path
+
+-- what a computed word asks of its test: `lang` that it names a language, the others nothing
+abbrev pub told : List Primitive → List (List ℕ) → Own → Test → Result Test Unknown
+told prims path its_lang t = speaks prims path t
+told prims path o t = Ok t
+
 -- the test of a computed member, if its word takes the operator
 abbrev pub own_test : List Primitive → List (List ℕ) → Own → Operator → Json → Result Test Unknown
-own_test prims path o operator j = if takes o operator then test_of prims (own_expects o) path operator j else bad bad_operator path
+own_test prims path o operator j = if takes o operator then (test_of prims (own_expects o) path operator j >>= told prims path o) else bad bad_operator path
 
 -- a computed member in front of the rest
 abbrev pub with_own : Name → Own → Option Json → Result Test Unknown → Result Clause Unknown → Result Clause Unknown
@@ -98,12 +119,18 @@ abbrev pub has_namespace : Expects → Bool
 has_namespace a_key = true
 has_namespace _ = false
 
--- a member of a form on a value or a key, in front of the rest: its link, its value, and of a key the namespace
+-- a text has a language, nothing else has one
+abbrev pub has_lang : Expects → Bool
+has_lang (a_value of_text) = true
+has_lang _ = false
+
+-- a member of a form on a value or a key, in front of the rest: its link, its value, of a key the namespace, and of a text the language
 abbrev pub value_member : List Primitive → Expects → List (List ℕ) → Name → Form → Result Clause Unknown → Result Clause Unknown
 value_member prims e path n f rest =
     if is_link n.word then own_member path n its_link f (own_test prims path its_link n.operator) rest
     else if bytes_eq n.word (codes "value") then own_member path n its_value f (checked_test prims e path n.operator) rest
     else if bytes_eq n.word (codes "namespace") && has_namespace e then own_member path n its_namespace f (own_test prims path its_namespace n.operator) rest
+    else if bytes_eq n.word (codes "lang") && has_lang e then own_member path n its_lang f (own_test prims path its_lang n.operator) rest
     else bad object_form path
 
 -- the members of a form on a value or a key, in order

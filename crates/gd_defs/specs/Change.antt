@@ -16,11 +16,11 @@ pub data ConnectWord : Type 0 where
 pub data CreateWord : Type 0 where
   unless_exists unconditional : CreateWord
 
--- what a link leads to, as it is spelled: an id, a literal, or a literal as a key in a namespace
+-- what a link leads to, as it is spelled: an id, a literal, a literal as a text in a language, or as a key in a namespace
 pub data Target : Type 0 where
   to_id : List ℕ → Target
   to_literal : Json → Target
-  to_key : List ℕ → Json → Target
+  to_text to_key : List ℕ → Json → Target
 
 mutual
   -- what a member of a write has: null at `id` and `guid`, a literal by itself, a form with a target and its members, a connect form with the link that `previous` names and its members, a nested create, or a list of these
@@ -64,14 +64,14 @@ text_member k ms = option_and_then text_of (get k ms)
 abbrev pub made_of : List (List ℕ) → List (List ℕ) → JsonMembers → Bool
 made_of names more ms = list_all (λ k. is_some (get k ms)) names && only (names ++ more) ms
 
--- the members have the names of a fact as a form: of an id, or of a key in a namespace
+-- the members have the names of a fact as a form: of an id, of a text in a language, or of a key in a namespace
 abbrev pub is_fact_form : JsonMembers → Bool
-is_fact_form ms = made_of (codes "id" ∷ []) [] ms || made_of (codes "namespace" ∷ codes "value" ∷ []) [] ms
+is_fact_form ms = made_of (codes "id" ∷ []) [] ms || made_of (codes "lang" ∷ codes "value" ∷ []) [] ms || made_of (codes "namespace" ∷ codes "value" ∷ []) [] ms
 
--- the members have the names of a connect form: with an id, a value, or a key in a namespace; and maybe `previous`
+-- the members have the names of a connect form: with an id, a value that may have a language, or a key in a namespace; and maybe `previous`
 abbrev pub is_connect_form : JsonMembers → Bool
 is_connect_form ms = made_of (codes "connect" ∷ codes "id" ∷ []) (codes "previous" ∷ []) ms
-    || made_of (codes "connect" ∷ codes "value" ∷ []) (codes "previous" ∷ []) ms
+    || made_of (codes "connect" ∷ codes "value" ∷ []) (codes "lang" ∷ codes "previous" ∷ []) ms
     || made_of (codes "connect" ∷ codes "namespace" ∷ codes "value" ∷ []) (codes "previous" ∷ []) ms
 
 -- the word may go with `previous`
@@ -100,15 +100,16 @@ abbrev pub first_code : (List ℕ → Json → Option Code) → JsonMembers → 
 first_code code no_json_members = None
 first_code code (json_member k j ms) = option_or (option_map (λ c. record { code = c; path = k ∷ [] }) (code k j)) (first_code code ms)
 
--- the target that the members `id`, `value` and `namespace` of a form spell
+-- the target that the members `id`, `namespace`, `lang` and `value` of a form spell
 abbrev pub target_of : JsonMembers → Option Target
-target_of ms = by (text_member (codes "id") ms) (text_member (codes "namespace") ms) (get (codes "value") ms)
+target_of ms = by (text_member (codes "id") ms) (text_member (codes "namespace") ms) (text_member (codes "lang") ms) (get (codes "value") ms)
   where
-    by : Option (List ℕ) → Option (List ℕ) → Option Json → Option Target
-    by (Some t) _ _ = Some (to_id t)
-    by None (Some t) (Some j) = Some (to_key t j)
-    by None None (Some j) = Some (to_literal j)
-    by None _ None = None
+    by : Option (List ℕ) → Option (List ℕ) → Option (List ℕ) → Option Json → Option Target
+    by (Some t) _ _ _ = Some (to_id t)
+    by None (Some t) _ (Some j) = Some (to_key t j)
+    by None None (Some t) (Some j) = Some (to_text t j)
+    by None None None (Some j) = Some (to_literal j)
+    by None _ _ None = None
 
 -- the target of a form below a member, if each of its members is as its name asks
 abbrev pub target_in : List ℕ → JsonMembers → Result Target Fault

@@ -1,12 +1,12 @@
--- What it costs to resolve a query: how many ids and keys it has, and how much is said of the objects that its words lead to.
-use Rattle.std.specs.Prelude.{ℕ, ◌+◌, List, length, sum_by, ◌&&◌, ◌||◌, Option, Some, None, if◌then◌else◌, codes, bytes_eq}
+-- What it costs to resolve a query: how many ids and keys it has, and how much is said of the objects that its words and languages lead to.
+use Rattle.std.specs.Prelude.{ℕ, ◌+◌, List, length, sum_by, Bool, ◌&&◌, ◌||◌, Option, Some, None, if◌then◌else◌, codes, bytes_eq}
 use Rattle.gd_prim.specs.declared.Primitive.{Primitive}
 use Rattle.gd_prim.specs.Live.{refers, places_where}
 use Rattle.gd_defs.specs.Ids.{id_keys, path_keys, object_of}
 use Rattle.gd_tree.specs.Json.{Json, text, list, Items, no_items, item}
 use Rattle.gd_defs.specs.Query.{is_path, Name, Form, ask, ask_all, literal, operand, one, many, Members, no_members, member, sort_by, SortWord, is_identity, is_computed, is_link, Query}
 use Rattle.gd_defs.specs.Property.{Property, Expects, a_value, a_key, an_object_of_system, a_plain_object, expects_of, holds_values, property, word_object}
-use Rattle.gd_defs.specs.Asked.{type_text, has_namespace}
+use Rattle.gd_defs.specs.Asked.{type_text, has_namespace, has_lang}
 
 -- how many primitives have an object as their left end, none where there is no object
 abbrev pub said_of : List Primitive → Option ℕ → ℕ
@@ -72,12 +72,21 @@ own_cost n (literal j) = if is_identity n.word then ids_cost j else 0
 own_cost n (operand j) = if is_identity n.word then ids_cost j else 0
 own_cost n f = 0
 
--- what a form on a value or a key costs: of a key the id of its namespace
-abbrev pub value_cost : Expects → Members → ℕ
-value_cost e no_members = 0
-value_cost e (sort_by ws ms) = value_cost e ms
-value_cost e (member n (literal j) ms) = (if bytes_eq n.word (codes "namespace") && has_namespace e then ids_cost j else 0) + value_cost e ms
-value_cost e (member n f ms) = value_cost e ms
+-- what the text of a language costs: its id, and one for each primitive of which the object that it names is the left end
+abbrev pub lang_cost : List Primitive → Json → ℕ
+lang_cost prims (text t) = id_cost t + said_of prims (object_of prims t)
+lang_cost prims _ = 0
+
+-- what a member of a form on a value or a key costs: of a key the id of its namespace, of a text its language
+abbrev pub reference_cost : List Primitive → Expects → List ℕ → Json → ℕ
+reference_cost prims e word j = if bytes_eq word (codes "namespace") && has_namespace e then ids_cost j else if bytes_eq word (codes "lang") && has_lang e then lang_cost prims j else 0
+
+-- what a form on a value or a key costs: of a key the id of its namespace, of a text its language
+abbrev pub value_cost : List Primitive → Expects → Members → ℕ
+value_cost prims e no_members = 0
+value_cost prims e (sort_by ws ms) = value_cost prims e ms
+value_cost prims e (member n (literal j) ms) = reference_cost prims e n.word j + value_cost prims e ms
+value_cost prims e (member n f ms) = value_cost prims e ms
 
 abbrev mutual
   -- what the words and ids of a clause on objects cost; a computed word and `link` ask for no property
@@ -94,9 +103,9 @@ abbrev mutual
   form_cost prims expected ask_all = ask_cost prims (expects_of expected)
   form_cost prims expected (literal j) = operand_cost prims (expects_of expected) j
   form_cost prims expected (operand j) = operand_cost prims (expects_of expected) j
-  form_cost prims expected (one d ms) = if holds_values (expects_of expected) then value_cost (expects_of expected) ms else members_cost prims (context prims expected ms) ms
-  form_cost prims expected (many d ms) = if holds_values (expects_of expected) then value_cost (expects_of expected) ms else members_cost prims (context prims expected ms) ms
+  form_cost prims expected (one d ms) = if holds_values (expects_of expected) then value_cost prims (expects_of expected) ms else members_cost prims (context prims expected ms) ms
+  form_cost prims expected (many d ms) = if holds_values (expects_of expected) then value_cost prims (expects_of expected) ms else members_cost prims (context prims expected ms) ms
 
--- what resolving a query costs: its ids and keys, and what is said of the objects that its words lead to
+-- what resolving a query costs: its ids and keys, and what is said of the objects that its words and languages lead to
 abbrev pub resolving : List Primitive → Query → ℕ
 resolving prims q = members_cost prims (context prims None q.members) q.members

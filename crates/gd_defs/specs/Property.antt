@@ -6,18 +6,19 @@ use Rattle.gd_grammar.specs.Maybe.{◌>>=◌}
 use Rattle.gd_base.specs.declared.datum.Datum.{Datum}
 use Rattle.gd_base.specs.declared.datum.Datum.TheVariants as datum
 use Rattle.gd_prim.specs.declared.Primitive.{Primitive}
-use Rattle.gd_prim.specs.Builtin.{property_place, text_place, int_place, boolean_place, datetime_place, key_type_place, name_place, type_link_place, key_place, expected_place, unique_place, master_place, builtin_end}
-use Rattle.gd_prim.specs.Live.{refers, is_object, live_where, passes_at, end_at, value_at, object_datum}
+use Rattle.gd_prim.specs.Builtin.{lang_place, english_place, property_place, text_place, int_place, boolean_place, datetime_place, key_type_place, name_place, type_link_place, key_place, expected_place, unique_place, master_place, builtin_end}
+use Rattle.gd_prim.specs.Live.{refers, is_object, live_where, passes_at, end_at, value_at, object_datum, is_text, language_of}
 use Rattle.gd_defs.specs.Ids.{key_leads, object_of}
 use Rattle.gd_base.specs.Order.{datum_eq}
 use Rattle.gd_defs.specs.Data.{Kind, of_text, of_int, of_boolean, of_datetime, has_kind}
 
--- what a word asks for: links of a stored property by their left end, or reversed by their right; the type expected at the other end; and whether there is one answer at most
+-- what a word asks for: links of a stored property by their left end, or reversed by their right; the type expected at the other end; whether there is one answer at most; and the language of texts, if it asks for those of one alone
 pub record Property : Type 0 where
   pub stored : ℕ
   pub reversed : Bool
   pub expected : Option ℕ
   pub unique : Bool
+  pub language : Option ℕ
 
 -- what the answers of a property are: values of a kind, keys, objects of a system type, or other objects
 pub data Expects : Type 0 where
@@ -40,6 +41,10 @@ links_from prims typ left = live_where (λ p. refers p.typ typ && refers p.left 
 abbrev pub has_type : List Primitive → ℕ → ℕ → Bool
 has_type prims o type = list_any (λ k. passes_at (λ p. refers p.right type) prims k) (links_from prims type_link_place o)
 
+-- an object is a language: a live key link of it leads into the namespace of languages
+abbrev pub is_language : List Primitive → ℕ → Bool
+is_language prims o = list_any (λ k. passes_at (λ p. refers p.right lang_place) prims k) (links_from prims key_place o)
+
 -- the first of a list
 abbrev pub first : {A : Type 0} → List A → Option A
 first xs = slice_get xs 0
@@ -57,6 +62,11 @@ boolean_of _ = None
 abbrev pub is_unique : List Primitive → ℕ → Bool
 is_unique prims p = unwrap_or (first (filter_map (λ k. boolean_of (value_at prims k)) (links_from prims unique_place p))) false
 
+-- the language of the texts that are asked for where nothing is said of it: English; of what is no text none
+abbrev pub plain_language : Expects → Option ℕ
+plain_language (a_value of_text) = Some english_place
+plain_language _ = None
+
 -- the property that an object states: that of its master backwards, or its own
 abbrev pub stated : List Primitive → ℕ → Property
 stated prims p = record {
@@ -64,11 +74,12 @@ stated prims p = record {
   reversed = is_some (first_right prims master_place p);
   expected = first_right prims expected_place p;
   unique = is_unique prims p;
+  language = plain_language (expects_of (first_right prims expected_place p));
 }
 
 -- a property in the other direction, of which nothing is known
 abbrev pub turned : Property → Property
-turned p = record { stored = p.stored; reversed = not p.reversed; expected = None; unique = false }
+turned p = record { stored = p.stored; reversed = not p.reversed; expected = None; unique = false; language = None }
 
 -- the object that a word leads to: a path is an id, `name`, `type` and `key` are of every object, another key stands in the context type
 abbrev pub word_object : List Primitive → Option ℕ → List ℕ → Option ℕ
@@ -104,10 +115,18 @@ holds_expected prims (a_value k) p = has_kind k p.value
 holds_expected prims a_key p = leads_to_object prims p.right && has_kind of_text p.value
 holds_expected prims _ p = leads_to_object prims p.right
 
--- the answers of a property on an object: live links, in order of their places
+-- a link is in the language that a property asks for, if it asks for one
+abbrev pub in_language : Property → Primitive → Bool
+in_language p k = option_map_or (refers (language_of k)) p.language true
+
+-- a primitive is of a property: it has its typ, and is in its language
+abbrev pub is_of : Property → Primitive → Bool
+is_of p k = refers k.typ p.stored && in_language p k
+
+-- the answers of a property on an object: live links, of texts those in its language, in order of their places
 abbrev pub answers : List Primitive → Property → ℕ → List ℕ
-answers prims p s = if p.reversed then live_where (λ k. refers k.typ p.stored && refers k.right s && leads_to_object prims k.left) prims
-    else live_where (λ k. refers k.typ p.stored && refers k.left s && holds_expected prims (expects_of p.expected) k) prims
+answers prims p s = if p.reversed then live_where (λ k. is_of p k && refers k.right s && leads_to_object prims k.left) prims
+    else live_where (λ k. is_of p k && refers k.left s && holds_expected prims (expects_of p.expected) k) prims
 
 -- the end of a link by which a property is asked
 abbrev pub near_of : Property → Primitive → Option ℕ
@@ -130,10 +149,11 @@ answer_datum prims p k = by (if p.reversed then a_plain_object else expects_of p
     by a_key = value_at prims k
     by _ = object_datum (far_end prims p k)
 
--- a live link of a typ leads from an object to a datum: to an object as its right end, or to a value
-abbrev pub has_link : List Primitive → ℕ → ℕ → Datum → Bool
-has_link prims s p d = list_any (λ k. passes_at (leads_to d) prims k) (links_from prims p s)
+-- a live link of a typ leads from an object to a datum: to an object as its right end, to a text in a language, or to another value
+abbrev pub has_link : List Primitive → ℕ → ℕ → Datum → ℕ → Bool
+has_link prims s p d language = list_any (λ k. passes_at (leads_to d) prims k) (links_from prims p s)
   where
     leads_to : Datum → Primitive → Bool
     leads_to (datum.Object o) q = refers q.right o
+    leads_to (datum.Text t) q = is_text t q.value && refers (language_of q) language
     leads_to v q = datum_eq q.value v

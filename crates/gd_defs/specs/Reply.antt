@@ -16,7 +16,7 @@ use Rattle.gd_grammar.specs.Chain.{◌>>=◌, map_err}
 use Rattle.gd_defs.specs.Query.{Code, Query}
 use Rattle.gd_defs.specs.Query as query
 use Rattle.gd_defs.specs.Property.{answers, answer_datum, first}
-use Rattle.gd_defs.specs.Asked.{Own, its_id, its_namespace, Style, as_operand, as_value, as_id, as_clause, SortKey, Asking, Members, no_members, own, asks, Asked, asked_query, Unknown, no_such_id, no_such_property, bad_query, name_property}
+use Rattle.gd_defs.specs.Asked.{Own, its_id, its_namespace, its_lang, Style, as_operand, as_value, as_id, as_clause, SortKey, Asking, Members, no_members, own, asks, Asked, asked_query, Unknown, no_such_id, no_such_property, bad_query, name_property}
 use Rattle.gd_defs.specs.Rows.{Row, row_cmp, own_datum, met, printed, rows, candidates, row_weight}
 use Rattle.gd_defs.specs.Lines.{Refusal, refusal, refused_at, too_wide, too_large, ok_line, ok_cursor_line, err_line, count_json, texts}
 
@@ -40,6 +40,7 @@ code_text query.object_form = codes "object_form"
 code_text query.bad_sort = codes "bad_sort"
 code_text query.not_met = codes "not_met"
 code_text query.bad_previous = codes "bad_previous"
+code_text query.bad_lang = codes "bad_lang"
 
 -- the refusal that a code at a path is
 abbrev pub bad_query_refusal : Code → List (List ℕ) → Refusal
@@ -58,7 +59,7 @@ abbrev pub id_json : List Primitive → Datum → Json
 id_json prims (datum.Object o) = text (id_text prims o)
 id_json prims d = datum_json d
 
--- the first name of an object, or null
+-- the first English name of an object, or null
 abbrev pub first_name : List Primitive → ℕ → Json
 first_name prims o = option_map_or (λ k. datum_json (value_at prims k)) (first (answers prims name_property o)) null
 
@@ -66,6 +67,7 @@ first_name prims o = option_map_or (λ k. datum_json (value_at prims k)) (first 
 abbrev pub own_json : List Primitive → Own → ℕ → ℕ → Json
 own_json prims its_id link o = id_json prims (own_datum prims its_id link o)
 own_json prims its_namespace link o = id_json prims (own_datum prims its_namespace link o)
+own_json prims its_lang link o = id_json prims (own_datum prims its_lang link o)
 own_json prims w link o = datum_json (own_datum prims w link o)
 
 -- what an answer prints that no clause of its own prints

@@ -9,12 +9,12 @@ use Rattle.gd_base.specs.declared.datum.Datum.{Datum}
 use Rattle.gd_base.specs.declared.datum.Datum.TheVariants as datum
 use Rattle.gd_base.specs.declared.datum.Precision.TheVariants.{Time}
 use Rattle.gd_prim.specs.declared.Primitive.{Primitive}
-use Rattle.gd_prim.specs.Live.{objects, end_at, value_at, object_datum}
+use Rattle.gd_prim.specs.Live.{objects, end_at, value_at, object_datum, language_at}
 use Rattle.gd_base.specs.Order.{datum_cmp}
 use Rattle.gd_defs.specs.Data.{passes}
 use Rattle.gd_defs.specs.Query.{Mode, required, optional, forbidden}
 use Rattle.gd_defs.specs.Property.{Property, answers, answer_datum, far_end, first}
-use Rattle.gd_defs.specs.Asked.{Own, its_id, its_guid, its_timestamp, its_link, its_value, its_namespace, Key, by_guid, by_timestamp, by_property, SortKey, Asking, Members, no_members, own, asks, Asked}
+use Rattle.gd_defs.specs.Asked.{Own, its_id, its_guid, its_timestamp, its_link, its_value, its_namespace, its_lang, Key, by_guid, by_timestamp, by_property, SortKey, Asking, Members, no_members, own, asks, Asked}
 
 -- the moment of the primitive at a place, in the precision of times
 abbrev pub timestamp : List Primitive → ℕ → Datum
@@ -28,6 +28,7 @@ own_datum prims its_timestamp link o = timestamp prims o
 own_datum prims its_link link o = datum.Object link
 own_datum prims its_value link o = value_at prims link
 own_datum prims its_namespace link o = object_datum (end_at (λ p. p.right) prims link)
+own_datum prims its_lang link o = object_datum (language_at prims link)
 
 -- the object at the other end of a link; 0 where there is none, of which nothing is asked then
 abbrev pub far : List Primitive → Property → ℕ → ℕ

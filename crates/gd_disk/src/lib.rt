@@ -8,6 +8,7 @@ mod kept_file;
 pub mod memory_disk;
 pub mod memory_shelf;
 pub mod shelf;
+pub mod steady_disk;
 
 /// The disk or the shelf failed.
 #[derive(Clone, Copy, Debug, PartialEq, Eq)]

@@ -30,3 +30,4 @@ code_view code.ObjectForm = query.object_form
 code_view code.BadSort = query.bad_sort
 code_view code.NotMet = query.not_met
 code_view code.BadPrevious = query.bad_previous
+code_view code.BadLang = query.bad_lang

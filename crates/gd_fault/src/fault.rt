@@ -44,8 +44,10 @@ pub enum Code {
     BadSort,
     /// A fact of an existing object does not hold.
     NotMet,
-    /// No link of this object and property stands there.
+    /// No link of this object, property and language stands there.
     BadPrevious,
+    /// The object that a language names is none.
+    BadLang,
 }
 
 impl Code {
@@ -67,7 +69,8 @@ impl Code {
             Code::ObjectForm => "the member may not stand in a form on a value",
             Code::BadSort => "rows can not be sorted by this word",
             Code::NotMet => "the object does not have this value",
-            Code::BadPrevious => "no link of this object and property stands there",
+            Code::BadPrevious => "no link of this object, property and language stands there",
+            Code::BadLang => "the object is no language",
         }
     }
 }

@@ -1,2 +1,14 @@
 pub mod Steps
 pub mod Whole
+pub mod Runs
+pub mod TreeTexts
+pub mod TreeSteps
+pub mod TreeReads
+pub mod TreesSteady
+pub mod FrozenSteady
+pub mod Flat
+pub mod Loops
+pub mod Others
+pub mod Shorter
+pub mod Bodies
+pub mod Printed

@@ -1,2 +1,14 @@
 pub mod Finds
 pub mod Meant
+pub mod Pieces
+pub mod FrozenAt
+pub mod Halts
+pub mod Moving
+pub mod Meaning
+pub mod Skipping
+pub mod RowSteps
+pub mod WalkSteps
+pub mod BodySteps
+pub mod Printing
+pub mod Flatly
+pub mod Written

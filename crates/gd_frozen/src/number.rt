@@ -7,16 +7,17 @@ ghost use Rattle.gd_frozen.specs.Finds.{Finds};
 use crate::stop::Stop;
 
 /// Whether a number goes on with a byte: a digit with which it stays within the bound. Nothing goes on behind 0.
-fn goes_on(n: u32, byte: u8, bound: u32) -> bool
-    requires small { bound < 2 ^ 28 }
+pub(crate) fn goes_on(n: u32, byte: u8, bound: u32) -> bool
     requires within { n ≤ bound }
     ensures { result ≡ (is_ascii_digit byte && not (n == 0) && nat_le (10 * n + (byte - 48)) bound) }
 {
-    byte.is_ascii_digit() && n != 0 && 10 * n + u32::from(byte - b'0') <= bound
+    byte.is_ascii_digit()
+        && n != 0
+        && 10 * u64::from(n) + u64::from(byte - b'0') <= u64::from(bound)
 }
 
 /// Whether a number begins with a byte: a digit within the bound.
-fn begins(byte: u8, bound: u32) -> bool
+pub(crate) fn begins(byte: u8, bound: u32) -> bool
     ensures { result ≡ (is_ascii_digit byte && nat_le (byte - 48) bound) }
 {
     byte.is_ascii_digit() && u32::from(byte - b'0') <= bound
@@ -24,7 +25,6 @@ fn begins(byte: u8, bound: u32) -> bool
 
 /// The number that `first` becomes by the digits that follow, and the bytes behind them.
 fn digits(bytes: &[u8], first: u32, bound: u32) -> (u32, &[u8])
-    requires small { bound < 2 ^ 28 }
     requires within { first ≤ bound }
     ensures { digits_at bound first bytes.now ≡ (result.0, result.1.now) }
 {
@@ -42,7 +42,6 @@ fn digits(bytes: &[u8], first: u32, bound: u32) -> (u32, &[u8])
 
 /// Reads a number within the bound.
 pub(crate) fn number(bytes: &[u8], bound: u32) -> Result<(u32, &[u8]), Stop>
-    requires { bound < 2 ^ 28 }
     ensures { Finds (λ x. (x.0, x.1.now)) (number_at bound bytes.now) result }
 {
     match bytes {

@@ -29,7 +29,7 @@ pub(crate) fn byte(bytes: &[u8], expected: u8) -> Result<&[u8], Stop>
 }
 
 /// Reads the place of a key.
-fn place(bytes: &[u8]) -> Result<(Option<u32>, &[u8]), Stop>
+pub(crate) fn place(bytes: &[u8]) -> Result<(Option<u32>, &[u8]), Stop>
     ensures { Finds (λ x. (x.0, x.1.now)) (place_at bytes.now) result }
 {
     match bytes {
@@ -64,7 +64,7 @@ fn next_place(bytes: &[u8]) -> Result<(Option<u32>, &[u8]), Stop>
 }
 
 /// The identity at a place.
-fn id_of(place: Option<u32>) -> Option<Id>
+pub(crate) fn id_of(place: Option<u32>) -> Option<Id>
     ensures { result ≡ place }
 {
     match place {

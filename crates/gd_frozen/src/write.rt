@@ -11,7 +11,7 @@ use itoa::Buffer;
 use std::alloc::Global;
 
 /// Appends a text and, behind it, a number in decimal digits.
-fn push_number(out: &mut String, front: &str, n: u32) -> Result<(), Memory>
+pub(crate) fn push_number(out: &mut String, front: &str, n: u32) -> Result<(), Memory>
     ensures { OnOk result (string_bytes out.new ≡ string_bytes out.old ++ front.now ++ decimal n) }
 {
     out.push_str(front)?;

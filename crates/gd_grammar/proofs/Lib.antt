@@ -6,3 +6,4 @@ pub mod Utf8Runs
 pub mod Utf8
 pub mod Options
 pub mod Steps
+pub mod Steady

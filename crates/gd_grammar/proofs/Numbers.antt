@@ -152,11 +152,11 @@ behind_all : (k m n b : ℕ) (t : List ℕ) → length t ≤ k → m < 2 ^ 64 �
 behind_all zero = behind_step 0 (λ m n b t short. absurd (omega (arith, short)))
 behind_all (suc k) = behind_step (suc k) (λ m n b t short. behind_all k m n b t (omega (arith, short)))
 
-digit_behind : (m n b : ℕ) (t : List ℕ) → m < 2 ^ 64 → n < 2 ^ 64 → decimal n ≡ decimal m ++ (b ∷ t) → Behind m n b
+pub digit_behind : (m n b : ℕ) (t : List ℕ) → m < 2 ^ 64 → n < 2 ^ 64 → decimal n ≡ decimal m ++ (b ∷ t) → Behind m n b
 digit_behind m n b t = behind_all (length t) m n b t (omega arith)
 
 -- the decimal of a number that goes on by a digit
-digit_more : (m c : ℕ) → 0 < m → 48 ≤ c → c ≤ 57 → 10 * m + (c - 48) < 2 ^ 64 → decimal (10 * m + (c - 48)) ≡ decimal m ++ (c ∷ [])
+pub digit_more : (m c : ℕ) → 0 < m → 48 ≤ c → c ≤ 57 → 10 * m + (c - 48) < 2 ^ 64 → decimal (10 * m + (c - 48)) ≡ decimal m ++ (c ∷ [])
 digit_more m c some low high fits =
     let front : (10 * m + (c - 48)) / 10 ≡ m = omega arith in
     let last : 48 + (10 * m + (c - 48)) % 10 ≡ c = omega arith in
@@ -190,11 +190,11 @@ first_all (suc k) = first_step (suc k) (λ n c t h. first_all k n c t (omega (ar
 pub first_digit : (n c : ℕ) (t : List ℕ) → n < 2 ^ 64 → decimal n ≡ c ∷ t → FirstDigit c
 first_digit n c t = first_all n n c t (omega arith)
 
-one_digit : (c : ℕ) → 48 ≤ c → c ≤ 57 → decimal (c - 48) ≡ c ∷ []
+pub one_digit : (c : ℕ) → 48 ≤ c → c ≤ 57 → decimal (c - 48) ≡ c ∷ []
 one_digit c low high = decimal_digit (c - 48) (omega (arith, low, high)) ∙ (let is : 48 + (c - 48) ≡ c = omega (arith, low) in ap (λ (d : ℕ). d ∷ []) is)
 
 -- the first digit of a decimal is at most its number
-digit_within : (n c : ℕ) (t : List ℕ) → n < 2 ^ 64 → decimal n ≡ c ∷ t → c - 48 ≤ n
+pub digit_within : (n c : ℕ) (t : List ℕ) → n < 2 ^ 64 → decimal n ≡ c ∷ t → c - 48 ≤ n
 digit_within n c [] n_big is =
     let (low, high) = first_digit n c [] n_big is in
     let same = decimal_injective n (c - 48) n_big (omega (arith, high)) (is ∙ sym (one_digit c low high)) in
@@ -236,7 +236,7 @@ pub record Digits (bound n : ℕ) (cs : List ℕ) (r : ℕ × List ℕ) : Type 0
   pub within : r.0 ≤ bound
   pub last : Ends (Number bound) (decimal r.0) r.1
 
-digits_found : (bound : ℕ) → bound < 2 ^ 60 → (n : ℕ) (cs : List ℕ) → n ≤ bound → Digits bound n cs (digits_at bound n cs)
+digits_found : (bound : ℕ) → bound < 2 ^ 64 → (n : ℕ) (cs : List ℕ) → n ≤ bound → Digits bound n cs (digits_at bound n cs)
 digits_found bound small n [] within = record { text = []; value = sym (append-nil (decimal n)); split = refl; within = within; last = λ b more e begun. absurd (apart b more e) }
   where
     apart : (b : ℕ) (more : List ℕ) → [] ≡ b ∷ more → ⊥
@@ -269,7 +269,7 @@ digits_found bound small n (c ∷ cs) within = by (λ h. digits_found bound smal
           true_false (true_goes_on bound n c p q r (omega (arith, s, n'_within))) e;
     }
 
-digits_all : (bound : ℕ) → bound < 2 ^ 60 → (n m : ℕ) (w rest : List ℕ) → n ≤ bound → m ≤ bound → decimal m ≡ decimal n ++ w → Ends (Number bound) (decimal m) rest → digits_at bound n (w ++ rest) ≡ (m, rest)
+digits_all : (bound : ℕ) → bound < 2 ^ 64 → (n m : ℕ) (w rest : List ℕ) → n ≤ bound → m ≤ bound → decimal m ≡ decimal n ++ w → Ends (Number bound) (decimal m) rest → digits_at bound n (w ++ rest) ≡ (m, rest)
 digits_all bound small n m [] [] n_in m_in is ends =
     let same = decimal_injective m n (omega (arith, m_in, small)) (omega (arith, n_in, small)) (is ∙ append-nil (decimal n)) in
     ap (λ (x : ℕ). (x, [])) (sym same)
@@ -298,7 +298,7 @@ digits_all bound small n m (c ∷ w) rest n_in m_in is ends =
 abbrev number_by : ℕ → ℕ → List ℕ → Bool → Reads ℕ
 number_by bound c cs t = if t then Ok (digits_at bound (c - 48) cs) else Err (c ∷ cs)
 
-number_found : (bound : ℕ) → bound < 2 ^ 60 → (bytes : List ℕ) (n : ℕ) (rest : List ℕ) → number_at bound bytes ≡ Ok (n, rest) → Found (Number bound) bytes n rest
+number_found : (bound : ℕ) → bound < 2 ^ 64 → (bytes : List ℕ) (n : ℕ) (rest : List ℕ) → number_at bound bytes ≡ Ok (n, rest) → Found (Number bound) bytes n rest
 number_found bound small [] n rest is = cc
 number_found bound small (c ∷ cs) n rest is = by (is_ascii_digit c && nat_le (c - 48) bound) refl is
   where
@@ -319,7 +319,7 @@ number_found bound small (c ∷ cs) n rest is = by (is_ascii_digit c && nat_le (
         }
     by false e same = cc
 
-number_all : (bound : ℕ) → bound < 2 ^ 60 → (n : ℕ) (w rest : List ℕ) → Number bound n w → Ends (Number bound) w rest → number_at bound (w ++ rest) ≡ Ok (n, rest)
+number_all : (bound : ℕ) → bound < 2 ^ 64 → (n : ℕ) (w rest : List ℕ) → Number bound n w → Ends (Number bound) w rest → number_at bound (w ++ rest) ≡ Ok (n, rest)
 number_all bound small n w rest (within, w_is) ends = ap (λ (l : List ℕ). number_at bound (l ++ rest)) w_is ∙ at (decimal n) refl
   where
     n_big : n < 2 ^ 64
@@ -335,7 +335,7 @@ number_all bound small n w rest (within, w_is) ends = ap (λ (l : List ℕ). num
         ap (λ (b : Bool). number_by bound c (t ++ rest) b) (true_begins bound c low high fits)
         ∙ ap (λ (r : ℕ × List ℕ). ok_of r) (digits_all bound small (c - 48) n t rest fits within there (subst (λ (l : List ℕ). Ends (Number bound) l rest) w_is ends))
 
-number_stops : (bound : ℕ) → bound < 2 ^ 60 → (bytes rest : List ℕ) → number_at bound bytes ≡ Err rest → Stops (Number bound) bytes rest
+number_stops : (bound : ℕ) → bound < 2 ^ 64 → (bytes rest : List ℕ) → number_at bound bytes ≡ Err rest → Stops (Number bound) bytes rest
 number_stops bound small [] rest is = record { front = []; split = cc; begins = (0, decimal 0, decimal 0, (omega arith, refl), refl); last = λ b more e begun. cc }
 number_stops bound small (c ∷ cs) rest is = by (is_ascii_digit c && nat_le (c - 48) bound) refl is
   where
@@ -354,11 +354,11 @@ number_stops bound small (c ∷ cs) rest is = by (is_ascii_digit c && nat_le (c 
           true_false (true_begins bound c low high (omega (arith, least, within))) e;
     }
 
-pub Scans-number : (bound : ℕ) → bound < 2 ^ 60 → Scans (Number bound) (number_at bound)
+pub Scans-number : (bound : ℕ) → bound < 2 ^ 64 → Scans (Number bound) (number_at bound)
 Scans-number bound small = record { found = number_found bound small; all = number_all bound small; stops = number_stops bound small }
 
 -- no number goes on with another byte than a digit
-pub number_ends : (bound n b : ℕ) (w u : List ℕ) → bound < 2 ^ 60 → Number bound n w → ((48 ≤ b) × (b ≤ 57) → ⊥) → Ends (Number bound) w (b ∷ u)
+pub number_ends : (bound n b : ℕ) (w u : List ℕ) → bound < 2 ^ 64 → Number bound n w → ((48 ≤ b) × (b ≤ 57) → ⊥) → Ends (Number bound) w (b ∷ u)
 number_ends bound n b w u small (within, w_is) no_digit c more e (n', w', m, (within', w'_is), split') =
     let c_is : b ≡ c = head_same e in
     let there : decimal n' ≡ decimal n ++ (c ∷ m) = sym w'_is ∙ split' ∙ append_assoc w (c ∷ []) m ∙ ap (λ (l : List ℕ). l ++ (c ∷ m)) w_is in

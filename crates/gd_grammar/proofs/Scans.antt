@@ -39,7 +39,7 @@ pub ok_same : {X Y : Type 0} {p q : X} → ok_of {X = X} {Y = Y} p ≡ ok_of q �
 ok_same is = cc
 
 -- of two lists that begin one list, one begins the other
-fronts : (a b c d : List ℕ) → a ++ b ≡ c ++ d → ((t : List ℕ) × (a ≡ c ++ t)) ⊎ ((t : List ℕ) × (c ≡ a ++ t) × (b ≡ t ++ d))
+pub fronts : (a b c d : List ℕ) → a ++ b ≡ c ++ d → ((t : List ℕ) × (a ≡ c ++ t)) ⊎ ((t : List ℕ) × (c ≡ a ++ t) × (b ≡ t ++ d))
 fronts [] b c d is = inr (c, refl, is)
 fronts (x ∷ a) b [] d is = inl (x ∷ a, refl)
 fronts (x ∷ a) b (y ∷ c) d is =
@@ -48,11 +48,11 @@ fronts (x ∷ a) b (y ∷ c) d is =
     ⊎_elim (λ (t, e). inl (t, cc (heads, e))) (λ (t, e, f). inr (t, cc (heads, e), f)) (fronts a b c d tails)
 
 -- only the first byte of a rest counts
-ends_head : {A : Type 0} (spells : A → List ℕ → Type 0) (v u : List ℕ) (b : ℕ) (more m : List ℕ) → Ends spells v (u ++ (b ∷ more)) → Ends spells v (u ++ (b ∷ m))
+pub ends_head : {A : Type 0} (spells : A → List ℕ → Type 0) (v u : List ℕ) (b : ℕ) (more m : List ℕ) → Ends spells v (u ++ (b ∷ more)) → Ends spells v (u ++ (b ∷ m))
 ends_head spells v [] b more m ends c other is begun = let same : c ≡ b = cc in ends b more refl (subst (λ (x : ℕ). Begins spells (v ++ (x ∷ []))) same begun)
 ends_head spells v (d ∷ u) b more m ends c other is begun = let same : c ≡ d = cc in ends d (u ++ (b ∷ more)) refl (subst (λ (x : ℕ). Begins spells (v ++ (x ∷ []))) same begun)
 
-ends_first : {A : Type 0} (spells : A → List ℕ → Type 0) (v : List ℕ) (d : ℕ) (u m : List ℕ) → Ends spells v (d ∷ u) → Ends spells v (d ∷ m)
+pub ends_first : {A : Type 0} (spells : A → List ℕ → Type 0) (v : List ℕ) (d : ℕ) (u m : List ℕ) → Ends spells v (d ∷ u) → Ends spells v (d ∷ m)
 ends_first spells v d u m ends = ends_head spells v [] d u m ends
 
 -- ---- one thing and then another, which may depend on it
@@ -200,11 +200,11 @@ Scans-same {A} old new read to from reads = record {
 
 -- ---- all of the bytes
 
-begins_front : {A : Type 0} (spells : A → List ℕ → Type 0) (front more : List ℕ) → Begins spells (front ++ more) → Begins spells front
+pub begins_front : {A : Type 0} (spells : A → List ℕ → Type 0) (front more : List ℕ) → Begins spells (front ++ more) → Begins spells front
 begins_front spells front more (a, w, m, s, is) = (a, w, more ++ m, s, is ∙ append_assoc front more m)
 
 -- where reading stops is where the longest front ends
-longest_at : {A : Type 0} (spells : A → List ℕ → Type 0) (bytes front rest : List ℕ) (n : ℕ) → bytes ≡ front ++ rest → Ends spells front rest → n ≡ length front → (m : ℕ) → n < m → m ≤ length bytes → Begins spells (take m bytes) → ⊥
+pub longest_at : {A : Type 0} (spells : A → List ℕ → Type 0) (bytes front rest : List ℕ) (n : ℕ) → bytes ≡ front ++ rest → Ends spells front rest → n ≡ length front → (m : ℕ) → n < m → m ≤ length bytes → Begins spells (take m bytes) → ⊥
 longest_at spells bytes front rest n split last long m more fits begun = further rest refl
   where
     further : (end : List ℕ) → rest ≡ end → ⊥
@@ -232,7 +232,7 @@ module _ {V : Type 0} (spelling : V → List ℕ) (Fits : V → Type 0) (read : 
       apart : (b : ℕ) (more : List ℕ) → [] ≡ b ∷ more → ⊥
       apart b more e = cc
 
-  fault : (bytes front rest : List ℕ) → bytes ≡ front ++ rest → Begins T front → Ends T front rest → (Spells spelling Fits bytes → ⊥) → IsFaultAt spelling Fits bytes (length bytes - length rest)
+  pub fault : (bytes front rest : List ℕ) → bytes ≡ front ++ rest → Begins T front → Ends T front rest → (Spells spelling Fits bytes → ⊥) → IsFaultAt spelling Fits bytes (length bytes - length rest)
   fault bytes front rest split (v, w, m, s, w_is) last none =
       let total = ap length split in
       let sum = length-append front rest in

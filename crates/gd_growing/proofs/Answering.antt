@@ -9,7 +9,7 @@ use Rattle.gd_prim.specs.declared.Primitive.{Primitive}
 use Rattle.gd_prim.specs.End.{end_of, places_with}
 use Rattle.gd_prim.specs.Live.{refers, is_live, live_where, passes_at}
 use Rattle.gd_defs.specs.Plan as plan
-use Rattle.gd_defs.specs.Property.{Property, answers, expects_of, holds_expected, leads_to_object}
+use Rattle.gd_defs.specs.Property.{Property, is_of, answers, expects_of, holds_expected, leads_to_object}
 use Rattle.gd_list_laws.proofs.Places.{filter_map-places, filter-filter, filter-same, live_where-places}
 use Rattle.gd_growing.specs.Scan.{is_answer, is_answer_at, kept}
 use Rattle.gd_growing.proofs.Behind.{at_front, drop_get}
@@ -56,10 +56,10 @@ range_goes_on test k end before now all below more is =
 answers_live : (prims : List Primitive) (p : Property) (o : ℕ) → answers prims p o ≡ live_where (is_answer prims p o) prims
 answers_live prims p o = by p.reversed
   where
-    by : (b : Bool) → (if b then live_where (λ k. refers k.typ p.stored && refers k.right o && leads_to_object prims k.left) prims
-        else live_where (λ k. refers k.typ p.stored && refers k.left o && holds_expected prims (expects_of p.expected) k) prims)
-        ≡ live_where (λ k. if b then refers k.typ p.stored && refers k.right o && leads_to_object prims k.left
-        else refers k.typ p.stored && refers k.left o && holds_expected prims (expects_of p.expected) k) prims
+    by : (b : Bool) → (if b then live_where (λ k. is_of p k && refers k.right o && leads_to_object prims k.left) prims
+        else live_where (λ k. is_of p k && refers k.left o && holds_expected prims (expects_of p.expected) k) prims)
+        ≡ live_where (λ k. if b then is_of p k && refers k.right o && leads_to_object prims k.left
+        else is_of p k && refers k.left o && holds_expected prims (expects_of p.expected) k) prims
     by true = refl
     by false = refl
 
@@ -97,8 +97,8 @@ asked_by : (prims : List Primitive) (p : Property) (o k : ℕ) → (stands_by pr
 asked_by prims p o k = by (slice_get prims k)
   where
     one : (b live : Bool) (q : Primitive) → (refers (end_of (plan.asked_end (record p { reversed = b })) q) o && (is_answer prims (record p { reversed = b }) o q && live)) ≡ (is_answer prims (record p { reversed = b }) o q && live)
-    one true live q = three (refers q.typ p.stored) (refers q.right o) (leads_to_object prims q.left) live
-    one false live q = three (refers q.typ p.stored) (refers q.left o) (holds_expected prims (expects_of p.expected) q) live
+    one true live q = three (is_of p q) (refers q.right o) (leads_to_object prims q.left) live
+    one false live q = three (is_of p q) (refers q.left o) (holds_expected prims (expects_of p.expected) q) live
 
     by : (at : Option Primitive) → (option_map_or (λ q. refers (end_of (plan.asked_end p) q) o) at false && (option_map_or (is_answer prims p o) at false && is_live prims k))
         ≡ (option_map_or (is_answer prims p o) at false && is_live prims k)

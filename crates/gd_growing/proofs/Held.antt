@@ -20,7 +20,7 @@ use Rattle.gd_store.specs.Scan.{places_from}
 use Rattle.gd_store.specs.Valued.{has_value, values_of, number_in, places_of_number}
 use Rattle.gd_store.proofs.Valued.{any_value}
 use Rattle.gd_defs.specs.Plan as plan
-use Rattle.gd_defs.specs.Property.{Property, holds_values, expects_of, holds_expected, leads_to_object, near_of, far_of}
+use Rattle.gd_defs.specs.Property.{Property, is_of, in_language, holds_values, expects_of, holds_expected, leads_to_object, near_of, far_of}
 use Rattle.gd_defs.specs.Write.Parts.{Target, to_object, to_value, to_key, is_target, has_fact}
 use Rattle.gd_list_laws.proofs.Places.{filter_map-places, and-comm}
 use Rattle.gd_growing.specs.State.{State, so_far}
@@ -71,8 +71,8 @@ answer_typed : (prims : List Primitive) (p : Property) (o k : ℕ) → passes_at
 answer_typed prims p o k = by (slice_get prims k)
   where
     one : (b live : Bool) (q : Primitive) → refers q.typ p.stored ≡ false → (is_answer prims (record p { reversed = b }) o q && live) ≡ false
-    one true live q off = ap (λ (c : Bool). (c && refers q.right o && leads_to_object prims q.left) && live) off
-    one false live q off = ap (λ (c : Bool). (c && refers q.left o && holds_expected prims (expects_of p.expected) q) && live) off
+    one true live q off = ap (λ (c : Bool). (c && in_language p q && refers q.right o && leads_to_object prims q.left) && live) off
+    one false live q off = ap (λ (c : Bool). (c && in_language p q && refers q.left o && holds_expected prims (expects_of p.expected) q) && live) off
 
     by : (at : Option Primitive) → option_map_or (λ q. refers (end_of Typ q) p.stored) at false ≡ false → (option_map_or (is_answer prims p o) at false && is_live prims k) ≡ false
     by None off = refl
@@ -200,8 +200,8 @@ near_one prims p o k = by (slice_get prims k)
         same false at is = cc
 
     one : (b live : Bool) (q : Primitive) → (is_answer prims (record p { reversed = b }) o q && live) ≡ true → near_of (record p { reversed = b }) q ≡ Some o
-    one true live q is = at_end (refers q.typ p.stored) (leads_to_object prims q.left) live q.right is
-    one false live q is = at_end (refers q.typ p.stored) (holds_expected prims (expects_of p.expected) q) live q.left is
+    one true live q is = at_end (is_of p q) (leads_to_object prims q.left) live q.right is
+    one false live q is = at_end (is_of p q) (holds_expected prims (expects_of p.expected) q) live q.left is
 
     by : (at : Option Primitive) → (option_map_or (is_answer prims p o) at false && is_live prims k) ≡ true → option_and_then (near_of p) at ≡ Some o
     by None is = cc

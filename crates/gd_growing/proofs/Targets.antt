@@ -16,41 +16,41 @@ use Rattle.gd_list_laws.proofs.Places.{and-comm, filter-filter, filter-same, lis
 use Rattle.gd_growing.specs.Scan.{is_answer_at, is_wanted_at, kept}
 use Rattle.gd_growing.proofs.Answering.{left_on, range_on, parts}
 
-value_forward : (prims : List Primitive) (stored : ℕ) (expected : Option ℕ) (unique : Bool) (k : ℕ) (e : Expects) → expects_of expected ≡ e → holds_values e ≡ true
-    → answer_datum prims (record { stored = stored; reversed = false; expected = expected; unique = unique }) k ≡ value_at prims k
-value_forward prims stored expected unique k (a_value v) is holds = rw is refl
-value_forward prims stored expected unique k a_key is holds = rw is refl
-value_forward prims stored expected unique k an_object_of_system is holds = absurd (cc)
-value_forward prims stored expected unique k a_plain_object is holds = absurd (cc)
+value_forward : (prims : List Primitive) (stored : ℕ) (expected : Option ℕ) (unique : Bool) (language : Option ℕ) (k : ℕ) (e : Expects) → expects_of expected ≡ e → holds_values e ≡ true
+    → answer_datum prims (record { stored = stored; reversed = false; expected = expected; unique = unique; language = language }) k ≡ value_at prims k
+value_forward prims stored expected unique language k (a_value v) is holds = rw is refl
+value_forward prims stored expected unique language k a_key is holds = rw is refl
+value_forward prims stored expected unique language k an_object_of_system is holds = absurd (cc)
+value_forward prims stored expected unique language k a_plain_object is holds = absurd (cc)
 
-value_given : (prims : List Primitive) (stored : ℕ) (reversed : Bool) (expected : Option ℕ) (unique : Bool) (k : ℕ)
-    → holds_values (plan.answers_of (record { stored = stored; reversed = reversed; expected = expected; unique = unique })) ≡ true
-    → answer_datum prims (record { stored = stored; reversed = reversed; expected = expected; unique = unique }) k ≡ value_at prims k
-value_given prims stored true expected unique k holds = absurd (cc)
-value_given prims stored false expected unique k holds = value_forward prims stored expected unique k (expects_of expected) refl holds
+value_given : (prims : List Primitive) (stored : ℕ) (reversed : Bool) (expected : Option ℕ) (unique : Bool) (language : Option ℕ) (k : ℕ)
+    → holds_values (plan.answers_of (record { stored = stored; reversed = reversed; expected = expected; unique = unique; language = language })) ≡ true
+    → answer_datum prims (record { stored = stored; reversed = reversed; expected = expected; unique = unique; language = language }) k ≡ value_at prims k
+value_given prims stored true expected unique language k holds = absurd (cc)
+value_given prims stored false expected unique language k holds = value_forward prims stored expected unique language k (expects_of expected) refl holds
 
 -- values and keys are the value of the link
 pub gives_value : (prims : List Primitive) (p : Property) (k : ℕ) → holds_values (plan.answers_of p) ≡ true → answer_datum prims p k ≡ value_at prims k
-gives_value prims p k holds = value_given prims p.stored p.reversed p.expected p.unique k holds
+gives_value prims p k holds = value_given prims p.stored p.reversed p.expected p.unique p.language k holds
 
-object_forward : (prims : List Primitive) (stored : ℕ) (expected : Option ℕ) (unique : Bool) (k : ℕ) (e : Expects) → expects_of expected ≡ e → holds_values e ≡ false
-    → answer_datum prims (record { stored = stored; reversed = false; expected = expected; unique = unique }) k
-    ≡ object_datum (far_end prims (record { stored = stored; reversed = false; expected = expected; unique = unique }) k)
-object_forward prims stored expected unique k (a_value v) is holds = absurd (cc)
-object_forward prims stored expected unique k a_key is holds = absurd (cc)
-object_forward prims stored expected unique k an_object_of_system is holds = rw is refl
-object_forward prims stored expected unique k a_plain_object is holds = rw is refl
+object_forward : (prims : List Primitive) (stored : ℕ) (expected : Option ℕ) (unique : Bool) (language : Option ℕ) (k : ℕ) (e : Expects) → expects_of expected ≡ e → holds_values e ≡ false
+    → answer_datum prims (record { stored = stored; reversed = false; expected = expected; unique = unique; language = language }) k
+    ≡ object_datum (far_end prims (record { stored = stored; reversed = false; expected = expected; unique = unique; language = language }) k)
+object_forward prims stored expected unique language k (a_value v) is holds = absurd (cc)
+object_forward prims stored expected unique language k a_key is holds = absurd (cc)
+object_forward prims stored expected unique language k an_object_of_system is holds = rw is refl
+object_forward prims stored expected unique language k a_plain_object is holds = rw is refl
 
-object_given : (prims : List Primitive) (stored : ℕ) (reversed : Bool) (expected : Option ℕ) (unique : Bool) (k : ℕ)
-    → holds_values (plan.answers_of (record { stored = stored; reversed = reversed; expected = expected; unique = unique })) ≡ false
-    → answer_datum prims (record { stored = stored; reversed = reversed; expected = expected; unique = unique }) k
-    ≡ object_datum (far_end prims (record { stored = stored; reversed = reversed; expected = expected; unique = unique }) k)
-object_given prims stored true expected unique k holds = refl
-object_given prims stored false expected unique k holds = object_forward prims stored expected unique k (expects_of expected) refl holds
+object_given : (prims : List Primitive) (stored : ℕ) (reversed : Bool) (expected : Option ℕ) (unique : Bool) (language : Option ℕ) (k : ℕ)
+    → holds_values (plan.answers_of (record { stored = stored; reversed = reversed; expected = expected; unique = unique; language = language })) ≡ false
+    → answer_datum prims (record { stored = stored; reversed = reversed; expected = expected; unique = unique; language = language }) k
+    ≡ object_datum (far_end prims (record { stored = stored; reversed = reversed; expected = expected; unique = unique; language = language }) k)
+object_given prims stored true expected unique language k holds = refl
+object_given prims stored false expected unique language k holds = object_forward prims stored expected unique language k (expects_of expected) refl holds
 
 -- other answers are the object at its other end
 pub gives_object : (prims : List Primitive) (p : Property) (k : ℕ) → holds_values (plan.answers_of p) ≡ false → answer_datum prims p k ≡ object_datum (far_end prims p k)
-gives_object prims p k holds = object_given prims p.stored p.reversed p.expected p.unique k holds
+gives_object prims p k holds = object_given prims p.stored p.reversed p.expected p.unique p.language k holds
 
 no_text : (o : Option ℕ) (t : List ℕ) → datum_eq (object_datum o) (datum.Text t) ≡ false
 no_text None t = refl

@@ -1,13 +1,14 @@
 -- What is looked for over a list of primitives.
-use Rattle.std.specs.Prelude.{ℕ, List, [], ◌∷◌, Bool, ◌&&◌, Option, Some, None, is_some, option_map, option_and_then, find, if◌then◌else◌}
+use Rattle.std.specs.Prelude.{ℕ, List, [], ◌∷◌, Bool, ◌&&◌, ◌==◌, Option, Some, None, is_some, option_map, option_and_then, find, if◌then◌else◌}
 use Rattle.std.specs.List.{enumerate_from}
+use Rattle.std.specs.Option.{option_eq}
 use Rattle.gd_base.specs.declared.datum.Datum.{Datum}
 use Rattle.gd_base.specs.declared.datum.Datum.TheVariants as datum
 use Rattle.gd_prim.specs.declared.Primitive.{Primitive}
 use Rattle.gd_prim.specs.declared.End.{End}
 use Rattle.gd_prim.specs.declared.End.TheVariants.{Left, Right}
-use Rattle.gd_prim.specs.Live.{refers, is_live, passes_at, end_at}
-use Rattle.gd_defs.specs.Property.{Property, expects_of, holds_expected, leads_to_object, near_of}
+use Rattle.gd_prim.specs.Live.{refers, is_live, passes_at, end_at, language_of}
+use Rattle.gd_defs.specs.Property.{Property, is_of, expects_of, holds_expected, leads_to_object, near_of}
 use Rattle.gd_defs.specs.Write.Parts.{Target, to_object, to_value, to_key, is_target}
 
 -- the first place whose primitive passes the test, where the list begins at this place
@@ -16,8 +17,8 @@ first_place test place prims = option_map (λ e. e.0) (find (λ e. test e.1) (en
 
 -- the links that answer a property on an object, dead ones among them
 abbrev pub is_answer : List Primitive → Property → ℕ → Primitive → Bool
-is_answer prims p o k = if p.reversed then refers k.typ p.stored && refers k.right o && leads_to_object prims k.left
-    else refers k.typ p.stored && refers k.left o && holds_expected prims (expects_of p.expected) k
+is_answer prims p o k = if p.reversed then is_of p k && refers k.right o && leads_to_object prims k.left
+    else is_of p k && refers k.left o && holds_expected prims (expects_of p.expected) k
 
 -- an answer stands at the place
 abbrev pub is_answer_at : List Primitive → Property → ℕ → ℕ → Bool
@@ -50,6 +51,6 @@ names prims k = is_live prims k && is_some (end_at (λ p. p.right) prims k)
 abbrev pub kept : (ℕ → Bool) → ℕ → List ℕ
 kept test k = if test k then k ∷ [] else []
 
--- marked live, and a link of the property with the object at the end by which it is asked
-abbrev pub is_link : Property → ℕ → Primitive → Bool
-is_link p o q = q.live && refers q.typ p.stored && refers (near_of p q) o
+-- marked live, in the language, and a link of the property with the object at the end by which it is asked
+abbrev pub is_link : Property → ℕ → Option ℕ → Primitive → Bool
+is_link p o language q = q.live && refers q.typ p.stored && refers (near_of p q) o && option_eq ◌==◌ (language_of q) language

@@ -2,7 +2,8 @@
 use Rattle.std.specs.Prelude.{ℕ, List, true, false, Option, Some, None, codes}
 use Rattle.gd_base.specs.declared.datum.Datum.{Datum}
 use Rattle.gd_prim.specs.declared.Primitive.{Primitive}
-use Rattle.gd_defs.specs.Write.Links.{Stamp}
+use Rattle.gd_defs.specs.Property.{Property}
+use Rattle.gd_defs.specs.Write.Links.{Stamp, named_language}
 use Rattle.gd_defs.specs.Write.Parts as parts
 use Rattle.gd_growing.specs.declared.target.Target.{Target}
 use Rattle.gd_growing.specs.declared.target.Target.TheVariants as target
@@ -15,9 +16,9 @@ target_view (target.Object o) = parts.to_object o
 target_view (target.Value v) = parts.to_value v
 target_view (target.Key namespace key) = parts.to_key namespace key
 
--- a new link without its ends
-abbrev pub bare : Stamp → ℕ → Datum → Option ℕ → Primitive
-bare s stored v previous = record { left = None; right = None; typ = Some stored; scope = s.scope; value = v; name = None; previous = previous; live = true; moment = s.moment }
+-- a new link of a property without its ends
+abbrev pub bare : Stamp → Property → Datum → Option ℕ → Primitive
+bare s p v previous = record { left = None; right = None; typ = Some p.stored; scope = s.scope; value = v; name = None; previous = previous; live = true; moment = s.moment; lang = named_language v p.language }
 
 -- the successor by which the primitive at a place is deleted
 abbrev pub ended : Stamp → ℕ → Primitive → Primitive

@@ -24,7 +24,7 @@ use gd_plan::constraint::asked_end;
 use gd_plan::expects::{Expects, expects_of};
 use gd_prim::Primitive;
 use gd_prim::live::refers;
-use gd_resolve::property::Property;
+use gd_resolve::property::{Property, is_of};
 use std::alloc::Global;
 
 /// Whether the value is of the kind.
@@ -67,11 +67,9 @@ fn is_answer(growing: &Growing<'_>, property: &Property, object: Id, prim: &Prim
     ensures { result ≡ is_answer (so_far growing.now) property.now object prim.now }
 {
     if property.reversed {
-        refers(prim.typ, property.stored)
-            && refers(prim.right, object)
-            && leads_to_object(growing, prim.left)
+        is_of(property, prim) && refers(prim.right, object) && leads_to_object(growing, prim.left)
     } else {
-        refers(prim.typ, property.stored)
+        is_of(property, prim)
             && refers(prim.left, object)
             && holds_expected(growing, expects_of(property.expected), prim)
     }
@@ -165,8 +163,8 @@ fn push_made(
     Ok(())
 }
 
-/// The answers of a property on an object: the places of the live links of its stored property that have the object at the
-/// end by which it is asked and hold what is expected at the other one, in rising order. `Memory`: an allocation was
+/// The answers of a property on an object: the places of the live links of its stored property, of texts those in its
+/// language, that have the object at the end by which it is asked and hold what is expected at the other one, in rising order. `Memory`: an allocation was
 /// refused.
 #[tactic(auto, using(crate::proofs::Answering::parts))]
 pub fn answers(

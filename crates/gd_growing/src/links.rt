@@ -1,5 +1,6 @@
 //! What inserting, deleting and updating links adds.
 ghost use Rattle.std.specs.Prelude.{◌≡◌, ◌∷◌, [], ◌++◌, ◌&&◌, ◌==◌, Some, None, IfOk, OnOk, OnErr, if◌then◌else◌, map, nat_lt, length, slice_get, option_and_then};
+ghost use Rattle.std.specs.Option.{option_eq};
 ghost use Rattle.gd_mql.specs.Changes.{connect_view};
 ghost use Rattle.gd_defs.specs.Ids as ids;
 ghost use Rattle.gd_defs.specs.Property as property_defs;
@@ -16,6 +17,7 @@ use crate::growing::Growing;
 use crate::keys::key_leads;
 use crate::stamp::{Stamp, deletion, new_link, new_object};
 use crate::target::{Target, has_fact, is_target};
+use gd_base::datum::Datum;
 use gd_base::id::Id;
 use gd_base::memory::Memory;
 use gd_base::text::Text;
@@ -278,22 +280,52 @@ fn near_of(property: &Property, prim: &Primitive) -> Option<Id>
     }
 }
 
-/// Whether a primitive is marked live and a link of the property with the object at the end by which it is asked.
-fn is_link(property: &Property, object: Id, prim: &Primitive) -> bool
-    ensures { result ≡ is_link property.now object prim.now }
+/// The language of a target: of a text that of its property; nothing else has one.
+fn target_language(property: &Property, target: &Target) -> Option<Id>
+    ensures { result ≡ defined.target_language property.now (target_view target.now) }
 {
-    prim.live && refers(prim.typ, property.stored) && refers(near_of(property, prim), object)
+    match target {
+        Target::Value(Datum::Text(_)) => property.language,
+        _ => None,
+    }
 }
 
-/// The place, if a link of the property and the object stands there that is marked live.
-fn link_at(growing: &Growing<'_>, property: &Property, object: Id, place: u64) -> Option<Id>
-    ensures { result ≡ (if defined.is_link_of (so_far growing.now) property.now object place then Some place else None) }
+fn are_same(language: Option<Id>, other: Option<Id>) -> bool
+    ensures { result ≡ option_eq ◌==◌ language other }
+{
+    match (language, other) {
+        (Some(language), Some(other)) => language == other,
+        (None, None) => true,
+        _ => false,
+    }
+}
+
+/// Whether a primitive is marked live and a link of the property, with the object at the end by which it is asked and in the
+/// language.
+fn is_link(property: &Property, object: Id, language: Option<Id>, prim: &Primitive) -> bool
+    ensures { result ≡ is_link property.now object language prim.now }
+{
+    prim.live
+        && refers(prim.typ, property.stored)
+        && refers(near_of(property, prim), object)
+        && are_same(prim.language(), language)
+}
+
+/// The place, if a link of the property and the object in the language stands there that is marked live.
+fn link_at(
+    growing: &Growing<'_>,
+    property: &Property,
+    object: Id,
+    language: Option<Id>,
+    place: u64,
+) -> Option<Id>
+    ensures { result ≡ (if defined.is_link_of (so_far growing.now) property.now object language place then Some place else None) }
 {
     if place >= u64::from(growing.end().place()) {
         return None;
     }
     let link = Id(place as u32);
-    if is_link(property, object, growing.primitive(link)?) {
+    if is_link(property, object, language, growing.primitive(link)?) {
         Some(link)
     } else {
         None
@@ -301,8 +333,8 @@ fn link_at(growing: &Growing<'_>, property: &Property, object: Id, place: u64) -
 }
 
 /// Updates the link at a place, which the request names as `previous`: it gives way to a link to the target (`Updated`),
-/// unless it leads there itself (`Present`). `BadPrevious`: no link of the object and the property that is marked live
-/// stands there; `StaleVersion`: it has a successor. After a refusal all is as it was.
+/// unless it leads there itself (`Present`). `BadPrevious`: no link of the object and the property in the language of
+/// the target that is marked live stands there; `StaleVersion`: it has a successor. After a refusal all is as it was.
 pub fn updated_from(
     growing: &mut Growing<'_>,
     stamp: &Stamp,
@@ -315,7 +347,8 @@ pub fn updated_from(
     ensures below { growing.new.batches ≡ growing.old.batches }
     ensures same { OnErr result (growing.new ≡ growing.old) }
 {
-    let Some(link) = link_at(growing, property, object, previous) else {
+    let language = target_language(property, target);
+    let Some(link) = link_at(growing, property, object, language, previous) else {
         return Err(LinkFault::BadPrevious);
     };
     if let Some(successor) = growing.successor(link) {

@@ -9,7 +9,7 @@ use crate::target::Target;
 use gd_base::datum::Datum;
 use gd_base::id::Id;
 use gd_base::memory::Memory;
-use gd_prim::Primitive;
+use gd_prim::{ENGLISH, Primitive};
 use gd_resolve::property::Property;
 use std::marker::Model;
 
@@ -41,10 +41,27 @@ pub fn new_object(stamp: &Stamp) -> Primitive
     }
 }
 
+/// The language that a link of a value names: of a text that of its property, unless it is English.
+fn named_language(value: &Datum, language: Option<Id>) -> Option<Id>
+    ensures { result ≡ defined.named_language value.now language }
+{
+    match (value, language) {
+        (Datum::Text(_), Some(language)) => {
+            if language == ENGLISH {
+                None
+            } else {
+                Some(language)
+            }
+        }
+        _ => None,
+    }
+}
+
 /// A link of the property without its ends.
 fn bare(stamp: &Stamp, property: &Property, value: Datum, previous: Option<Id>) -> Primitive
-    ensures { result ≡ bare stamp.now property.now.stored value previous }
+    ensures { result ≡ bare stamp.now property.now value previous }
 {
+    let lang = named_language(&value, property.language);
     Primitive {
         left: None,
         right: None,
@@ -55,6 +72,7 @@ fn bare(stamp: &Stamp, property: &Property, value: Datum, previous: Option<Id>) 
         previous,
         live: true,
         moment: stamp.moment,
+        lang,
     }
 }
 
@@ -118,6 +136,7 @@ fn ended(stamp: &Stamp, place: Id, prim: &Primitive) -> Result<Primitive, Memory
         previous: Some(place),
         live: false,
         moment: stamp.moment,
+        lang: prim.lang,
     })
 }
 

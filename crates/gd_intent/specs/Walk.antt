@@ -1,10 +1,10 @@
 -- What entries of a clause put in front of the rest, and how a write's words are looked up.
-use Rattle.std.specs.Prelude.{◌≡◌, ◌≢◌, ℕ, List, [], ◌∷◌, ◌++◌, Option, Some, None, Result, Ok, Err, MatchResult, if◌then◌else◌}
+use Rattle.std.specs.Prelude.{◌≡◌, ◌≢◌, ℕ, List, [], ◌∷◌, ◌++◌, Option, Some, None, Result, Ok, Err, MatchResult, if◌then◌else◌, codes}
 use Rattle.gd_grammar.specs.Chain.{◌>>=◌}
 use Rattle.gd_prim.specs.declared.Primitive.{Primitive}
-use Rattle.gd_defs.specs.Query.{Name, is_computed}
+use Rattle.gd_defs.specs.Query.{Name, is_computed, bad_lang}
 use Rattle.gd_tree.specs.Json.{Json}
-use Rattle.gd_defs.specs.Property.{Expects}
+use Rattle.gd_defs.specs.Property.{Property, Expects, is_language}
 use Rattle.gd_defs.specs.Asked as asked
 use Rattle.gd_defs.specs.Change as change
 use Rattle.gd_defs.specs.Write as write
@@ -59,6 +59,10 @@ root_object prims (change.existing_object t) = asked.place_named prims t >>= λ 
 -- the target that an operand is
 abbrev pub operand_target : List Primitive → Expects → List (List ℕ) → Json → Result parts.Target asked.Unknown
 operand_target prims e path j = asked.operand_datum prims e path j >>= λ d. Ok (parts.datum_target d)
+
+-- a property in the language that an id names
+abbrev pub language_named : List Primitive → List (List ℕ) → Property → List ℕ → Result Property asked.Unknown
+language_named prims path p t = asked.place_named prims t >>= λ l. if is_language prims l then Ok (record p { language = Some l }) else asked.bad bad_lang (path ++ codes "lang" ∷ [])
 
 -- what a write does in a scope that was found
 abbrev pub root_in : Option ℕ → List Primitive → change.Change → Result (Option ℕ × (Option ℕ × parts.Members)) asked.Unknown

@@ -11,12 +11,14 @@ ghost use Rattle.gd_mql.specs.Names.{name_view};
 ghost use Rattle.gd_growing.specs.Seen.{target_view};
 ghost use Rattle.gd_compile.specs.Fault.{Finds};
 ghost use Rattle.gd_intent.specs.Seen.{item_view};
+ghost use Rattle.gd_intent.specs.Walk.{language_named};
 
 use crate::intent::{Connect, Item, Spelled};
-use crate::targets::{literal_target, new_target, target_of};
+use crate::targets::{bad_below, literal_target, new_target, target_of};
 use gd_base::id::Id;
 use gd_base::steps::Steps;
 use gd_compile::fault::{Code, Unknown, bad};
+use gd_compile::operand::place_named;
 use gd_compile::words::is_id;
 use gd_growing::growing::Growing;
 use gd_growing::target::{Target, has_fact};
@@ -24,8 +26,8 @@ use gd_json::value::{Json, JsonText};
 use gd_mql::change::{Connect as SpelledConnect, Item as SpelledItem};
 use gd_mql::name::Name;
 use gd_mql::write_parts::Target as SpelledTarget;
-use gd_plan::expects::expects_of;
-use gd_resolve::property::Property;
+use gd_plan::expects::{expects_of, has_lang};
+use gd_resolve::property::{Property, is_language};
 use gd_store::view::View;
 use std::alloc::Global;
 
@@ -102,6 +104,55 @@ pub fn fact_item<'a, L>(
     }
 }
 
+/// The property, which holds texts, in the language that an id names.
+fn in_language<'a, L>(
+    alloc: Global,
+    view: &View<'_>,
+    path: &[&'a str],
+    property: &Property,
+    lang: &str,
+    steps: &mut Steps<L>,
+) -> Result<Property, Unknown>
+    ensures property { Finds (λ p. p) (language_named (prims_of view.now) (map (λ name. name.now) path.entry.now) property.now lang.now) result }
+    ensures later { steps.old ≤ steps.new }
+{
+    let language = place_named(alloc, view, lang, steps)?;
+    if is_language(view, language, steps) {
+        Ok(Property {
+            language: Some(language),
+            ..*property
+        })
+    } else {
+        Err(bad_below(alloc, Code::BadLang, path, "lang"))
+    }
+}
+
+/// The property in the language that a target names, if it names one, which texts alone have. `BadQuery` with the path of
+/// the member `lang`: with `BadValue` the property holds no texts, with `BadLang` the object is no language. `NoSuchId`: the
+/// id names no object. `Memory`: an allocation was refused.
+fn spoken<'a, L>(
+    alloc: Global,
+    view: &View<'_>,
+    path: &[&'a str],
+    property: &Property,
+    target: &SpelledTarget<'a>,
+    steps: &mut Steps<L>,
+) -> Result<Property, Unknown>
+    ensures property { Finds (λ p. p) (parts.in_language_of (prims_of view.now) (map (λ name. name.now) path.entry.now) property.now (target_spelled target.entry.now)) result }
+    ensures later { steps.old ≤ steps.new }
+{
+    match target {
+        SpelledTarget::Text(lang, _) => {
+            if has_lang(expects_of(property.expected)) {
+                in_language(alloc, view, path, property, lang.as_str(), steps)
+            } else {
+                Err(bad_below(alloc, Code::BadValue, path, "lang"))
+            }
+        }
+        _ => Ok(*property),
+    }
+}
+
 /// What a form that states a fact does: it leads to its target, and prints as these members.
 pub(crate) fn form_fact<'a, L>(
     alloc: Global,
@@ -117,9 +168,10 @@ pub(crate) fn form_fact<'a, L>(
     ensures later { steps.old ≤ steps.new }
 {
     let expects = expects_of(property.expected);
+    let property = spoken(alloc, view, path, property, &target, steps)?;
     let target = target_of(alloc, view, path, expects, target, steps)?;
     Ok(Item::Fact {
-        property: *property,
+        property,
         target,
         spelled: Spelled::Form(members),
     })
@@ -140,9 +192,10 @@ pub(crate) fn connect_item<'a, L>(
     ensures later { steps.old ≤ steps.new }
 {
     let expects = expects_of(property.expected);
+    let property = spoken(alloc, view, path, property, &connect.target, steps)?;
     let target = target_of(alloc, view, path, expects, connect.target, steps)?;
     Ok(Item::Connect(Connect {
-        property: *property,
+        property,
         word: connect.word,
         target,
         previous: connect.previous,

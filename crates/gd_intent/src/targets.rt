@@ -43,7 +43,7 @@ fn datum_target(datum: Datum) -> Target
 }
 
 /// The refusal of a code at the member of this name below a path.
-fn bad_below<'a>(alloc: Global, code: Code, path: &[&'a str], name: &'a str) -> Unknown
+pub(crate) fn bad_below<'a>(alloc: Global, code: Code, path: &[&'a str], name: &'a str) -> Unknown
     ensures { result ≢ fault.Memory → unknown_of result ≡ asked.bad_query (code_view code) (map (λ name. name.now) path.entry.now ++ name.now ∷ []) }
 {
     match longer(alloc, path, name) {
@@ -255,6 +255,7 @@ pub fn target_of<'a, L>(
     match target {
         SpelledTarget::Id(id) => object_target(alloc, view, path, expects, id.as_str(), steps),
         SpelledTarget::Literal(json) => valued_target(alloc, view, path, expects, json, steps),
+        SpelledTarget::Text(_, json) => valued_target(alloc, view, path, expects, json, steps),
         SpelledTarget::Key(namespace, json) => {
             spaced_target(alloc, view, path, expects, namespace.as_str(), json, steps)
         }

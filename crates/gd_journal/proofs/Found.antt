@@ -1,12 +1,11 @@
 -- The payloads that were read, one after another.
-use Rattle.std.proofs.Common.{◌≡◌, ◌⊎◌, inl, inr, ◌+◌, ◌<◌, ℕ, List, [], ◌∷◌, ◌++◌, length, take, drop, flat_map, Some, None, true, false, refl, sym, ◌∙◌, ap, arith, length-append, append_assoc}
-use Rattle.std.specs.Prelude.{Option, Bool, bytes_eq}
-use Rattle.std.specs.Option.{option_or}
+use Rattle.std.proofs.Common.{◌≡◌, inl, inr, ◌+◌, ◌<◌, ℕ, List, [], ◌∷◌, ◌++◌, length, take, drop, flat_map, Some, None, refl, sym, ◌∙◌, ap, arith, length-append, append_assoc}
+use Rattle.std.specs.Prelude.{Option, IsSome}
+use Rattle.std.specs.Option.{is_some, option_or}
 use Rattle.std.specs.Int.{to_be_bytes, w32}
-use Rattle.std.proofs.lemmas.Slice.Eq.{bytes_eq-Decides}
 use Rattle.std.proofs.lemmas.List.{take_at, drop-drop}
 use Rattle.gd_bytes.specs.Disk.{part}
-use Rattle.gd_bytes.specs.File.{Payloads, header, open_record}
+use Rattle.gd_bytes.specs.File.{Version, version_of, Payloads, open_record}
 use Rattle.gd_journal.specs.Meaning.{held_by, located, whole}
 use Rattle.gd_journal.specs.Shape.{spelled, IsRecord}
 use Rattle.gd_journal.specs.State.{Standing}
@@ -24,31 +23,28 @@ payload_read file p at n size whole =
     let back : drop (at + 5) file ≡ p ++ (whole.gate ∷ whole.rest) = sym (drop-drop 5 at file) ∙ ap (λ (l : List ℕ). drop 5 l) whole.is ∙ ap (λ (l : List ℕ). drop 4 l) (append_assoc (to_be_bytes w32 (length p)) p (whole.gate ∷ whole.rest)) in
     ap (λ (l : List ℕ). take n l) back ∙ take_at p (whole.gate ∷ whole.rest) n size
 
-cases_bool : (b : Bool) → (b ≡ true) ⊎ (b ≡ false)
-cases_bool true = inl refl
-cases_bool false = inr refl
-
--- a file that holds payloads has the header
-pub has_header : (file : List ℕ) (found : Payloads) → held_by file ≡ Some found → 9 < length file → take 8 file ≡ header
-has_header file found held long = elim (cases_bool (bytes_eq (take 8 file) header)) [
-  | inl same ↦ (bytes_eq-Decides (take 8 file) header).0 same
-  | inr other ↦ cc (held, no_header file long (λ same. cc (other, (bytes_eq-Decides (take 8 file) header).1 same)))
-]
+-- a file that holds payloads has a header
+pub some_version : (file : List ℕ) (found : Payloads) → held_by file ≡ Some found → 9 < length file → IsSome (version_of file)
+some_version file found held long = by (version_of file) refl
+  where
+    by : (o : Option Version) → version_of file ≡ o → IsSome (version_of file)
+    by None is = cc (held, no_header file long is)
+    by (Some v) is = ap is_some is
 
 -- what a journal keeps holds payloads, and its damage
-pub standing_held : (co : Option (List ℕ)) (im : List ℕ → Type 0) (gate : ℕ) (doubt damaged : Option ℕ) (file : List ℕ) → Standing co im gate doubt damaged → im file → (found : Payloads) × (held_by file ≡ Some found) × (found.damaged ≡ damaged)
-standing_held co im gate None None file (ps, s) now = (whole ps, s.means file now, refl)
-standing_held co im gate (Some n) None file (ps, p, s) now = elim (s.means file now) [
-  | inl held ↦ (whole ps, held, refl)
-  | inr held ↦ (whole (ps ++ p ∷ []), held, refl)
+pub standing_held : (co : Option (List ℕ)) (im : List ℕ → Type 0) (v : Version) (gate : ℕ) (doubt damaged : Option ℕ) (file : List ℕ) → Standing co im v gate doubt damaged → im file → (found : Payloads) × (held_by file ≡ Some found) × (found.damaged ≡ damaged)
+standing_held co im v gate None None file (ps, s) now = (whole ps, (s.means file now).0, refl)
+standing_held co im v gate (Some n) None file (ps, p, s) now = elim (s.means file now) [
+  | inl stands ↦ (whole ps, stands.0, refl)
+  | inr stands ↦ (whole (ps ++ p ∷ []), stands.0, refl)
 ]
-standing_held co im gate None (Some at) file s now = let there = s file now in (there.0, there.1, there.2)
-standing_held co im gate (Some n) (Some at) file s now = absurd s
+standing_held co im v gate None (Some at) file s now = let there = (s file now).0 in (there.0, there.1, there.2)
+standing_held co im v gate (Some n) (Some at) file s now = absurd s
 
 -- so the damage that is found is the one that is known
-pub same_damage : (co : Option (List ℕ)) (im : List ℕ → Type 0) (gate : ℕ) (doubt damaged : Option ℕ) (file : List ℕ) (found : Payloads) → Standing co im gate doubt damaged → im file → held_by file ≡ Some found → found.damaged ≡ damaged
-same_damage co im gate doubt damaged file found s now held =
-    let k = standing_held co im gate doubt damaged file s now in
+pub same_damage : (co : Option (List ℕ)) (im : List ℕ → Type 0) (v : Version) (gate : ℕ) (doubt damaged : Option ℕ) (file : List ℕ) (found : Payloads) → Standing co im v gate doubt damaged → im file → held_by file ≡ Some found → found.damaged ≡ damaged
+same_damage co im v gate doubt damaged file found s now held =
+    let k = standing_held co im v gate doubt damaged file s now in
     let one : k.0 ≡ found = cc (k.1, held) in
     ap (λ (f : Payloads). f.damaged) (sym one) ∙ k.2
 

@@ -1,18 +1,18 @@
 -- What stands at a gate, and the way from gate to gate.
 use Rattle.std.proofs.Common.{◌≡◌, ◌≢◌, ◌⊎◌, ℕ, zero, suc, ◌+◌, ◌-◌, ◌<◌, ◌≤◌, List, [], ◌∷◌, ◌++◌, length, get_or, take, drop, Some, None, true, false, refl, sym, ◌∙◌, ap, arith, length-take, length-drop, take-append-drop}
-use Rattle.std.specs.Prelude.{if◌then◌else◌, nat_le, bytes_eq, Option, MatchOption, Bool}
-use Rattle.std.specs.Option.{is_some}
+use Rattle.std.specs.Prelude.{if◌then◌else◌, nat_le, Option, MatchOption, Bool}
+use Rattle.std.specs.Option.{is_some, option_map}
 use Rattle.std.proofs.lemmas.List.{append_assoc, append-nil, take_at, drop_more, length-take-le, drop_all}
 use Rattle.std.proofs.lemmas.Nat.{be_bytes_4}
 use Rattle.std.proofs.lemmas.Bool.Decides.{nat_tests}
-use Rattle.std.proofs.lemmas.Slice.Eq.{bytes_eq-Decides}
 use Rattle.std.specs.Int.{to_be_bytes, from_be_bytes, w32}
 use Rattle.gd_bytes.specs.Disk.{written}
-use Rattle.gd_bytes.specs.File.{Payloads, header, payloads, no_payloads}
+use Rattle.gd_bytes.specs.File.{Version, second, version_of, Payloads, header, payloads, no_payloads}
 use Rattle.gd_journal.specs.Meaning.{held_by, located, IsDamagedAt}
 use Rattle.gd_journal.specs.Shape.{front, IsRecord, IsTorn, IsWalked, IsAtRest, IsClosed, EndsAt}
 use Rattle.gd_journal.proofs.Gates.{front_push, length-front_push, All_push}
-use Rattle.gd_journal.proofs.Means.{after, payload_none, payloads_torn, held_front, closed_stands}
+use Rattle.gd_journal.proofs.Headers.{has_header, length-front}
+use Rattle.gd_journal.proofs.Means.{after, payload_none, payloads_torn, held_front, closed_holds}
 
 pub whole_of : (tail len : List ℕ) (n room : ℕ) → 1 ∷ len ≡ take 5 tail → length tail ≡ room → length len ≡ 4 → ((i : ℕ) → get_or len i 0 < 256) → n ≡ from_be_bytes w32 len → 1 ≤ n → n ≤ 268435456 → 6 + n ≤ room
     → (p : List ℕ) × (length p ≡ n) × IsRecord tail p
@@ -67,56 +67,56 @@ torn (g ∷ rest) bytes n is some one size why =
     why_none : (rest : List ℕ) (n g : ℕ) → (length (g ∷ rest) < 5) ⊎ (n ≡ 0) ⊎ (268435456 < n) ⊎ (length (g ∷ rest) < 6 + n) → (length rest < 4) ⊎ (n ≡ 0) ⊎ (268435456 < n) ⊎ (length rest ≤ 4 + n)
     why_none rest n g w = grind arith
 
-pub walked_none : (file : List ℕ) → take 8 file ≡ header → IsWalked [] 8 file
+pub walked_none : (v : Version) (file : List ℕ) → version_of file ≡ Some v → IsWalked v [] 8 file
 unfolding front
-walked_none file is = record { each = tt; place = refl; is = is ∙ sym (append-nil header) }
+walked_none v file is = record { each = tt; place = sym (length-front v []); is = has_header file v is ∙ sym (append-nil (header v)) }
 
 -- one record more
-pub walked_more : (ps : List (List ℕ)) (at n : ℕ) (file p : List ℕ) → IsWalked ps at file → length p ≡ n → IsRecord (drop at file) p → IsWalked (ps ++ p ∷ []) (at + (n + 5)) file
-walked_more ps at n file p walked is whole =
-    let long = length-front_push ps p in
-    let split : file ≡ front (ps ++ p ∷ []) ++ whole.gate ∷ whole.rest = sym (take-append-drop at file) ∙ ap (λ (l : List ℕ). l ++ drop at file) walked.is ∙ ap (λ (l : List ℕ). front ps ++ l) whole.is ∙ sym (front_push ps p (whole.gate ∷ whole.rest)) in
+pub walked_more : (v : Version) (ps : List (List ℕ)) (at n : ℕ) (file p : List ℕ) → IsWalked v ps at file → length p ≡ n → IsRecord (drop at file) p → IsWalked v (ps ++ p ∷ []) (at + (n + 5)) file
+walked_more v ps at n file p walked is whole =
+    let long = length-front_push v ps p in
+    let split : file ≡ front v (ps ++ p ∷ []) ++ whole.gate ∷ whole.rest = sym (take-append-drop at file) ∙ ap (λ (l : List ℕ). l ++ drop at file) walked.is ∙ ap (λ (l : List ℕ). front v ps ++ l) whole.is ∙ sym (front_push v ps p (whole.gate ∷ whole.rest)) in
     record {
       each = All_push ps p walked.each whole.fits;
       place = omega (arith, walked.place, long, is);
-      is = ap (λ (l : List ℕ). take (at + (n + 5)) l) split ∙ take_at (front (ps ++ p ∷ [])) (whole.gate ∷ whole.rest) (at + (n + 5)) (omega (arith, walked.place, long, is));
+      is = ap (λ (l : List ℕ). take (at + (n + 5)) l) split ∙ take_at (front v (ps ++ p ∷ [])) (whole.gate ∷ whole.rest) (at + (n + 5)) (omega (arith, walked.place, long, is));
     }
 
 abbrev nine : List ℕ
-nine = 71 ∷ 82 ∷ 65 ∷ 80 ∷ 72 ∷ 68 ∷ 49 ∷ 10 ∷ 0 ∷ []
+nine = 71 ∷ 82 ∷ 65 ∷ 80 ∷ 72 ∷ 68 ∷ 50 ∷ 10 ∷ 0 ∷ []
 
 -- what a creation writes
-pub fresh : (d e c : List ℕ) → length d ≤ 9 → e ≡ written 0 nine d → c ≡ take 9 e → IsAtRest [] c
+pub fresh : (d e c : List ℕ) → length d ≤ 9 → e ≡ written 0 nine d → c ≡ take 9 e → IsAtRest second [] c
 unfolding front
 fresh d e c short w cut =
     let is : e ≡ nine = w ∙ ap (λ (l : List ℕ). nine ++ l) (drop_all 9 d short) in
     record { gate = 0; shut = omega arith; is = cut ∙ ap (λ (l : List ℕ). take 9 l) is }
 
 -- a walk to a gate that is not open
-pub walked_closed : (ps : List (List ℕ)) (gate : ℕ) (file : List ℕ) → gate < length file → IsWalked ps gate file → get_or (drop gate file) 0 0 ≢ 1 → IsClosed ps file
-walked_closed ps gate file within walked shut =
+pub walked_closed : (v : Version) (ps : List (List ℕ)) (gate : ℕ) (file : List ℕ) → gate < length file → IsWalked v ps gate file → get_or (drop gate file) 0 0 ≢ 1 → IsClosed v ps file
+walked_closed v ps gate file within walked shut =
     let head = drop_more file gate 0 within in
     record {
       gate = get_or file gate 0;
       rest = drop (gate + 1) file;
       shut = λ one. shut (ap (λ (l : List ℕ). get_or l 0 0) head ∙ one);
-      is = sym (take-append-drop gate file) ∙ ap (λ (l : List ℕ). l ++ drop gate file) walked.is ∙ ap (λ (l : List ℕ). front ps ++ l) head;
+      is = sym (take-append-drop gate file) ∙ ap (λ (l : List ℕ). l ++ drop gate file) walked.is ∙ ap (λ (l : List ℕ). front v ps ++ l) head;
     }
 
 -- the payloads of a file, once its gates were walked
-pub walked_held : (ps : List (List ℕ)) (gate : ℕ) (file : List ℕ) (damaged : Option ℕ) → 9 < length file → gate < length file → IsWalked ps gate file → EndsAt gate file damaged → held_by file ≡ Some (record { list = located 8 ps; damaged = damaged })
-walked_held ps gate file None long within walked ends = closed_stands ps file walked.each (walked_closed ps gate file within walked ends)
-walked_held ps gate file (Some at) long within walked (same, ends) =
-    let is : file ≡ front ps ++ 1 ∷ ends.rest = sym (take-append-drop gate file) ∙ ap (λ (l : List ℕ). l ++ drop gate file) walked.is ∙ ap (λ (l : List ℕ). front ps ++ l) ends.is in
-    let held = held_front ps 1 ends.rest file walked.each long is in
-    held.1 ∙ ap (λ (r : Payloads). Some (after (located 8 ps) r)) (payloads_torn held.0 (length (front ps)) ends.rest ends.none)
-    ∙ ap (λ (l : List (ℕ × List ℕ)). Some (record { list = l; damaged = Some (length (front ps)) })) (append-nil (located 8 ps))
+pub walked_held : (v : Version) (ps : List (List ℕ)) (gate : ℕ) (file : List ℕ) (damaged : Option ℕ) → 9 < length file → gate < length file → IsWalked v ps gate file → EndsAt gate file damaged → held_by file ≡ Some (record { list = located 8 ps; damaged = damaged })
+walked_held v ps gate file None long within walked ends = closed_holds v ps file walked.each (walked_closed v ps gate file within walked ends)
+walked_held v ps gate file (Some at) long within walked (same, ends) =
+    let is : file ≡ front v ps ++ 1 ∷ ends.rest = sym (take-append-drop gate file) ∙ ap (λ (l : List ℕ). l ++ drop gate file) walked.is ∙ ap (λ (l : List ℕ). front v ps ++ l) ends.is in
+    let held = held_front v ps 1 ends.rest file walked.each long is in
+    held.1 ∙ ap (λ (r : Payloads). Some (after (located 8 ps) r)) (payloads_torn held.0 (length (front v ps)) ends.rest ends.none)
+    ∙ ap (λ (l : List (ℕ × List ℕ)). Some (record { list = l; damaged = Some (length (front v ps)) })) (append-nil (located 8 ps))
     ∙ ap (λ (n : ℕ). Some (record { list = located 8 ps; damaged = Some n })) (sym walked.place ∙ sym same)
 
-pub torn_ends : (damaged : Option ℕ) (ps : List (List ℕ)) (gate : ℕ) (file : List ℕ) (A U : Type 0) → is_some damaged ≡ true → 9 < length file → gate < length file → IsWalked ps gate file → EndsAt gate file damaged → U
+pub torn_ends : (v : Version) (damaged : Option ℕ) (ps : List (List ℕ)) (gate : ℕ) (file : List ℕ) (A U : Type 0) → is_some damaged ≡ true → 9 < length file → gate < length file → IsWalked v ps gate file → EndsAt gate file damaged → U
     → MatchOption damaged A (λ at. IsDamagedAt at file × U)
-torn_ends None ps gate file A U is long within walked ends u = cc
-torn_ends (Some at) ps gate file A U is long within walked ends u = ((record { list = located 8 ps; damaged = Some at }, walked_held ps gate file (Some at) long within walked ends, refl), u)
+torn_ends v None ps gate file A U is long within walked ends u = cc
+torn_ends v (Some at) ps gate file A U is long within walked ends u = ((record { list = located 8 ps; damaged = Some at }, walked_held v ps gate file (Some at) long within walked ends, refl), u)
 
 pub closed_ends : (damaged : Option ℕ) (A : Type 0) (B : ℕ → Type 0) → is_some damaged ≡ false → A → MatchOption damaged A B
 closed_ends None A B is a = a
@@ -127,18 +127,14 @@ ends_shut None gate file is ends = ends
 ends_shut (Some at) gate file is ends = cc
 
 -- an empty store
-pub fresh_place : 8 ≡ length (front [])
+pub fresh_place : 8 ≡ length (front second [])
 unfolding front
 fresh_place = refl
 
-not_true : (b : Bool) → (b ≡ true → ⊥) → b ≡ false
-not_true true h = absurd (h refl)
-not_true false h = refl
-
-pub no_header : (file : List ℕ) → 9 < length file → take 8 file ≢ header → held_by file ≡ None
+-- what begins with no header is no store
+pub no_header : (file : List ℕ) → 9 < length file → version_of file ≡ None → held_by file ≡ None
 unfolding held_by
 no_header file long other =
     let test : nat_le (length file) 9 ≡ false = grind (arith, nat_tests) in
-    let unlike : bytes_eq (take 8 file) header ≡ false = not_true (bytes_eq (take 8 file) header) (λ same. other ((bytes_eq-Decides (take 8 file) header).0 same)) in
-    ap (λ (b : Bool). if b then Some no_payloads else if bytes_eq (take 8 file) header then Some (payloads file) else None) test
-    ∙ ap (λ (b : Bool). if b then Some (payloads file) else None) unlike
+    ap (λ (b : Bool). if b then Some no_payloads else option_map (λ (v : Version). payloads file) (version_of file)) test
+    ∙ ap (λ (o : Option Version). option_map (λ (v : Version). payloads file) o) other

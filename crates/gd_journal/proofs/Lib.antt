@@ -1,4 +1,6 @@
 mod Told
+mod Headers
+mod Marks
 mod Gates
 mod Means
 mod Runs

@@ -1,16 +1,18 @@
 -- What files with gates stand for.
 use Rattle.std.proofs.Common.{◌≡◌, ◌≢◌, ◌⊎◌, inl, inr, ℕ, zero, suc, ◌+◌, ◌-◌, ◌<◌, ◌≤◌, List, [], ◌∷◌, ◌++◌, length, take, drop, flat_map, true, false, Some, None, refl, sym, ◌∙◌, ap, arith, length-append, add-zero}
-use Rattle.std.specs.Prelude.{if◌then◌else◌, nat_le, nat_lt, bytes_eq, Option, ◌||◌, ◌==◌, Bool}
+use Rattle.std.specs.Prelude.{if◌then◌else◌, nat_le, nat_lt, Option, ◌||◌, ◌==◌, Bool}
 use Rattle.std.specs.List.{AllByRecursion}
+use Rattle.std.specs.Option.{option_map}
 use Rattle.std.specs.Int.{to_be_bytes, from_be_bytes, w32}
 use Rattle.std.proofs.lemmas.Bool.{cases_lt}
 use Rattle.std.proofs.lemmas.Bool.Decides.{nat_tests}
 use Rattle.std.proofs.lemmas.List.{append_assoc, append-nil, take_at, drop_at}
 use Rattle.std.proofs.lemmas.Nat.{from_be_bytes-to_be_bytes_4}
-use Rattle.gd_bytes.specs.File.{Payloads, header, payloads, payloads_from, no_payloads, open_record, payload as payload_of}
+use Rattle.gd_bytes.specs.File.{Version, version_of, Payloads, header, payloads, payloads_from, no_payloads, open_record, payload as payload_of}
 use Rattle.gd_journal.specs.Meaning.{held_by, located, whole, StandsFor, MayStandFor}
 use Rattle.gd_journal.specs.Shape.{front, spelled, IsPayload, IsClosed, IsDoubtful}
 use Rattle.gd_journal.proofs.Gates.{one_or_other, All_push}
+use Rattle.gd_journal.proofs.Headers.{drop_header, length-header, length-front, front_split, version_front}
 
 -- payloads in front of what follows
 abbrev pub after : List (ℕ × List ℕ) → Payloads → Payloads
@@ -78,54 +80,56 @@ pub held_short : (file : List ℕ) → length file ≤ 9 → held_by file ≡ So
 unfolding held_by
 held_short file short =
     let test : nat_le (length file) 9 ≡ true = grind (arith, nat_tests) in
-    ap (λ (b : Bool). if b then Some no_payloads else if bytes_eq (take 8 file) header then Some (payloads file) else None) test
+    ap (λ (b : Bool). if b then Some no_payloads else option_map (λ (v : Version). payloads file) (version_of file)) test
 
-pub held_long : (file : List ℕ) → 9 < length file → take 8 file ≡ header → held_by file ≡ Some (payloads file)
+pub held_long : (file : List ℕ) (v : Version) → 9 < length file → version_of file ≡ Some v → held_by file ≡ Some (payloads file)
 unfolding held_by
-held_long file long is =
+held_long file v long is =
     let test : nat_le (length file) 9 ≡ false = grind (arith, nat_tests) in
-    ap (λ (b : Bool). if b then Some no_payloads else if bytes_eq (take 8 file) header then Some (payloads file) else None) test
-    ∙ ap (λ (l : List ℕ). if bytes_eq l header then Some (payloads file) else None) is
+    ap (λ (b : Bool). if b then Some no_payloads else option_map (λ (w : Version). payloads file) (version_of file)) test
+    ∙ ap (λ (o : Option Version). option_map (λ (w : Version). payloads file) o) is
 
 -- the payloads of a file whose records end at a gate
-pub held_front : (ps : List (List ℕ)) (gate : ℕ) (rest file : List ℕ) → AllByRecursion IsPayload ps → 9 < length file → file ≡ front ps ++ gate ∷ rest
-    → (more : ℕ) × (held_by file ≡ Some (after (located 8 ps) (payloads_from (suc more) (length (front ps)) (gate ∷ rest))))
-unfolding front
-held_front ps gate rest file each long is =
+pub held_front : (v : Version) (ps : List (List ℕ)) (gate : ℕ) (rest file : List ℕ) → AllByRecursion IsPayload ps → 9 < length file → file ≡ front v ps ++ gate ∷ rest
+    → (more : ℕ) × (held_by file ≡ Some (after (located 8 ps) (payloads_from (suc more) (length (front v ps)) (gate ∷ rest))))
+held_front v ps gate rest file each long is =
     let body = flat_map open_record ps ++ gate ∷ rest in
-    let split : file ≡ header ++ body = is ∙ append_assoc header (flat_map open_record ps) (gate ∷ rest) in
-    let head : take 8 file ≡ header = ap (λ (l : List ℕ). take 8 l) split in
-    let back : drop 8 file ≡ body = ap (λ (l : List ℕ). drop 8 l) split in
+    let split : file ≡ header v ++ body = is ∙ front_split v ps (gate ∷ rest) in
+    let head : version_of file ≡ Some v = version_front v ps (gate ∷ rest) file is in
+    let back : drop 8 file ≡ body = ap (λ (l : List ℕ). drop 8 l) split ∙ drop_header v body in
     let enough : length ps ≤ length (flat_map open_record ps) = records_long ps in
     let more = length file - length ps - 1 in
-    let fuel : length file ≡ length ps + suc more = omega (arith, enough, ap length split, length-append (flat_map open_record ps) (gate ∷ rest)) in
-    let place : 8 + length (flat_map open_record ps) ≡ length (front ps) = omega arith in (
+    let fuel : length file ≡ length ps + suc more = omega (arith, enough, ap length split, length-append (header v) body, length-header v, length-append (flat_map open_record ps) (gate ∷ rest)) in
+    let place : 8 + length (flat_map open_record ps) ≡ length (front v ps) = sym (length-front v ps) in (
       more,
-      held_long file long head ∙ ap (λ (r : Payloads). Some r)
+      held_long file v long head ∙ ap (λ (r : Payloads). Some r)
           (ap (λ (l : List ℕ). payloads_from (length file) 8 l) back ∙ walk ps (length file) (suc more) 8 (gate ∷ rest) fuel (omega arith) each
           ∙ ap (λ (a : ℕ). after (located 8 ps) (payloads_from (suc more) a (gate ∷ rest))) place),
     )
 
-short_none : (ps : List (List ℕ)) (gate : ℕ) (rest : List ℕ) → length (front ps ++ gate ∷ rest) ≤ 9 → ps ≡ []
-unfolding front
-short_none [] gate rest short = refl
-short_none (p ∷ ps) gate rest short =
-    absurd (omega (arith, length-append (header ++ flat_map open_record (p ∷ ps)) (gate ∷ rest), length-append (spelled p) (flat_map open_record ps), length-append (to_be_bytes w32 (length p)) p))
+short_none : (v : Version) (ps : List (List ℕ)) (gate : ℕ) (rest : List ℕ) → length (front v ps ++ gate ∷ rest) ≤ 9 → ps ≡ []
+short_none v [] gate rest short = refl
+short_none v (p ∷ ps) gate rest short =
+    absurd (omega (arith, length-front v (p ∷ ps), length-append (front v (p ∷ ps)) (gate ∷ rest), length-append (spelled p) (flat_map open_record ps), length-append (to_be_bytes w32 (length p)) p))
 
--- a closed file stands for its payloads
-pub closed_stands : (ps : List (List ℕ)) (file : List ℕ) → AllByRecursion IsPayload ps → IsClosed ps file → StandsFor ps file
-closed_stands ps file each closed = elim (cases_lt 9 (length file)) [
+-- a closed file holds its payloads
+pub closed_holds : (v : Version) (ps : List (List ℕ)) (file : List ℕ) → AllByRecursion IsPayload ps → IsClosed v ps file → held_by file ≡ Some (whole ps)
+closed_holds v ps file each closed = elim (cases_lt 9 (length file)) [
   | inr short ↦
-      let none : ps ≡ [] = short_none ps closed.gate closed.rest (omega (arith, short, ap length closed.is)) in
+      let none : ps ≡ [] = short_none v ps closed.gate closed.rest (omega (arith, short, ap length closed.is)) in
       held_short file short ∙ ap (λ (l : List (List ℕ)). Some (whole l)) (sym none)
   | inl long ↦
-      let held = held_front ps closed.gate closed.rest file each long closed.is in
-      held.1 ∙ ap (λ (r : Payloads). Some (after (located 8 ps) r)) (payloads_end held.0 (length (front ps)) closed.gate closed.rest closed.shut) ∙ ap (λ (l : List (ℕ × List ℕ)). Some (record { list = l; damaged = None })) (append-nil (located 8 ps))
+      let held = held_front v ps closed.gate closed.rest file each long closed.is in
+      held.1 ∙ ap (λ (r : Payloads). Some (after (located 8 ps) r)) (payloads_end held.0 (length (front v ps)) closed.gate closed.rest closed.shut) ∙ ap (λ (l : List (ℕ × List ℕ)). Some (record { list = l; damaged = None })) (append-nil (located 8 ps))
 ]
 
+-- and stands for them
+pub closed_stands : (v : Version) (ps : List (List ℕ)) (file : List ℕ) → AllByRecursion IsPayload ps → IsClosed v ps file → StandsFor v ps file
+closed_stands v ps file each closed = (closed_holds v ps file each closed, λ _. version_front v ps (closed.gate ∷ closed.rest) file closed.is)
+
 -- one that may be in doubt stands for them, or for one more
-pub doubtful_stands : (ps : List (List ℕ)) (p file : List ℕ) → AllByRecursion IsPayload ps → IsPayload p → IsDoubtful ps p file → MayStandFor ps p file
-doubtful_stands ps p file each last there = elim (one_or_other ps p file there) [
-  | inl closed ↦ inl (closed_stands ps file each closed)
-  | inr more ↦ inr (closed_stands (ps ++ p ∷ []) file (All_push ps p each last) more)
+pub doubtful_stands : (v : Version) (ps : List (List ℕ)) (p file : List ℕ) → AllByRecursion IsPayload ps → IsPayload p → IsDoubtful v ps p file → MayStandFor v ps p file
+doubtful_stands v ps p file each last there = elim (one_or_other v ps p file there) [
+  | inl closed ↦ inl (closed_stands v ps file each closed)
+  | inr more ↦ inr (closed_stands v (ps ++ p ∷ []) file (All_push ps p each last) more)
 ]

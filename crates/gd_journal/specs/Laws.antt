@@ -1,21 +1,28 @@
 -- Laws of what files stand for.
-use Rattle.std.specs.Prelude.{◌≡◌, ℕ, List, ◌++◌, ◌∷◌, [], length, take, nat_le, bytes_eq, Bool, true, false, if◌then◌else◌, Some, None, flat_map, refl}
-use Rattle.std.proofs.Common.{sym, append_assoc}
-use Rattle.gd_bytes.specs.File.{groups, not_store, groups_of, meaning, at_rest, header, payloads, no_payloads, Payloads, open_record}
-use Rattle.gd_journal.specs.Meaning.{held_by, meant}
+use Rattle.std.specs.Prelude.{◌≡◌, ℕ, List, ◌++◌, ◌∷◌, [], bytes_eq, Bool, true, false, ◌||◌, if◌then◌else◌, refl}
+use Rattle.std.specs.List.{list_any}
+use Rattle.gd_bytes.specs.File.{at_rest, Version, first, second, mark}
+use Rattle.gd_journal.specs.Meaning.{marked_by, with_mark}
 use Rattle.gd_journal.specs.Shape.{front}
 
-by_tests : (short store : Bool) (found : Payloads) → (if short then groups [] else if store then groups_of [] found.list found.damaged else not_store) ≡ meant (if short then Some no_payloads else if store then Some found else None)
-by_tests true store found = refl
-by_tests false true found = refl
-by_tests false false found = refl
-
--- the meaning of a file is that of the payloads that it holds
-pub meaning_held : (file : List ℕ) → meaning file ≡ meant (held_by file)
-unfolding held_by
-meaning_held file = by_tests (nat_le (length file) 9) (bytes_eq (take 8 file) header) (payloads file)
-
 -- what was written, with its last gate closed
-pub at_rest_front : (ps : List (List ℕ)) → at_rest ps ≡ front ps ++ 0 ∷ []
+pub at_rest_front : (v : Version) (ps : List (List ℕ)) → at_rest v ps ≡ front v ps ++ 0 ∷ []
 unfolding front
-at_rest_front ps = sym (append_assoc header (flat_map open_record ps) (0 ∷ []))
+at_rest_front v ps = refl
+
+-- behind the mark texts may have languages, whatever stands before it
+pub with_mark_marks : (v : Version) (ps : List (List ℕ)) → marked_by v (with_mark v ps) ≡ true
+with_mark_marks second ps = refl
+with_mark_marks first ps = by (list_any (λ p. bytes_eq p mark) ps) refl
+  where
+    last : (qs : List (List ℕ)) → list_any (λ p. bytes_eq p mark) (qs ++ mark ∷ []) ≡ true
+    last [] = refl
+    last (q ∷ qs) = either (bytes_eq q mark) _ (last qs)
+      where
+        either : (a b : Bool) → b ≡ true → (a || b) ≡ true
+        either true b is = refl
+        either false b is = is
+
+    by : (b : Bool) → list_any (λ p. bytes_eq p mark) ps ≡ b → marked_by first (if b then ps else ps ++ mark ∷ []) ≡ true
+    by true is = is
+    by false is = last ps

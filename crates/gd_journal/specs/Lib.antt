@@ -1,3 +1,4 @@
+pub mod Versions
 pub mod Meaning
 pub mod Shape
 pub mod State

@@ -1,7 +1,7 @@
 -- What is read of a file, one payload after the other.
 use Rattle.std.specs.Prelude.{◌≡◌, ◌≢◌, ℕ, ◌+◌, ◌^◌, ◌<◌, ◌≤◌, List, [], ◌∷◌, ◌++◌, length, drop, slice_index, Option, Some, None}
 use Rattle.std.specs.Option.{ForSome}
-use Rattle.gd_bytes.specs.File.{Payloads}
+use Rattle.gd_bytes.specs.File.{Version, Payloads}
 use Rattle.gd_journal.specs.Meaning.{held_by, located}
 use Rattle.gd_journal.specs.Shape.{IsRecord, IsTorn, IsWalked}
 use Rattle.gd_journal.specs.Windows.{Shows}
@@ -31,7 +31,7 @@ pub record IsReady (content : Option (List ℕ)) (len next : ℕ) (window : Wind
 
 -- These are the first payloads of a file, with the offsets of their gates, and the next gate has this offset.
 abbrev pub IsRead : List (ℕ × List ℕ) → ℕ → List ℕ → Type 0
-IsRead read next file = (ps : List (List ℕ)) × (read ≡ located 8 ps) × (9 < length file → IsWalked ps next file) × (length file ≤ 9 → ps ≡ [])
+IsRead read next file = (v : Version) × (ps : List (List ℕ)) × (read ≡ located 8 ps) × (9 < length file → IsWalked v ps next file) × (length file ≤ 9 → ps ≡ [])
 
 -- Some payloads were read of the file that the disk tells.
 abbrev pub HasRead : Option (List ℕ) → ℕ → Type 0

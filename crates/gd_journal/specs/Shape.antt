@@ -2,7 +2,7 @@
 use Rattle.std.specs.Prelude.{◌≡◌, ◌≢◌, ℕ, ◌≤◌, List, [], ◌∷◌, ◌++◌, length, take, drop, slice_index, flat_map, Option, None, Some}
 use Rattle.std.specs.List.{AllByRecursion}
 use Rattle.std.specs.Int.{to_be_bytes, w32}
-use Rattle.gd_bytes.specs.File.{header, open_record, payload as payload_of}
+use Rattle.gd_bytes.specs.File.{Version, header, open_record, payload as payload_of}
 
 -- A payload has 1 to 268,435,456 bytes.
 pub record IsPayload (p : List ℕ) : Type 0 where
@@ -13,33 +13,33 @@ pub record IsPayload (p : List ℕ) : Type 0 where
 abbrev pub spelled : List ℕ → List ℕ
 spelled p = to_be_bytes w32 (length p) ++ p
 
--- All that stands before the gate behind these payloads.
-unfoldable pub front : List (List ℕ) → List ℕ
-front ps = header ++ flat_map open_record ps
+-- All that stands before the gate behind these payloads of a file of this version.
+unfoldable pub front : Version → List (List ℕ) → List ℕ
+front v ps = header v ++ flat_map open_record ps
 
 -- Behind these payloads stand a gate that is not open, and anything behind it.
-pub record IsClosed (ps : List (List ℕ)) (file : List ℕ) : Type 0 where
+pub record IsClosed (v : Version) (ps : List (List ℕ)) (file : List ℕ) : Type 0 where
   pub gate : ℕ
   pub rest : List ℕ
   pub shut : gate ≢ 1
-  pub is : file ≡ front ps ++ gate ∷ rest
+  pub is : file ≡ front v ps ++ gate ∷ rest
 
 -- A gate that is not open ends the file behind these payloads.
-pub record IsAtRest (ps : List (List ℕ)) (file : List ℕ) : Type 0 where
+pub record IsAtRest (v : Version) (ps : List (List ℕ)) (file : List ℕ) : Type 0 where
   pub gate : ℕ
   pub shut : gate ≢ 1
-  pub is : file ≡ front ps ++ gate ∷ []
+  pub is : file ≡ front v ps ++ gate ∷ []
 
 -- Behind some gate stand one more payload and its closed gate.
-pub record IsStaged (ps : List (List ℕ)) (p file : List ℕ) : Type 0 where
+pub record IsStaged (v : Version) (ps : List (List ℕ)) (p file : List ℕ) : Type 0 where
   pub gate : ℕ
-  pub is : file ≡ front ps ++ gate ∷ (spelled p ++ 0 ∷ [])
+  pub is : file ≡ front v ps ++ gate ∷ (spelled p ++ 0 ∷ [])
 
 -- The gate is open only in front of the whole payload and its closed gate.
-pub record IsDoubtful (ps : List (List ℕ)) (p file : List ℕ) : Type 0 where
+pub record IsDoubtful (v : Version) (ps : List (List ℕ)) (p file : List ℕ) : Type 0 where
   pub gate : ℕ
   pub rest : List ℕ
-  pub is : file ≡ front ps ++ gate ∷ rest
+  pub is : file ≡ front v ps ++ gate ∷ rest
   pub full : gate ≡ 1 → rest ≡ spelled p ++ 0 ∷ []
 
 -- An open gate, a whole record, and the gate behind it.
@@ -56,10 +56,10 @@ pub record IsTorn (tail : List ℕ) : Type 0 where
   pub none : payload_of rest ≡ None
 
 -- The records of these payloads end at this gate.
-pub record IsWalked (ps : List (List ℕ)) (gate : ℕ) (file : List ℕ) : Type 0 where
+pub record IsWalked (v : Version) (ps : List (List ℕ)) (gate : ℕ) (file : List ℕ) : Type 0 where
   pub each : AllByRecursion IsPayload ps
-  pub place : gate ≡ length (front ps)
-  pub is : take gate file ≡ front ps
+  pub place : gate ≡ length (front v ps)
+  pub is : take gate file ≡ front v ps
 
 -- At this gate the file ends, or its first damaged record stands there.
 abbrev pub EndsAt : ℕ → List ℕ → Option ℕ → Type 0

@@ -13,7 +13,7 @@ pub enum JournalFault {
     /// The disk failed.
     #[error("the disk failed")]
     DiskFault,
-    /// The file has more than 9 bytes and does not begin with the header.
+    /// The file has more than 9 bytes and begins with neither header.
     #[error("the file is no store")]
     NotStore,
     /// The record whose gate stands at this offset is damaged.

@@ -1,5 +1,6 @@
 //! What stands at a gate.
-ghost use Rattle.std.specs.Prelude.{◌≡◌, ◌+◌, ◌-◌, ◌<◌, ◌≤◌, List, ℕ, length, take, drop, IfOk, IfErr};
+ghost use Rattle.std.specs.Prelude.{◌≡◌, ◌+◌, ◌-◌, ◌<◌, ◌≤◌, List, ℕ, length, take, drop, IfOk};
+ghost use Rattle.std.specs.Prelude.{IfErr};
 ghost use Rattle.std.specs.Option.{ForSome};
 ghost use Rattle.gd_bytes.specs.Disk.{IsUntouched};
 ghost use Rattle.gd_journal.specs.Causes.{HasReason};
@@ -25,10 +26,12 @@ pub(crate) enum Head {
     Record(u32),
 }
 
-/// What stands at a gate, by up to five bytes from the gate on, and by how many there are up to the end of the file.
+/// What stands at a gate, by up to five bytes from the gate on, and by how many there are up to the
+/// end of the file.
 fn head_of(bytes: &[u8], room: u64) -> Head
     requires { 1 ≤ length bytes.now }
-    ensures head { (tail : List ℕ) → bytes.now ≡ take 5 tail → length tail ≡ room → HeadIs tail result }
+    ensures head { (tail : List ℕ) → bytes.now ≡ take 5 tail → length tail ≡ room
+        → HeadIs tail result }
     ensures fits { Fits room result }
 {
     if bytes[0] != 1 {
@@ -61,7 +64,8 @@ pub(crate) fn head_at<D: Disk>(
     requires shows { Shows (D.content disk.old) window.old }
     ensures shows { Shows (D.content disk.new) window.new }
     ensures len { window.new.len ≡ window.old.len }
-    ensures head { IfOk result (λ head. ForSome (D.content disk.old) (λ file. HeadIs (drop at file) head)) }
+    ensures head { IfOk result (λ head. ForSome (D.content disk.old) (λ file.
+        HeadIs (drop at file) head)) }
     ensures fits { IfOk result (λ head. Fits (window.old.len - at) head) }
     ensures untouched { IsUntouched D.content D.moment D.images D.images_since disk.old disk.new }
     ensures later { D.faults disk.old ≤ D.faults disk.new }

@@ -8,4 +8,5 @@ pub mod opening;
 pub mod payloads;
 pub mod reading;
 pub mod record;
+pub mod version;
 mod window;

@@ -87,8 +87,8 @@ impl PayloadList {
     }
 }
 
-/// What a file holds: its payloads up to the first damaged record, and the offset of that record's gate, if there is
-/// one.
+/// What a file holds: its payloads up to the first damaged record, and the offset of that record's
+/// gate, if there is one.
 #[derive(Debug, Drop)]
 pub struct Payloads {
     pub list: PayloadList,

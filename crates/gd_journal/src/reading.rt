@@ -1,8 +1,9 @@
 //! Reading the payloads of a file.
-ghost use Rattle.std.specs.Prelude.{◌≡◌, ◌+◌, ◌<◌, ◌≤◌, List, ℕ, Option, Some, None, length, take, OnErr, IfOk, IfErr};
+ghost use Rattle.std.specs.Prelude.{◌≡◌, ◌+◌, ◌<◌, ◌≤◌, List, ℕ, Option, Some, None, length};
+ghost use Rattle.std.specs.Prelude.{IsSome, OnErr, IfOk, IfErr};
 ghost use Rattle.std.specs.Option.{ForSome};
 ghost use Rattle.gd_bytes.specs.Disk.{IsUntouched};
-ghost use Rattle.gd_bytes.specs.File.{header};
+ghost use Rattle.gd_bytes.specs.File.{version_of};
 ghost use Rattle.gd_journal.specs.Causes.{HasReason};
 ghost use Rattle.gd_journal.specs.Found.{found_in};
 ghost use Rattle.gd_journal.specs.Meaning.{held_by};
@@ -24,7 +25,8 @@ pub(crate) enum Next {
     Record(Payload),
 }
 
-/// How far the records of a file are read: the offset of the next gate, and the block that was read last.
+/// How far the records of a file are read: the offset of the next gate, and the block that was read
+/// last.
 #[derive(Drop)]
 pub(crate) struct Records {
     at: u64,
@@ -44,18 +46,22 @@ impl Records {
         }
     }
 
-    /// Reads what stands at the next gate of a file of more than 9 bytes, and goes on behind it, where it is a payload.
+    /// Reads what stands at the next gate of a file of more than 9 bytes, and goes on behind it,
+    /// where it is a payload.
     pub(crate) fn next<D: Disk>(
         &mut self,
         alloc: Global,
         disk: &mut D,
     ) -> Result<Next, JournalFault>
         requires long { 9 < self.old.window.len }
-        requires ready { IsReady (D.content disk.old) self.old.window.len self.old.at self.old.window }
-        ensures ready { IsReady (D.content disk.new) self.old.window.len self.new.at self.new.window }
+        requires ready { IsReady
+            (D.content disk.old) self.old.window.len self.old.at self.old.window }
+        ensures ready { IsReady
+            (D.content disk.new) self.old.window.len self.new.at self.new.window }
         ensures left { OnErr result (self.new.at ≡ self.old.at) }
         ensures moves { IfOk result (λ next. Moves self.old.at self.new.at next) }
-        ensures comes { IfOk result (λ next. ForSome (D.content disk.old) (λ file. ComesNext self.old.at self.new.at file next)) }
+        ensures comes { IfOk result (λ next. ForSome (D.content disk.old) (λ file.
+            ComesNext self.old.at self.new.at file next)) }
         ensures untouched { IsUntouched D.content D.moment D.images D.images_since disk.old disk.new }
         ensures later { D.faults disk.old ≤ D.faults disk.new }
         ensures cause { IfErr result (HasReason (D.faults disk.old) (D.faults disk.new)) }
@@ -73,12 +79,14 @@ impl Records {
     }
 }
 
-/// Reads the payloads of a file of so many bytes, which has the header, up to the gate that ends its records.
+/// Reads the payloads of a file of so many bytes, which has a header, up to the gate that ends its
+/// records.
 fn read_records<D: Disk>(alloc: Global, disk: &mut D, len: u64) -> Result<Payloads, JournalFault>
     requires long { 9 < len }
     requires len { ForSome (D.content disk.old) (λ file. len ≡ length file) }
-    requires header { ForSome (D.content disk.old) (λ file. take 8 file ≡ header) }
-    ensures found { IfOk result (λ found. ForSome (D.content disk.old) (λ file. held_by file ≡ Some (found_in found))) }
+    requires header { ForSome (D.content disk.old) (λ file. IsSome (version_of file)) }
+    ensures found { IfOk result (λ found. ForSome (D.content disk.old) (λ file.
+        held_by file ≡ Some (found_in found))) }
     ensures untouched { IsUntouched D.content D.moment D.images D.images_since disk.old disk.new }
     ensures later { D.faults disk.old ≤ D.faults disk.new }
     ensures cause { IfErr result (HasReason (D.faults disk.old) (D.faults disk.new)) }
@@ -105,10 +113,11 @@ fn found(list: Vec<Payload>, damaged: Option<u64>) -> Payloads
     }
 }
 
-/// Reads the payloads of a file, which is an unfinished creation or has the header.
+/// Reads the payloads of a file, which is an unfinished creation or has a header.
 pub(crate) fn read_payloads<D: Disk>(alloc: Global, disk: &mut D) -> Result<Payloads, JournalFault>
-    requires { ForSome (D.content disk.old) (λ file. 9 < length file → take 8 file ≡ header) }
-    ensures found { IfOk result (λ found. ForSome (D.content disk.old) (λ file. held_by file ≡ Some (found_in found))) }
+    requires { ForSome (D.content disk.old) (λ file. 9 < length file → IsSome (version_of file)) }
+    ensures found { IfOk result (λ found. ForSome (D.content disk.old) (λ file.
+        held_by file ≡ Some (found_in found))) }
     ensures untouched { IsUntouched D.content D.moment D.images D.images_since disk.old disk.new }
     ensures later { D.faults disk.old ≤ D.faults disk.new }
     ensures cause { IfErr result (HasReason (D.faults disk.old) (D.faults disk.new)) }

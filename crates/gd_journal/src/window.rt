@@ -1,5 +1,6 @@
 //! Reading a file in large blocks.
-ghost use Rattle.std.specs.Prelude.{◌≡◌, ◌+◌, ◌-◌, ◌≤◌, List, ℕ, Option, length, take, drop, true, OnOk, IfOk, IfErr};
+ghost use Rattle.std.specs.Prelude.{◌≡◌, ◌+◌, ◌-◌, ◌≤◌, List, ℕ, Option, length, take, drop, true};
+ghost use Rattle.std.specs.Prelude.{OnOk, IfOk, IfErr};
 ghost use Rattle.std.specs.Option.{ForSome};
 ghost use Rattle.gd_bytes.specs.Disk.{part, IsUntouched};
 ghost use Rattle.gd_journal.specs.Causes.{HasReason};
@@ -25,7 +26,8 @@ impl Window {
     /// No block yet of a file of so many bytes. It takes no memory.
     pub(crate) fn none(alloc: Global, len: u64) -> Window
         ensures len { result.len ≡ len }
-        ensures shows { (content : Option (List ℕ)) → ForSome content (λ file. len ≡ length file) → Shows content result }
+        ensures shows { (content : Option (List ℕ)) → ForSome content (λ file. len ≡ length file)
+            → Shows content result }
     {
         Window {
             len,
@@ -49,7 +51,8 @@ fn read_block<D: Disk>(
     at: u64,
     size: u64,
 ) -> Result<PayloadBytes, JournalFault>
-    ensures bytes { IfOk result (λ p. ForSome (D.content disk.old) (λ file. p ≡ part at size file)) }
+    ensures bytes { IfOk result (λ p. ForSome (D.content disk.old) (λ file.
+        p ≡ part at size file)) }
     ensures untouched { IsUntouched D.content D.moment D.images D.images_since disk.old disk.new }
     ensures later { D.faults disk.old ≤ D.faults disk.new }
     ensures cause { IfErr result (HasReason (D.faults disk.old) (D.faults disk.new)) }
@@ -62,13 +65,15 @@ fn read_block<D: Disk>(
 
 /// Whether the window has so many bytes from an offset on.
 fn covers(window: &Window, at: u64, len: u32) -> bool
-    ensures { result ≡ true → (window.now.at ≤ at) × (at - window.now.at + len ≤ length window.now.bytes) }
+    ensures { result ≡ true → (window.now.at ≤ at)
+        × (at - window.now.at + len ≤ length window.now.bytes) }
 {
     let held = window.bytes.as_slice().len() as u64;
     window.at <= at && at - window.at <= held && u64::from(len) <= held - (at - window.at)
 }
 
-/// Moves the window, unless it has so many bytes from an offset on. No block is longer than what is left of the file.
+/// Moves the window, unless it has so many bytes from an offset on. No block is longer than what is
+/// left of the file.
 pub(crate) fn reach<D: Disk>(
     alloc: Global,
     disk: &mut D,

@@ -7,10 +7,10 @@ ghost use Rattle.gd_lists.specs.Lists.{id_list};
 ghost use Rattle.gd_lists.specs.Entries.{is_of, with_entry, without_entry, spare_less};
 ghost use Rattle.gd_linkage.specs.Linkage.{list_of, HasRoom, HasNoLess, SamePlaces, IsBehind, HasEntries};
 
+use crate::counted::CountedLists;
 use gd_base::id::Id;
 use gd_base::memory::Memory;
 use gd_base::steps::Steps;
-use gd_lists::nodes::NodeLists;
 use gd_postings::postings::Postings;
 use gd_prim::{End, Primitive};
 use std::alloc::Global;
@@ -20,10 +20,10 @@ use std::marker::Model;
 /// lists through `list_of`. A list that was never made is as an empty one.
 #[derive(Drop)]
 pub struct Linkage {
-    left: NodeLists,
-    right: NodeLists,
-    typ: NodeLists,
-    scope: NodeLists,
+    left: CountedLists,
+    right: CountedLists,
+    typ: CountedLists,
+    scope: CountedLists,
     empty: Postings,
 }
 
@@ -44,16 +44,16 @@ impl Linkage {
         ensures { (end : prims.End) (node : ℕ) → (list_of end node result).ids ≡ [] }
     {
         Linkage {
-            left: NodeLists::new(alloc),
-            right: NodeLists::new(alloc),
-            typ: NodeLists::new(alloc),
-            scope: NodeLists::new(alloc),
+            left: CountedLists::new(alloc),
+            right: CountedLists::new(alloc),
+            typ: CountedLists::new(alloc),
+            scope: CountedLists::new(alloc),
             empty: Postings::new(alloc),
         }
     }
 
     /// The lists of an end.
-    fn lists(&self, end: End) -> &NodeLists
+    fn lists(&self, end: End) -> &CountedLists
         ensures { (node : ℕ) → id_list result.now node ≡ list_of end node self.now }
     {
         match end {
@@ -72,6 +72,13 @@ impl Linkage {
             Some(list) => list,
             None => &self.empty,
         }
+    }
+
+    /// A number that no list of this end is longer than. It does not fall where places are taken away.
+    pub fn most(&self, end: End) -> u32
+        ensures { (node : ℕ) → length (list_of end node self.now).ids ≤ result }
+    {
+        self.lists(end).most()
     }
 
     /// Makes room for a place more in the list of each node that the primitive names. It lowers the room of no list.

@@ -1,2 +1,2 @@
-//! Laws of the general definitions over plain lists. They stand in `proofs/`.
+//! Laws over plain lists, of primitives, of batches and of any elements. They stand in `proofs/`.
 #![tactic(auto)]

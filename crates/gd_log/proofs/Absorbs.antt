@@ -14,7 +14,7 @@ use Rattle.gd_journal.specs.declared.fault.JournalFault.TheVariants.{DiskFault, 
 use Rattle.gd_log.specs.State.{IsHeld}
 use Rattle.gd_log.specs.Stored.{Holds, groups_in_doubt, doubt_after}
 use Rattle.gd_log.specs.Writable.{follow_parts}
-use Rattle.gd_history_laws.proofs.Histories.{follow_more}
+use Rattle.gd_list_laws.proofs.Histories.{follow_more}
 use Rattle.gd_log.proofs.Replays.{next_item, take_item}
 
 -- the next batch may follow

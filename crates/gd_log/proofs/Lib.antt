@@ -3,3 +3,5 @@ pub mod Held
 pub mod Replays
 pub mod Opens
 pub mod Absorbs
+pub mod Fronts
+pub mod Early

@@ -5,38 +5,37 @@ use Rattle.gd_base.specs.Counts.{Rose}
 use Rattle.std.specs.Prelude.{Option, MatchOption}
 use Rattle.gd_prim.specs.declared.Batch.{Batch}
 use Rattle.gd_bytes.specs.Disk.{LeavesOnly, IsUntouched}
-use Rattle.gd_bytes.specs.File.{Meaning, Payloads, meaning, StandsFor}
+use Rattle.gd_bytes.specs.File.{Meaning, Version, is_marked, Payloads, meaning, StandsFor}
 use Rattle.gd_disk.specs.Runs.{leaves_start, leaves_join, leaves_weaken, leaves_untouched}
 use Rattle.gd_journal.specs.declared.fault.JournalFault.{JournalFault}
 use Rattle.gd_journal.specs.declared.fault.JournalFault.TheVariants.{DiskFault, NotStore, Damaged, Memory}
 use Rattle.gd_journal.specs.Causes.{HasReason, MayRefuse}
 use Rattle.gd_journal.specs.Meaning as journal
-use Rattle.gd_journal.specs.State.{IsSettled}
+use Rattle.gd_journal.specs.State.{IsOpened}
 use Rattle.gd_log.specs.Groups.{AreGroups}
 use Rattle.gd_log.specs.State.{IsHeld}
 use Rattle.gd_log.specs.Opening.{MeansOneOf, Refuses, Loads, IsKept, bytes_of}
-use Rattle.gd_log.proofs.Meaning.{bytes, of_payloads, meaning_held, walk_all, located_bytes}
+use Rattle.gd_log.proofs.Meaning.{bytes, meaning_is, meaning_none, same_meaning, walk_all, with_mark_groups, located_bytes}
 use Rattle.gd_log.proofs.Held.{hold}
+
+one_found : (a b : Payloads) (o : Option Payloads) → o ≡ Some a → o ≡ Some b → a ≡ b
+one_found a b o p q = cc
 
 -- what a journal says of the file, where it refuses it
 pub journal_refuses : (f : JournalFault) (before now : ℕ) (file : List ℕ) → MayRefuse before now f → (f ≡ NotStore → journal.held_by file ≡ None) → Refuses f (meaning file)
 journal_refuses DiskFault before now file may none = tt
-journal_refuses NotStore before now file may none = meaning_held file ∙ ap of_payloads (none refl)
+journal_refuses NotStore before now file may none = meaning_none file (none refl)
 journal_refuses (Damaged offset) before now file may none = absurd may
 journal_refuses Memory before now file may none = tt
 
 -- what was loaded is what the file stands for
-pub loads_stands : (file : List ℕ) (bs : List Batch) → Loads file bs → StandsFor file bs
-loads_stands file bs (read, is, are) =
-    let w = walk_all read bs are in
-    (w.0, meaning_held file ∙ ap of_payloads is ∙ w.1, w.2)
+pub loads_stands : (v : Version) (file : List ℕ) (bs : List Batch) → Loads v file bs → StandsFor file bs
+loads_stands v file bs (last, read, begins, is, are) =
+    let w = walk_all (is_marked v) read last bs are in
+    (w.0, meaning_is v file (record { list = read; damaged = None }) begins is ∙ w.1, w.2)
 
--- ---- files that hold the same payloads
-
-pub same_meaning : (c file : List ℕ) → journal.held_by c ≡ journal.held_by file → meaning c ≡ meaning file
-same_meaning c file same = meaning_held c ∙ ap of_payloads same ∙ sym (meaning_held file)
-
-pub same_stands : (c file : List ℕ) (bs : List Batch) → journal.held_by c ≡ journal.held_by file → StandsFor file bs → StandsFor c bs
+-- files that tell the same stand for the same
+pub same_stands : (c file : List ℕ) (bs : List Batch) → journal.told_by c ≡ journal.told_by file → StandsFor file bs → StandsFor c bs
 same_stands c file bs same (gs, is, all) = (gs, same_meaning c file same ∙ is, all)
 
 -- ---- what a journal answers as it is finished
@@ -70,14 +69,14 @@ module _ {D : Type 0} {content : D → Option (List ℕ)} {moment : D → ℕ} {
 
   -- nothing was changed, and then the file was cut
   pub finished_means : (old mid new : D) (file : List ℕ) → ((c : List ℕ) → images_since old (moment old) c → images old c) → images old file → IsUntouched content moment images images_since old mid
-      → LeavesOnly moment images images_since mid new (λ c. journal.held_by c ≡ journal.held_by file) → LeavesOnly moment images images_since old new (MeansOneOf (images old))
+      → LeavesOnly moment images images_since mid new (λ c. journal.told_by c ≡ journal.told_by file) → LeavesOnly moment images images_since old new (MeansOneOf (images old))
   finished_means old mid new file only_now there u run =
       let P : List ℕ → Type 0 = MeansOneOf (images old) in
       leaves_join old mid new P (untouched_means old mid only_now u)
-      (leaves_weaken mid new (λ c. journal.held_by c ≡ journal.held_by file) P (λ c same. (file, there, same_meaning c file same)) run)
+      (leaves_weaken mid new (λ c. journal.told_by c ≡ journal.told_by file) P (λ c same. (file, there, same_meaning c file same)) run)
 
   pub kept_finished : (old mid new : D) (file : List ℕ) (bs : List Batch) → ((f : List ℕ) → content new ≡ Some f → images new f) → images old file → content old ≡ Some file → IsUntouched content moment images images_since old mid → StandsFor file bs
-      → LeavesOnly moment images images_since mid new (λ c. journal.held_by c ≡ journal.held_by file) → is_some (content new) ≡ is_some (content mid) → IsKept content moment images images_since file old new
+      → LeavesOnly moment images images_since mid new (λ c. journal.told_by c ≡ journal.told_by file) → is_some (content new) ≡ is_some (content mid) → IsKept content moment images images_since file old new
   kept_finished old mid new file bs reads_one there is u st run same_told = record {
     told = same_told ∙ ap is_some (u.same ∙ is);
     read = λ c told. inr (bs, st, same_stands c file bs (run.now c (reads_one c told)) st);
@@ -86,12 +85,14 @@ module _ {D : Type 0} {content : D → Option (List ℕ)} {moment : D → ℕ} {
   }
 
 -- a journal that was finished, and whose payloads were loaded, holds what was loaded
-pub held_finished : (co : Option (List ℕ)) (im : List ℕ → Type 0) (gate : ℕ) (file : List ℕ) (d : Option ℕ) (bs : List Batch) (B : ℕ → Type 0) → d ≡ None
-    → MatchOption d ((ps : List (List ℕ)) × journal.StandsFor ps file × IsSettled co im gate ps) B → Loads file bs → IsHeld co im gate bs
-held_finished co im gate file None bs B none (ps, stands_for, settled) (read, is, are) =
+pub held_finished : (co : Option (List ℕ)) (im : List ℕ → Type 0) (v w : Version) (gate : ℕ) (file : List ℕ) (d : Option ℕ) (bs : List Batch) (B : ℕ → Type 0) → d ≡ None → w ≡ v
+    → MatchOption d (IsOpened co im w gate file) B → Loads v file bs → IsHeld co im gate bs
+held_finished co im v w gate file None bs B none same (ps, stands_for, settled) (last, read, begins, is, are) =
     let found : Payloads = record { list = read; damaged = None } in
-    let same : found ≡ journal.whole ps = cc in
-    let list : read ≡ journal.located 8 ps = ap (λ (p : Payloads). p.list) same in
+    let one : found ≡ journal.whole ps = one_found found (journal.whole ps) (journal.held_by file) is stands_for.0 in
+    let list : read ≡ journal.located 8 ps = ap (λ (p : Payloads). p.list) one in
     let all : bytes_of read ≡ ps = ap bytes list ∙ located_bytes 8 ps in
-    hold co im gate ps bs (subst (λ (l : List (List ℕ)). AreGroups [] l bs) all are) settled
-held_finished co im gate file (Some at) bs B none m loads = cc
+    let there = subst (λ (l : List (List ℕ)). AreGroups (is_marked v) [] l last bs) all are in
+    let groups = with_mark_groups w ps last bs (subst (λ (u : Version). AreGroups (is_marked u) [] ps last bs) (sym same) there) in
+    hold co im gate w (journal.with_mark w ps) bs groups settled
+held_finished co im v w gate file (Some at) bs B none same m loads = cc

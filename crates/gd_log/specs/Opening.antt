@@ -1,12 +1,12 @@
 -- What a file means, and what an answer of opening it says.
-use Rattle.std.specs.Prelude.{◌≡◌, ◌⊎◌, ℕ, List, [], ◌++◌, map, Option, Some, None, IsSome, ⊤}
+use Rattle.std.specs.Prelude.{◌≡◌, ◌⊎◌, ℕ, List, [], ◌++◌, map, Bool, true, false, not, ◌&&◌, bytes_eq, Option, Some, None, IsSome, ⊤}
 use Rattle.std.specs.Option.{ForSome}
 use Rattle.gd_bytes.specs.Disk.{IsUntouched}
 use Rattle.gd_prim.specs.declared.Batch.{Batch}
-use Rattle.gd_bytes.specs.File.{Meaning, not_store, damaged, meaning, StandsFor}
+use Rattle.gd_bytes.specs.File.{Meaning, Version, is_marked, mark, record_batches, not_store, damaged, meaning, StandsFor}
 use Rattle.gd_journal.specs.declared.fault.JournalFault.{JournalFault}
 use Rattle.gd_journal.specs.declared.fault.JournalFault.TheVariants.{DiskFault, NotStore, Damaged, Memory}
-use Rattle.gd_journal.specs.Meaning.{held_by}
+use Rattle.gd_journal.specs.Meaning.{held_by, HasVersion}
 use Rattle.gd_log.specs.Groups.{IsNext, AreGroups}
 
 -- A file means what some image of before means.
@@ -24,13 +24,21 @@ Refuses Memory m = ⊤
 abbrev pub bytes_of : List (ℕ × List ℕ) → List (List ℕ)
 bytes_of read = map (λ r. r.1) read
 
--- A record was taken in behind these batches.
-abbrev pub IsTaken : List Batch → List ℕ → List Batch → Type 0
-IsTaken before p now = (more : List Batch) × IsNext before p more × (now ≡ before ++ more)
+-- A group was taken in behind these batches.
+abbrev pub AddsGroup : Bool → List Batch → List ℕ → List Batch → Type 0
+AddsGroup marked before p now = (more : List Batch) × IsNext marked before p more × (now ≡ before ++ more)
 
--- All that a file holds are payloads that are groups of these batches.
-abbrev pub Loads : List ℕ → List Batch → Type 0
-Loads file bs = (read : List (ℕ × List ℕ)) × (held_by file ≡ Some (record { list = read; damaged = None })) × AreGroups [] (bytes_of read) bs
+-- A payload was taken in behind these batches: the mark, where texts may have no languages yet, or a group.
+abbrev pub IsTaken : Bool → List Batch → List ℕ → Bool → List Batch → Type 0
+IsTaken marked before p last now = ((marked ≡ false) × (p ≡ mark) × (last ≡ true) × (now ≡ before)) ⊎ ((last ≡ marked) × AddsGroup marked before p now)
+
+-- A payload is neither a mark that may stand there, nor a group of batches that may follow these.
+abbrev pub IsRefused : Bool → List Batch → List ℕ → Type 0
+IsRefused marked before p = ((not marked && bytes_eq p mark) ≡ false) × (record_batches marked before p ≡ None)
+
+-- All that a file of this version holds are payloads that are groups of these batches, and maybe the mark.
+abbrev pub Loads : Version → List ℕ → List Batch → Type 0
+Loads v file bs = (last : Bool) × (read : List (ℕ × List ℕ)) × HasVersion v file × (held_by file ≡ Some (record { list = read; damaged = None })) × AreGroups (is_marked v) [] (bytes_of read) last bs
 
 -- The same bytes, or both stand for the same batches.
 abbrev pub IsReadSame : List ℕ → List ℕ → Type 0

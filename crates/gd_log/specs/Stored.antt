@@ -1,9 +1,9 @@
 -- A log and the store of its batches: what contracts see of it, and what its disk holds.
-use Rattle.std.specs.Prelude.{◌≡◌, ℕ, ◌≤◌, List, [], ◌∷◌, length, true, Option, Some, None, Result, Ok, Err}
+use Rattle.std.specs.Prelude.{◌≡◌, ℕ, ◌+◌, ◌≤◌, List, [], ◌∷◌, ◌++◌, length, take, slice_get, true, false, Option, Some, None, Result, Ok, Err}
 use Rattle.std.specs.List.{AllByRecursion}
 use Rattle.gd_prim.specs.declared.Batch.{Batch}
 use Rattle.gd_prim.specs.History.{prims_of}
-use Rattle.gd_prim.specs.WellFormed.{max_moment, all_follow}
+use Rattle.gd_prim.specs.WellFormed.{max_moment, may_follow, all_follow}
 use Rattle.gd_journal.specs.State.{Journaled}
 use Rattle.gd_journal.specs.declared.fault.JournalFault.{JournalFault}
 use Rattle.gd_journal.specs.declared.fault.JournalFault.TheVariants.{DiskFault}
@@ -24,6 +24,13 @@ pub record MayAppend (bs more : List Batch) : Type 0 where
   pub few : length more ≤ 256
   pub follow : all_follow (prims_of bs) (length bs) more ≡ true
   pub early : AllByRecursion IsEarly more
+
+-- Of these batches the k-th may not follow the list and those before it, and it is the first.
+pub record IsFirstUnfit (bs more : List Batch) (k : ℕ) : Type 0 where
+  pub batch : Batch
+  pub here : slice_get more k ≡ Some batch
+  pub before : all_follow (prims_of bs) (length bs) (take k more) ≡ true
+  pub unfit : may_follow (prims_of (bs ++ take k more)) (length bs + k) batch ≡ false
 
 -- The disk holds these batches, or is unsure of the group in doubt. The log is in doubt just where a group is.
 abbrev pub Holds : Option (List ℕ) → (List ℕ → Type 0) → ℕ → Option ℕ → List Batch → Option (List Batch) → Type 0

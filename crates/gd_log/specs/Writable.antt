@@ -51,7 +51,8 @@ placed before moment i p is =
     let f = (and_parts _ _ g).0 in
     let e = (and_parts _ _ f).0 in
     let d = and_parts _ _ e in
-    let c = and_parts _ _ d.0 in
+    let l = (and_parts _ _ d.0).0 in
+    let c = and_parts _ _ l in
     record { same = same_number p.moment moment d.1; holds = c.1 }
 
 each_may : (before : List Primitive) (moment i : ℕ) (ps : List Primitive) → first_bad before moment i ps ≡ None → AllByRecursion (PrimitiveMay moment) ps
@@ -88,34 +89,35 @@ reference_short None = omega arith
 reference_short (Some p) = omega arith
 
 -- a primitive by its parts
-parts : (l r t s pr : Option ℕ) (lv : Bool) (m : ℕ) (v : Datum) (n : Option (List ℕ)) → length (value_bytes v) + length (name_bytes n)
-    ≤ 14 + text_bytes (record { left = l; right = r; typ = t; scope = s; value = v; name = n; previous = pr; live = lv; moment = m })
-parts l r t s pr lv m datum.Empty None = omega arith
-parts l r t s pr lv m datum.Empty (Some x) = omega arith
-parts l r t s pr lv m (datum.Text y) None = omega arith
-parts l r t s pr lv m (datum.Text y) (Some x) = omega arith
-parts l r t s pr lv m (datum.Int y) None = omega arith
-parts l r t s pr lv m (datum.Int y) (Some x) = omega arith
-parts l r t s pr lv m (datum.Bool y) None = omega arith
-parts l r t s pr lv m (datum.Bool y) (Some x) = omega arith
-parts l r t s pr lv m (datum.Moment y z) None = omega arith
-parts l r t s pr lv m (datum.Moment y z) (Some x) = omega arith
-parts l r t s pr lv m (datum.Object y) None = omega arith
-parts l r t s pr lv m (datum.Object y) (Some x) = omega arith
+parts : (l r t s pr g : Option ℕ) (lv : Bool) (m : ℕ) (v : Datum) (n : Option (List ℕ)) → length (value_bytes v) + length (name_bytes n)
+    ≤ 14 + text_bytes (record { left = l; right = r; typ = t; scope = s; value = v; name = n; previous = pr; live = lv; moment = m; lang = g })
+parts l r t s pr g lv m datum.Empty None = omega arith
+parts l r t s pr g lv m datum.Empty (Some x) = omega arith
+parts l r t s pr g lv m (datum.Text y) None = omega arith
+parts l r t s pr g lv m (datum.Text y) (Some x) = omega arith
+parts l r t s pr g lv m (datum.Int y) None = omega arith
+parts l r t s pr g lv m (datum.Int y) (Some x) = omega arith
+parts l r t s pr g lv m (datum.Bool y) None = omega arith
+parts l r t s pr g lv m (datum.Bool y) (Some x) = omega arith
+parts l r t s pr g lv m (datum.Moment y z) None = omega arith
+parts l r t s pr g lv m (datum.Moment y z) (Some x) = omega arith
+parts l r t s pr g lv m (datum.Object y) None = omega arith
+parts l r t s pr g lv m (datum.Object y) (Some x) = omega arith
 
-joined : (a b c d e f g : List ℕ) → length (a ++ b ++ c ++ d ++ e ++ f ++ g) ≡ length a + length b + length c + length d + length e + length f + length g
-joined a b c d e f g = simp length-append
+joined : (a b c d e f g h : List ℕ) → length (a ++ b ++ c ++ d ++ e ++ f ++ g ++ h) ≡ length a + length b + length c + length d + length e + length f + length g + length h
+joined a b c d e f g h = simp length-append
 
 primitive_short : (p : Primitive) → length (primitive_bytes p) ≤ 40 + text_bytes p
 primitive_short p = omega (
   arith,
-  joined (reference_bytes p.left) (reference_bytes p.right) (reference_bytes p.typ) (reference_bytes p.scope) (reference_bytes p.previous) (value_bytes p.value) (name_bytes p.name),
+  joined (reference_bytes p.left) (reference_bytes p.right) (reference_bytes p.typ) (reference_bytes p.scope) (reference_bytes p.previous) (reference_bytes p.lang) (value_bytes p.value) (name_bytes p.name),
   reference_short p.left,
   reference_short p.right,
   reference_short p.typ,
   reference_short p.scope,
   reference_short p.previous,
-  parts p.left p.right p.typ p.scope p.previous p.live p.moment p.value p.name,
+  reference_short p.lang,
+  parts p.left p.right p.typ p.scope p.previous p.lang p.live p.moment p.value p.name,
 )
 
 all_short : (ps : List Primitive) → length (flat_map primitive_bytes ps) ≤ 40 * length ps + sum_by text_bytes ps

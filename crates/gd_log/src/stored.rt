@@ -1,15 +1,16 @@
 //! A log, and the store of its batches.
-ghost use Rattle.std.specs.Prelude.{◌≡◌, ◌+◌, ◌-◌, ◌≤◌, ◌++◌, ◌↔◌, ◌⊎◌, List, ℕ, None, Some, true, length, take, IsSome, IsErr, IsErrOf, OnOk, OnErr, IfErr, MatchResult, if◌then◌else◌};
+ghost use Rattle.std.specs.Prelude.{◌≡◌, ◌+◌, ◌-◌, ◌≤◌, ◌++◌, ◌↔◌, ◌⊎◌, List, ℕ, None, true, length, take, IsSome, IsErr, IsErrOf, OnOk, OnErr, IfOk, IfErr, MatchResult, MatchOption, Some, slice_get, false, if◌then◌else◌};
 ghost use Rattle.std.specs.Option.{is_some};
 ghost use Rattle.gd_prim.specs.declared.Batch.{Batch};
 ghost use Rattle.gd_prim.specs.History.{prims_of};
-ghost use Rattle.gd_prim.specs.WellFormed.{all_follow};
+ghost use Rattle.gd_prim.specs.WellFormed.{may_follow, all_follow};
 ghost use Rattle.gd_bytes.specs.Disk.{LeavesOnly};
 ghost use Rattle.gd_bytes.specs.File.{StandsFor, MayStandFor};
 ghost use Rattle.gd_journal.specs.Causes.{HasReason};
-ghost use Rattle.gd_log.specs.Stored.{MayAppend, Holds, groups_in_doubt, doubt_after};
+ghost use Rattle.gd_log.specs.Stored.{MayAppend, IsFirstUnfit, Holds, groups_in_doubt, doubt_after};
 
 use crate::log::Log;
+use crate::replay::absorb_batch;
 use gd_base::memory::Memory;
 use gd_disk::disk::Disk;
 use gd_journal::fault::JournalFault;
@@ -45,6 +46,26 @@ fn absorb_group(store: &mut Store, batches: &[Batch]) -> Result<(), Memory>
         }
     }
     Ok(())
+}
+
+/// Stores batches one by one, up to the first that may not follow, and says how many these are, and whether memory was
+/// wanting for the next one.
+fn absorb_front(store: &mut Store, batches: &[Batch]) -> (usize, bool)
+    ensures taken { store.new ≡ store.old ++ take result.0 batches.now }
+    ensures few { result.0 ≤ length batches.now }
+    ensures follow { all_follow (prims_of store.old) (length store.old) (take result.0 batches.now) ≡ true }
+    ensures next { result.1 ≡ false → (b : Batch) → slice_get batches.now result.0 ≡ Some b
+        → may_follow (prims_of store.new) (length store.new) b ≡ false }
+{
+    let mut taken: usize = 0;
+    for batch in batches {
+        match absorb_batch(store, batch) {
+            Ok(true) => taken += 1,
+            Ok(false) => return (taken, false),
+            Err(Memory) => return (taken, true),
+        }
+    }
+    (taken, false)
 }
 
 /// A log, and the store of its batches: what is appended to the log is in the store, and only that. Contracts see the
@@ -93,6 +114,25 @@ impl<D: Disk> StoredLog<D> {
         let StoredLog { log, store } = self;
         drop(store);
         log.into_disk()
+    }
+
+    /// The first of these batches that may not follow those of the store and those before it. It changes nothing.
+    /// `Memory`: an allocation was refused.
+    pub fn first_unfit(&mut self, batches: &[Batch]) -> Result<Option<usize>, Memory>
+        ensures same { self.new ≡ self.old }
+        ensures first { IfOk result (λ first. MatchOption first
+            (all_follow (prims_of self.old.batches) (length self.old.batches) batches.now ≡ true)
+            (IsFirstUnfit self.old.batches batches.now)) }
+    {
+        let (taken, wanting) = absorb_front(&mut self.store, batches);
+        withdraw(&mut self.store, taken);
+        if wanting {
+            return Err(Memory);
+        }
+        if taken < batches.len() {
+            return Ok(Some(taken));
+        }
+        Ok(None)
     }
 
     /// Adds a group of 1 to 256 batches, each of which may follow those of the store and those before it, to the store

@@ -31,6 +31,7 @@ create_view create.Unconditional = change.unconditional
 abbrev pub target_view : Target → change.Target
 target_view (target.Id t) = change.to_id t.now
 target_view (target.Literal j) = change.to_literal (view j.now)
+target_view (target.Text t j) = change.to_text t.now (view j.now)
 target_view (target.Key t j) = change.to_key t.now (view j.now)
 
 -- what is known of a clause

@@ -85,6 +85,19 @@ pub fn is_made_of_two_or(members: &[(JsonText, Json)], a: &str, b: &str, more: &
     has(members, a) && has(members, b) && only_of(members, a, b, more, more)
 }
 
+/// Whether these two are the members, and besides at most two more.
+pub fn is_made_of_two_or_both(
+    members: &[(JsonText, Json)],
+    a: &str,
+    b: &str,
+    more: &str,
+    other: &str,
+) -> bool
+    ensures { result ≡ made_of (a.now ∷ b.now ∷ []) (more.now ∷ other.now ∷ []) (members_view members.now) }
+{
+    has(members, a) && has(members, b) && only_of(members, a, b, more, other)
+}
+
 /// Whether these three are the members, and besides at most one more.
 pub fn is_made_of_three_or(
     members: &[(JsonText, Json)],

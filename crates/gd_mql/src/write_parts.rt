@@ -14,7 +14,8 @@ ghost use Rattle.gd_mql.specs.Changes.{connect_view, create_view, target_view, s
 use crate::directive::is_directive;
 use crate::name::name_from;
 use crate::object::{
-    has, is_made_of_one, is_made_of_three_or, is_made_of_two, is_made_of_two_or, member, text_of,
+    has, is_made_of_one, is_made_of_three_or, is_made_of_two, is_made_of_two_or,
+    is_made_of_two_or_both, member, text_of,
 };
 use crate::operand::{is_computed, is_id_text, is_literal};
 use gd_fault::fault::Code;
@@ -36,11 +37,12 @@ pub enum CreateWord {
     Unconditional,
 }
 
-/// What a link leads to, as it is spelled: an id, a literal, or a literal as a key in a namespace.
+/// What a link leads to, as it is spelled: an id, a literal, a literal as a text in a language, or as a key in a namespace.
 #[derive(Clone, Copy)]
 pub enum Target<'a> {
     Id(&'a JsonText),
     Literal(&'a Json),
+    Text(&'a JsonText, &'a Json),
     Key(&'a JsonText, &'a Json),
 }
 
@@ -77,20 +79,22 @@ pub fn connect_word(value: &Json) -> Option<ConnectWord>
     }
 }
 
-/// Whether the members have the names of a fact as a form: of an id, or of a key in a namespace.
+/// Whether the members have the names of a fact as a form: of an id, of a text in a language, or of a key in a namespace.
 pub fn is_fact_form(form: &[(JsonText, Json)]) -> bool
     ensures { result ≡ defined.is_fact_form (members_view form.now) }
 {
-    is_made_of_one(form, "id") || is_made_of_two(form, "namespace", "value")
+    is_made_of_one(form, "id")
+        || is_made_of_two(form, "lang", "value")
+        || is_made_of_two(form, "namespace", "value")
 }
 
-/// Whether the members have the names of a connect form: with an id, a value, or a key in a namespace; and maybe
-/// `previous`.
+/// Whether the members have the names of a connect form: with an id, a value that may have a language, or a key in a
+/// namespace; and maybe `previous`.
 pub fn is_connect_form(form: &[(JsonText, Json)]) -> bool
     ensures { result ≡ defined.is_connect_form (members_view form.now) }
 {
     is_made_of_two_or(form, "connect", "id", "previous")
-        || is_made_of_two_or(form, "connect", "value", "previous")
+        || is_made_of_two_or_both(form, "connect", "value", "lang", "previous")
         || is_made_of_three_or(form, "connect", "namespace", "value", "previous")
 }
 
@@ -165,7 +169,7 @@ pub fn first_part_code(form: &[(JsonText, Json)]) -> Option<(Code, &JsonText)>
     None
 }
 
-/// The target that the members `id`, `value` and `namespace` of a form {..} spell.
+/// The target that the members `id`, `namespace`, `lang` and `value` of a form {..} spell.
 pub fn target_of(form: &[(JsonText, Json)]) -> Option<Target<'_>>
     ensures { option_map target_view result ≡ defined.target_of (members_view form.now) }
 {
@@ -175,7 +179,17 @@ pub fn target_of(form: &[(JsonText, Json)]) -> Option<Target<'_>>
     let value = member(form, "value")?;
     match text_of(form, "namespace") {
         Some(namespace) => Some(Target::Key(namespace, value)),
-        None => Some(Target::Literal(value)),
+        None => Some(value_target(form, value)),
+    }
+}
+
+/// The target that a literal is, with the language that the member `lang` of its form names, if it has one.
+fn value_target<'a>(form: &'a [(JsonText, Json)], value: &'a Json) -> Target<'a>
+    ensures { target_view result ≡ option_map_or (λ lang. defined.to_text lang (view value.now)) (defined.text_member (codes "lang") (members_view form.now)) (defined.to_literal (view value.now)) }
+{
+    match text_of(form, "lang") {
+        Some(lang) => Target::Text(lang, value),
+        None => Target::Literal(value),
     }
 }
 

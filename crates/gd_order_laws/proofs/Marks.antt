@@ -8,7 +8,7 @@ use Rattle.gd_prim.specs.declared.Primitive.{Primitive}
 use Rattle.gd_prim.specs.Live.{refers, live_where}
 use Rattle.gd_tree.specs.Json.{boolean, text}
 use Rattle.gd_grammar.specs.Mark.{cursor_text}
-use Rattle.gd_defs.specs.Property.{Property, answers, first, leads_to_object, holds_expected, expects_of}
+use Rattle.gd_defs.specs.Property.{Property, is_of, answers, first, leads_to_object, holds_expected, expects_of}
 use Rattle.gd_defs.specs.Asked.{Asked, Key, by_guid, by_timestamp, by_property, SortKey}
 use Rattle.gd_defs.specs.Rows.{Row, row_of, rows, key_place}
 use Rattle.gd_defs.specs.Reply.{fitted, mark_row, row_mark, page_cursor}
@@ -29,10 +29,10 @@ first_inside end (x ∷ xs) all = all x (inl refl)
 answers_inside : (prims : List Primitive) (p : Property) (o k : ℕ) → In k (answers prims p o) → k < length prims
 answers_inside prims p o k here = by p.reversed here
   where
-    by : (b : Bool) → In k (if b then live_where (λ l. refers l.typ p.stored && refers l.right o && leads_to_object prims l.left) prims
-        else live_where (λ l. refers l.typ p.stored && refers l.left o && holds_expected prims (expects_of p.expected) l) prims) → k < length prims
-    by true there = live_inside (λ l. refers l.typ p.stored && refers l.right o && leads_to_object prims l.left) prims k there
-    by false there = live_inside (λ l. refers l.typ p.stored && refers l.left o && holds_expected prims (expects_of p.expected) l) prims k there
+    by : (b : Bool) → In k (if b then live_where (λ l. is_of p l && refers l.right o && leads_to_object prims l.left) prims
+        else live_where (λ l. is_of p l && refers l.left o && holds_expected prims (expects_of p.expected) l) prims) → k < length prims
+    by true there = live_inside (λ l. is_of p l && refers l.right o && leads_to_object prims l.left) prims k there
+    by false there = live_inside (λ l. is_of p l && refers l.left o && holds_expected prims (expects_of p.expected) l) prims k there
 
 key_inside : (prims : List Primitive) (o : ℕ) → o < length prims → (key : Key) (descending : Bool) → Inside (length prims) (key_place prims o (record { key = key; descending = descending }))
 key_inside prims o inside by_guid descending = inside

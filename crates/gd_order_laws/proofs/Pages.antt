@@ -7,6 +7,7 @@ use Rattle.std.specs.Ordering.{is_lt}
 use Rattle.std.proofs.lemmas.Bool.{ltb-true, ltb-false}
 use Rattle.std.proofs.lemmas.List.{append-nil, take-append-drop}
 use Rattle.gd_prim.specs.declared.Primitive.{Primitive}
+use Rattle.gd_list_laws.proofs.Fronts.{take_whole, last_is, taken_last}
 use Rattle.gd_defs.specs.Asked.{Asked}
 use Rattle.gd_defs.specs.Rows.{Row, rows, row_cmp}
 use Rattle.gd_defs.specs.Reply.{Mark, row_mark, rows_after}
@@ -17,26 +18,6 @@ use Rattle.gd_order_laws.proofs.Rows.{rows_behind}
 use Rattle.gd_order_laws.proofs.Marks.{mark_again}
 
 -- ---- lists
-
-take_whole : {A : Type 0} (n : ℕ) (xs : List A) → length xs ≤ n → take n xs ≡ xs
-take_whole zero [] few = refl
-take_whole (suc n) [] few = refl
-take_whole zero (x ∷ xs) few = absurd (omega (arith, few))
-take_whole (suc n) (x ∷ xs) few = ap (λ l. x ∷ l) (take_whole n xs (omega (arith, few)))
-
--- a list with its last element apart
-split_last : {A : Type 0} (x : A) (xs : List A) → (front : List A) × (last : A) × (x ∷ xs ≡ front ++ last ∷ [])
-split_last x [] = ([], x, refl)
-split_last x (y ∷ ys) = let rest = split_last y ys in (x ∷ rest.0, rest.1, ap (λ l. x ∷ l) rest.2)
-
-last_is : {A : Type 0} (o : Option A) (front : List A) (last : A) → last_or o (front ++ last ∷ []) ≡ Some last
-last_is o [] last = refl
-last_is o (x ∷ front) last = last_is (Some x) front last
-
-taken_last : {A : Type 0} (n : ℕ) (xs : List A) → 0 < n → n < length xs → (front : List A) × (last : A) × (take n xs ≡ front ++ last ∷ [])
-taken_last zero xs some more = absurd (omega (arith, some))
-taken_last (suc n) [] some more = absurd (omega (arith, more))
-taken_last (suc n) (x ∷ xs) some more = split_last x (take n xs)
 
 some_fit : (n limit k : ℕ) → limit < k → k ≤ suc n * limit → 0 < limit
 some_fit n zero k less fits = absurd (omega (arith, less, fits))

@@ -10,7 +10,7 @@ use Rattle.gd_tree.specs.Json.{Json, object, Items, item, no_items}
 use Rattle.gd_tree.specs.Trees.{Tree, TreeLists, and_list, first_list, trees_of, place_of}
 use Rattle.gd_defs.specs.Data.{Kind, of_text, anything, passes}
 use Rattle.gd_defs.specs.Property.{Expects, a_value, a_key, an_object_of_system, a_plain_object, answers, first}
-use Rattle.gd_defs.specs.Asked.{its_id, its_guid, its_timestamp, its_link, its_value, its_namespace, SortKey, as_value, Asking, Members, no_members, own, asks, Asked, name_property}
+use Rattle.gd_defs.specs.Asked.{its_id, its_guid, its_timestamp, its_link, its_value, its_namespace, its_lang, SortKey, as_value, Asking, Members, no_members, own, asks, Asked, name_property}
 use Rattle.gd_defs.specs.Asked.Forms.{bare_asking, name_clause}
 use Rattle.gd_defs.specs.Rows.{Row, row_of, row_cmp, met, far, in_order, printed}
 use Rattle.gd_defs.specs.Reply as reply
@@ -51,7 +51,7 @@ keep-all (x ∷ xs) = ap (λ ys. x ∷ ys) (keep-all xs)
 -- ---- the answers of a member
 
 -- the trees of the links that a member finds
-abbrev found_lists : List Primitive → Asking → Members → ℕ → TreeLists → TreeLists
+abbrev pub found_lists : List Primitive → Asking → Members → ℕ → TreeLists → TreeLists
 found_lists prims a c o rest = and_list (trees_of (map (tree_of prims (link_template a c (clauses_of a.sort c))) (clause_answers prims (links_by (asked_end a.property)) (link_template a c (clauses_of a.sort c)) o))) rest
 
 found-list : (prims : List Primitive) (a : Asking) (c : Members) → IsTyped prims → IsAsked (answers_of a.property) a c (AreAsked c) → (o : ℕ) (rest : TreeLists)
@@ -71,7 +71,7 @@ ranked-order prims [] h rs back = refl
 ranked-order prims (s ∷ ss) h rs back = sorted-carried (row_cmp prims (s ∷ ss)) (λ (b : Ranked). b.0) h back [] rs
 
 -- objects that are cut from those found are the rows that are printed, with their lists
-cut-objects : (prims : List Primitive) (a : Asking) (c : Members) → IsTyped prims → IsAsked (answers_of a.property) a c (AreAsked c) → AreSortKeys a.sort → AnswersObjects a.property → (o : ℕ) (rest : TreeLists)
+pub cut-objects : (prims : List Primitive) (a : Asking) (c : Members) → IsTyped prims → IsAsked (answers_of a.property) a c (AreAsked c) → AreSortKeys a.sort → AnswersObjects a.property → (o : ℕ) (rest : TreeLists)
     → cut prims a c (found_lists prims a c o rest) ≡ map (carried prims a c) (printed prims a c o)
 cut-objects prims a c typed asked keys objects o rest =
     let t = link_template a c (clauses_of a.sort c) in
@@ -87,7 +87,7 @@ cut-objects prims a c typed asked keys objects o rest =
     ∙ take-map (carried prims a c) a.limit (in_order prims a.sort (map (λ x. row_of prims a.sort x (far prims a.property x)) (met prims a c o)))
 
 -- values that are cut from those found, as rows of their links
-cut-values : (prims : List Primitive) (a : Asking) (c : Members) → IsTyped prims → IsAsked (answers_of a.property) a c (AreAsked c) → a.sort ≡ [] → (o : ℕ) (rest : TreeLists)
+pub cut-values : (prims : List Primitive) (a : Asking) (c : Members) → IsTyped prims → IsAsked (answers_of a.property) a c (AreAsked c) → a.sort ≡ [] → (o : ℕ) (rest : TreeLists)
     → cut prims a c (found_lists prims a c o rest) ≡ map (λ x. ranked a c (answer_of a (tree_of prims (link_template a c (clauses_of a.sort c)) x))) (take a.limit (met prims a c o))
 cut-values prims a c typed asked unsorted o rest =
     let t = link_template a c (clauses_of a.sort c) in
@@ -96,7 +96,7 @@ cut-values prims a c typed asked unsorted o rest =
     ∙ ap (take a.limit) (map-map (λ t. ranked a c (answer_of a t)) (tree_of prims t) (met prims a c o))
     ∙ take-map (λ x. ranked a c (answer_of a (tree_of prims t x))) a.limit (met prims a c o)
 
-printed-values : (prims : List Primitive) (a : Asking) (c : Members) → a.sort ≡ [] → (o : ℕ) → map (λ x. row_of prims a.sort x (far prims a.property x)) (take a.limit (met prims a c o)) ≡ printed prims a c o
+pub printed-values : (prims : List Primitive) (a : Asking) (c : Members) → a.sort ≡ [] → (o : ℕ) → map (λ x. row_of prims a.sort x (far prims a.property x)) (take a.limit (met prims a c o)) ≡ printed prims a c o
 printed-values prims a c unsorted o = sym (ap (λ s. take a.limit (in_order prims s (map (λ k. row_of prims a.sort k (far prims a.property k)) (met prims a c o)))) unsorted ∙ take-map (λ x. row_of prims a.sort x (far prims a.property x)) a.limit (met prims a c o))
 
 -- ---- names
@@ -167,6 +167,7 @@ clause-untold prims typed (own name its_timestamp t j ms) are sort link o = own-
 clause-untold prims typed (own name its_link t j ms) are sort link o = own-front prims name its_link j link o (object_shape prims ms link o (clause_lists prims (clauses_of sort ms) o)) _ (object_json prims ms link o) (own-untold prims its_link j link o) (clause-untold prims typed ms are.1 sort link o)
 clause-untold prims typed (own name its_value t j ms) are sort link o = absurd are
 clause-untold prims typed (own name its_namespace t j ms) are sort link o = absurd are
+clause-untold prims typed (own name its_lang t j ms) are sort link o = absurd are
 clause-untold prims typed (asks name a c ms) are sort link o =
     let rest = clause_lists prims (clauses_of sort ms) o in
     front-untold name _ (answers_json a (each_answer prims a c) (length (met prims a c o)) (printed prims a c o)) (object_shape prims ms link o rest) (object_json prims ms link o)

@@ -4,14 +4,14 @@ use Rattle.std.specs.Prelude.{unwrap_or, if◌then◌else◌}
 use Rattle.gd_base.specs.declared.datum.Datum.{Datum}
 use Rattle.gd_base.specs.declared.datum.Datum.TheVariants as datum
 use Rattle.gd_prim.specs.declared.Primitive.{Primitive}
-use Rattle.gd_prim.specs.Live.{end_at, object_datum}
+use Rattle.gd_prim.specs.Live.{language_at, end_at, object_datum}
 use Rattle.gd_grammar.specs.Chain.{◌>>=◌}
 use Rattle.gd_tree.specs.Json.{Json, object, Items, item, Members as JsonMembers, member as json_member}
 use Rattle.gd_tree.specs.Trees.{TreeLists}
 use Rattle.gd_bytes.specs.Frozen.{Walk}
 use Rattle.gd_defs.specs.Data.{Kind, datum_json}
 use Rattle.gd_defs.specs.Property.{answer_datum}
-use Rattle.gd_defs.specs.Asked.{Own, its_id, its_guid, its_timestamp, its_link, its_value, its_namespace, Style, as_operand, as_value, as_name, as_id, as_clause, Asking, Members, no_members, own, asks}
+use Rattle.gd_defs.specs.Asked.{Own, its_id, its_guid, its_timestamp, its_link, its_value, its_namespace, its_lang, Style, as_operand, as_value, as_name, as_id, as_clause, Asking, Members, no_members, own, asks}
 use Rattle.gd_defs.specs.Rows.{Row}
 use Rattle.gd_defs.specs.Reply as reply
 use Rattle.gd_defs.specs.Reply.{Path, under, is_ambiguous, operand_of, is_clause, first_item, each_row, as_list, answers_json, answer_json, own_json, object_json}
@@ -42,6 +42,7 @@ own-untold prims its_timestamp None link o = refl
 own-untold prims its_link None link o = refl
 own-untold prims its_value None link o = refl
 own-untold prims its_namespace None link o = id_json-untold prims (object_datum (end_at (λ p. p.right) prims link))
+own-untold prims its_lang None link o = id_json-untold prims (object_datum (language_at prims link))
 
 -- ---- lists of answers
 
@@ -112,6 +113,7 @@ value-untold prims k keys no_members are link y z ls = refl
 value-untold prims k keys (own name its_link t j ms) are link y z ls = own-front prims name its_link j link y (object_shape prims ms link y ls) (unwrap_or j (own_json prims its_link link z)) (object_json prims ms link z) (own-untold prims its_link j link y) (value-untold prims k keys ms are.1 link y z ls)
 value-untold prims k keys (own name its_value t j ms) are link y z ls = own-front prims name its_value j link y (object_shape prims ms link y ls) (unwrap_or j (own_json prims its_value link z)) (object_json prims ms link z) (own-untold prims its_value j link y) (value-untold prims k keys ms are.1 link y z ls)
 value-untold prims k keys (own name its_namespace t j ms) are link y z ls = own-front prims name its_namespace j link y (object_shape prims ms link y ls) (unwrap_or j (own_json prims its_namespace link z)) (object_json prims ms link z) (own-untold prims its_namespace j link y) (value-untold prims k keys ms are.2 link y z ls)
+value-untold prims k keys (own name its_lang t j ms) are link y z ls = own-front prims name its_lang j link y (object_shape prims ms link y ls) (unwrap_or j (own_json prims its_lang link z)) (object_json prims ms link z) (own-untold prims its_lang j link y) (value-untold prims k keys ms are.1 link y z ls)
 value-untold prims k keys (own name its_id t j ms) are link y z ls = absurd are
 value-untold prims k keys (own name its_guid t j ms) are link y z ls = absurd are
 value-untold prims k keys (own name its_timestamp t j ms) are link y z ls = absurd are

@@ -1,5 +1,5 @@
 -- The rows that the trees of a member's links stand for.
-use Rattle.std.proofs.Common.{◌≡◌, ℕ, List, [], ◌∷◌, map, Bool, true, false, Option, Some, None, refl, ap, subst, inl, inr, ◌⊎◌, ◌∙◌}
+use Rattle.std.proofs.Common.{◌≡◌, ℕ, List, [], ◌∷◌, ◌++◌, map, Bool, true, false, Option, Some, None, refl, ap, subst, inl, inr, ◌⊎◌, ◌∙◌}
 use Rattle.std.specs.Prelude.{option_map}
 use Rattle.gd_prim.specs.declared.Primitive.{Primitive}
 use Rattle.gd_tree.specs.Trees.{Tree, tree, no_trees, and_tree, TreeLists, no_lists, and_list, place_of, list_of, trees_of, first_list}
@@ -7,9 +7,8 @@ use Rattle.gd_defs.specs.Property.{Property, Expects, a_value, a_key, an_object_
 use Rattle.gd_defs.specs.Asked.{Key, by_guid, by_timestamp, by_property, SortKey, Asking, Members, no_members, own, asks}
 use Rattle.gd_defs.specs.Rows as rows
 use Rattle.gd_defs.specs.Rows.{row_of, far, Row}
-use Rattle.gd_defs.specs.Plan.{answers_of, answer_end, asked_end, link_template, clauses_of, sort_clauses, unless_literal, of_kind}
+use Rattle.gd_defs.specs.Plan.{property_tests, answers_of, answer_end, asked_end, link_template, clauses_of, sort_clauses, unless_literal, of_kind}
 use Rattle.gd_defs.specs.Query.{optional}
-use Rattle.gd_prim.specs.declared.End.TheVariants.{Typ}
 use Rattle.gd_defs.specs.Template.{Template, template, Clauses, no_clauses, clause, end_here, links_by, end_is, is_answer, clause_answers, tree_of, clause_lists}
 use Rattle.gd_template_laws.specs.Fits.{IsTyped, IsSortKey, AreSortKeys}
 use Rattle.gd_template_laws.specs.Laws.{far_template, HasFar}
@@ -43,7 +42,7 @@ key_places-are prims typed (s ∷ ss) are o = by s.key refl are.0 (key_places-ar
     by by_guid key fits rest = rw key (ap (λ ks. Some o ∷ ks) rest)
     by by_timestamp key fits rest = rw key (ap (λ ks. Some o ∷ ks) rest)
     by (by_property p) key fits rest =
-        let cs = end_is Typ p.stored ∷ of_kind fits.1.0 ∷ [] in
+        let cs = property_tests p ++ of_kind fits.1.0 ∷ [] in
         let clauses : sort_clauses (s ∷ ss) ≡ clause optional (links_by (asked_end p)) (template cs no_clauses) (sort_clauses ss) = let expected = fits.1.1 in rw (key, expected) refl in
         let here : key_places (s ∷ ss) o (and_list (trees_of (map (tree_of prims (template cs no_clauses)) (answers prims p o))) (clause_lists prims (sort_clauses ss) o)) ≡ first (answers prims p o) ∷ key_places ss o (clause_lists prims (sort_clauses ss) o) =
         rw key (ap (λ k. k ∷ key_places ss o (clause_lists prims (sort_clauses ss) o)) (ap (λ ts. option_map place_of (first ts)) (list_of-trees_of (map (tree_of prims (template cs no_clauses)) (answers prims p o))) ∙ first-place prims cs (answers prims p o))) in

@@ -10,6 +10,7 @@ use Rattle.gd_prim.specs.History.{prims_of, prims_at}
 use Rattle.gd_prim.specs.Limits.{max_prims}
 use Rattle.gd_grammar.specs.Mark.{Mark, cursor_text}
 use Rattle.gd_grammar.proofs.Steps.{some_same}
+use Rattle.gd_list_laws.proofs.Fronts.{take_whole, last_is, taken_last}
 use Rattle.gd_bytes.specs.Cursor.{cursor_of}
 use Rattle.gd_tree.specs.Json.{Json, boolean, text, list, Items}
 use Rattle.gd_defs.specs.Query.{Query, query_of}
@@ -28,28 +29,6 @@ use Rattle.gd_paging_laws.proofs.Lines.{row_json, IsTold, IsLine, reply_told}
 use Rattle.gd_paging_laws.proofs.Marks.{cursor_read}
 use Rattle.gd_paging_laws.proofs.Joined.{inner, inner_same, list_same, append_same, append_none, rows_append}
 use Rattle.gd_paging_laws.proofs.Bounds.{read_bounded}
-
--- ---- lists
-
-take_whole : {A : Type 0} (n : ℕ) (xs : List A) → length xs ≤ n → take n xs ≡ xs
-take_whole zero [] few = refl
-take_whole (suc n) [] few = refl
-take_whole zero (x ∷ xs) few = absurd (omega (arith, few))
-take_whole (suc n) (x ∷ xs) few = ap (λ l. x ∷ l) (take_whole n xs (omega (arith, few)))
-
--- a list with its last element apart
-split_last : {A : Type 0} (x : A) (xs : List A) → (front : List A) × (last : A) × (x ∷ xs ≡ front ++ last ∷ [])
-split_last x [] = ([], x, refl)
-split_last x (y ∷ ys) = let rest = split_last y ys in (x ∷ rest.0, rest.1, ap (λ l. x ∷ l) rest.2)
-
-last_is : {A : Type 0} (o : Option A) (front : List A) (last : A) → last_or o (front ++ last ∷ []) ≡ Some last
-last_is o [] last = refl
-last_is o (x ∷ front) last = last_is (Some x) front last
-
-taken_last : {A : Type 0} (n : ℕ) (xs : List A) → 0 < n → n < length xs → (front : List A) × (last : A) × (take n xs ≡ front ++ last ∷ [])
-taken_last zero xs some more = absurd (omega (arith, some))
-taken_last (suc n) [] some more = absurd (omega (arith, more))
-taken_last (suc n) (x ∷ xs) some more = split_last x (take n xs)
 
 -- ---- cursors that are asked with
 

@@ -1,3 +1,4 @@
 pub mod Fronts
+pub mod Languages
 pub mod Members
 pub mod Planned

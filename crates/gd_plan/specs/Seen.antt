@@ -37,6 +37,7 @@ own_view own.Timestamp = defs.its_timestamp
 own_view own.Link = defs.its_link
 own_view own.Value = defs.its_value
 own_view own.Namespace = defs.its_namespace
+own_view own.Lang = defs.its_lang
 
 -- what rows are sorted by, and the direction
 abbrev pub sort_key_view : SortKey → defs.SortKey

@@ -2,7 +2,7 @@
 use Rattle.std.specs.Prelude.{List, []}
 use Rattle.gd_defs.specs.Asked as defs
 use Rattle.gd_defs.specs.Data.{Kind, Test, anything}
-use Rattle.gd_defs.specs.Plan.{value_test, object_test, object_tests, link_tests, namespace_tests}
+use Rattle.gd_defs.specs.Plan.{value_test, object_test, object_tests, lang_tests, link_tests, namespace_tests}
 use Rattle.gd_defs.specs.Template.{Constraint}
 use Rattle.gd_datum.specs.Values.{kind_of}
 use Rattle.gd_plan.specs.declared.subject.Subject.{Subject}
@@ -25,5 +25,6 @@ own_tests subject.Object defs.its_id t = object_test t
 own_tests subject.Object defs.its_guid t = object_test t
 own_tests subject.Object defs.its_timestamp t = object_test t
 own_tests (subject.Value kind) defs.its_value t = asked_value_test (kind_of kind) t
+own_tests (subject.Value kind) defs.its_lang t = lang_tests t
 own_tests subject.Namespace defs.its_namespace t = object_test t
 own_tests s o t = []

@@ -5,7 +5,7 @@ use gd_resolve::property::Property;
 use gd_template::template::Mode;
 
 /// What a computed member tells: of its object the id, the guid or the timestamp; of the link that led there the guid, the
-/// value or the namespace.
+/// value, the namespace or the language.
 #[derive(Clone, Copy, PartialEq, Eq)]
 pub enum Own {
     Id,
@@ -14,6 +14,7 @@ pub enum Own {
     Link,
     Value,
     Namespace,
+    Lang,
 }
 
 /// What rows are sorted by, and the direction: the guid, the timestamp, or the first value of a property.

@@ -5,7 +5,6 @@ ghost use Rattle.gd_defs.specs.Asked as defs;
 ghost use Rattle.gd_defs.specs.Plan as plan;
 ghost use Rattle.gd_defs.specs.Query.{optional};
 ghost use Rattle.gd_defs.specs.Template as template;
-ghost use Rattle.gd_prim.specs.declared.End.TheVariants.{Typ};
 ghost use Rattle.gd_datum.specs.Values.{kind_of};
 ghost use Rattle.gd_template.specs.Built.{view as template_of};
 ghost use Rattle.gd_template.specs.Seen.{constraint_of};
@@ -15,11 +14,10 @@ ghost use Rattle.gd_plan.specs.Planned.{with_clause};
 ghost use Rattle.gd_plan.specs.Making.{in_front};
 
 use crate::asked::SortKey;
-use crate::constraint::{asked_end, of_kind};
+use crate::constraint::{asked_end, links_of, of_kind};
 use crate::expects::{Expects, expects_of};
 use gd_base::memory::Memory;
 use gd_datum::value::Kind;
-use gd_prim::End;
 use gd_resolve::property::Property;
 use gd_template::constraint::Constraint;
 use gd_template::template::{Clause, Hop, Mode, Template};
@@ -41,10 +39,10 @@ fn link_constraints(
     property: &Property,
     kind: Kind,
 ) -> Result<Vec<Constraint>, Memory>
-    ensures { IfOk result (λ cs. map constraint_of cs.items ≡ template.end_is Typ property.now.stored ∷ plan.of_kind (kind_of kind) ∷ []) }
+    ensures { IfOk result (λ cs. map constraint_of cs.items ≡ plan.property_tests property.now ++ plan.of_kind (kind_of kind) ∷ []) }
 {
-    let of_kind = of_kind(alloc, kind)?;
-    let constraints = vec![in alloc; Constraint::EndIs(End::Typ, property.stored), of_kind]?;
+    let mut constraints = links_of(alloc, property)?;
+    constraints.push(of_kind(alloc, kind)?)?;
     Ok(constraints)
 }
 
@@ -53,7 +51,7 @@ fn value_clause(alloc: Global, property: &Property, kind: Kind) -> Result<Clause
     ensures { IfOk result (λ c. parts c ≡ (
       optional,
       template.links_by (plan.asked_end property.now),
-      template.template (template.end_is Typ property.now.stored ∷ plan.of_kind (kind_of kind) ∷ []) template.no_clauses,
+      template.template (plan.property_tests property.now ++ plan.of_kind (kind_of kind) ∷ []) template.no_clauses,
     )) }
 {
     let constraints = link_constraints(alloc, property, kind)?;

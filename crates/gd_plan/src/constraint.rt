@@ -56,6 +56,36 @@ fn push(constraints: &mut Vec<Constraint>, constraint: Constraint) -> Result<(),
     Ok(())
 }
 
+/// Puts the constraint of the language of texts behind others, where those of one are asked for.
+fn push_language(constraints: &mut Vec<Constraint>, language: Option<Id>) -> Result<(), Memory>
+    ensures { OnOk result (map constraint_of constraints.new.items ≡ map constraint_of constraints.old.items ++ plan.language_test language) }
+{
+    match language {
+        Some(language) => push(constraints, Constraint::LangIs(language)),
+        None => Ok(()),
+    }
+}
+
+/// The constraints of the links of a property: its typ, and its language where that is asked for. `Memory`: an allocation was
+/// refused.
+pub fn links_of(alloc: Global, property: &Property) -> Result<Vec<Constraint>, Memory>
+    ensures { IfOk result (λ cs. map constraint_of cs.items ≡ plan.property_tests property.now) }
+{
+    let mut constraints = vec![in alloc; Constraint::EndIs(End::Typ, property.stored)]?;
+    push_language(&mut constraints, property.language)?;
+    Ok(constraints)
+}
+
+/// Puts what a test asks of the language of a text behind other constraints. `Memory`: an allocation was refused.
+pub(crate) fn push_lang_test(constraints: &mut Vec<Constraint>, test: &Test) -> Result<(), Memory>
+    ensures { OnOk result (map constraint_of constraints.new.items ≡ map constraint_of constraints.old.items ++ plan.lang_tests (test_view test.now)) }
+{
+    match test {
+        Test::Equals(Datum::Object(language)) => push(constraints, Constraint::LangIs(*language)),
+        _ => Ok(()),
+    }
+}
+
 /// Whether a test of a value leaves open of which kind that is.
 fn asks_kind(test: &Test) -> bool
     ensures { result ≡ asks_kind (test_view test.now) }

@@ -1,5 +1,6 @@
 //! What the answers of a property are.
 ghost use Rattle.std.specs.Prelude.{◌≡◌, Some};
+ghost use Rattle.gd_defs.specs.Asked as asked;
 ghost use Rattle.gd_defs.specs.Property as property;
 ghost use Rattle.gd_plan.specs.Seen.{expects_view};
 
@@ -62,4 +63,11 @@ pub fn holds_values(expects: Expects) -> bool
         Expects::Value(_) | Expects::Key => true,
         Expects::SystemObject | Expects::PlainObject => false,
     }
+}
+
+/// Whether the answers have a language, as texts do. It takes no memory.
+pub fn has_lang(expects: Expects) -> bool
+    ensures { result ≡ asked.has_lang (expects_view expects) }
+{
+    matches!(expects, Expects::Value(Kind::Text))
 }

@@ -7,6 +7,7 @@ pub mod constraint;
 pub mod expects;
 pub mod fault;
 pub mod plan;
+pub mod spoken;
 mod subject;
 pub mod template;
 pub mod test;

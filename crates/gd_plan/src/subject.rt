@@ -10,7 +10,7 @@ ghost use Rattle.gd_plan.specs.Seen.{own_view, test_view};
 ghost use Rattle.gd_plan.specs.Subjects.{tests_on, own_tests, asked_value_test};
 
 use crate::asked::{Member, Own};
-use crate::constraint::{object_constraint, push_some, push_value_test};
+use crate::constraint::{object_constraint, push_lang_test, push_some, push_value_test};
 use crate::test::Test;
 use gd_base::memory::Memory;
 use gd_datum::value::Kind;
@@ -22,7 +22,7 @@ use std::alloc::Global;
 pub(crate) enum Subject {
     /// Of the clause's object.
     Object,
-    /// Of a link's value, which is of a kind.
+    /// Of a link: of its value, which is of a kind, and of its language.
     Value(Kind),
     /// Of a key's namespace.
     Namespace,
@@ -71,6 +71,7 @@ fn push_own_tests(
             push_object_test(alloc, constraints, test)
         }
         (Subject::Value(kind), Own::Value) => push_asked_value_test(alloc, constraints, kind, test),
+        (Subject::Value(_), Own::Lang) => push_lang_test(constraints, test),
         (Subject::Namespace, Own::Namespace) => push_object_test(alloc, constraints, test),
         _ => Ok(()),
     }

@@ -5,7 +5,6 @@ ghost use Rattle.gd_defs.specs.Asked.{no_members};
 ghost use Rattle.gd_defs.specs.Plan as plan;
 ghost use Rattle.gd_defs.specs.Query.{required};
 ghost use Rattle.gd_defs.specs.Template as template;
-ghost use Rattle.gd_prim.specs.declared.End.TheVariants.{Typ};
 ghost use Rattle.gd_datum.specs.Values.{kind_of};
 ghost use Rattle.gd_template.specs.Built.{view};
 ghost use Rattle.gd_template.specs.Seen.{constraint_of};
@@ -18,7 +17,7 @@ ghost use Rattle.gd_plan.specs.Subjects.{tests_on};
 
 use crate::asked::{Asked, Asking, Member, SortKey};
 use crate::clause::{bare_template, push_clause, push_sort_clauses};
-use crate::constraint::{answer_end, answers_of, asked_end, push_value_test};
+use crate::constraint::{answer_end, answers_of, asked_end, links_of, push_value_test};
 use crate::expects::Expects;
 use crate::fault::PlanFault;
 use crate::subject::{Subject, push_object_test, push_tests};
@@ -29,14 +28,6 @@ use gd_resolve::property::Property;
 use gd_template::constraint::Constraint;
 use gd_template::template::{Clause, Hop, Mode, Template};
 use std::alloc::Global;
-
-/// The constraint that a link is one of a property.
-fn links_of(alloc: Global, property: &Property) -> Result<Vec<Constraint>, Memory>
-    ensures { IfOk result (λ cs. map constraint_of cs.items ≡ template.end_is Typ property.now.stored ∷ []) }
-{
-    let constraints = vec![in alloc; Constraint::EndIs(End::Typ, property.stored)]?;
-    Ok(constraints)
-}
 
 /// The constraint that a place is an object.
 fn objects(alloc: Global) -> Result<Vec<Constraint>, Memory>
@@ -53,7 +44,7 @@ fn value_constraints(
     kind: Kind,
     clause: &[Member],
 ) -> Result<Vec<Constraint>, Memory>
-    ensures { IfOk result (λ cs. map constraint_of cs.items ≡ template.end_is Typ asking.now.property.stored ∷ plan.value_test (kind_of kind) (test_view asking.now.test) ++ plan.link_tests (kind_of kind) (members_view clause.now)) }
+    ensures { IfOk result (λ cs. map constraint_of cs.items ≡ plan.property_tests asking.now.property ++ (plan.value_test (kind_of kind) (test_view asking.now.test) ++ plan.link_tests (kind_of kind) (members_view clause.now))) }
 {
     let mut constraints = links_of(alloc, &asking.property)?;
     push_value_test(alloc, &mut constraints, kind, &asking.test)?;

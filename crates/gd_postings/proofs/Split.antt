@@ -118,3 +118,13 @@ still_few ids more id rising above small longer =
     let low = few ids id rising above in
     let count = ap length longer ∙ length-append ids (id ∷ []) in
     omega (arith, low, small, count)
+
+-- where the last identity of a rising list is less than an end, all are
+pub all_before : (ids : List ℕ) (end n : ℕ) → IsRising ids → suc n ≡ length ids → slice_index ids n < end → IsSplit ids end (length ids) (length ids)
+all_before ids end n rising e last = record { order = omega arith; within = omega arith; before = before; behind = λ i h k. absurd (omega (arith, h, k)) }
+  where
+    before : (i : ℕ) → i < length ids → slice_index ids i < end
+    before i there = ⊎_elim
+        (λ less. let low = rising i n less (omega (arith, e)) in omega (arith, low, last))
+        (λ least. let same : i ≡ n = omega (arith, least, there, e) in let q = ap (slice_index ids) same in omega (arith, q, last))
+        (cases_lt i n)

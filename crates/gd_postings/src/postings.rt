@@ -118,7 +118,7 @@ impl Postings {
         ensures counted { 0 < length self.now.ids → Rose steps.old steps.new }
     {
         let ids = self.as_slice();
-        let place = search(ids, end, steps);
+        let place = cut(ids, end, steps);
         &ids[..place]
     }
 
@@ -129,7 +129,7 @@ impl Postings {
         ensures later { steps.old ≤ steps.new }
         ensures counted { 0 < length self.now.ids → Rose steps.old steps.new }
     {
-        search(self.as_slice(), end, steps) as u32
+        cut(self.as_slice(), end, steps) as u32
     }
 
     /// The least identity that is `id` or greater, in at most 22 steps, and at least one where the list is not empty.
@@ -218,4 +218,34 @@ fn search<L>(ids: &[Id], end: Id, steps: &mut Steps<L>) -> usize
         part = halve(ids, end, part);
     }
     part.low
+}
+
+/// Whether a rising list has identities, and all of them are less than `end`.
+#[tactic(auto, using(crate::proofs::Split::all_before))]
+fn lies_below(ids: &[Id], end: Id) -> bool
+    requires rising { IsRising ids.now }
+    ensures all { IsTrue result → IsSplit ids.now end (length ids.now) (length ids.now) }
+{
+    let count = ids.len();
+    if count == 0 {
+        return false;
+    }
+    ids[count - 1].place() < end.place()
+}
+
+/// The same place as `search` gives. Where all identities are less than `end`, as where the end is that of the list of all
+/// primitives, it is found in one step.
+fn cut<L>(ids: &[Id], end: Id, steps: &mut Steps<L>) -> usize
+    requires few { length ids.now ≤ 2_097_151 }
+    requires rising { IsRising ids.now }
+    ensures split { IsSplit ids.now end result result }
+    ensures work { steps.new ≤ steps.old + 21 }
+    ensures later { steps.old ≤ steps.new }
+    ensures counted { 0 < length ids.now → Rose steps.old steps.new }
+{
+    if lies_below(ids, end) {
+        steps.tick();
+        return ids.len();
+    }
+    search(ids, end, steps)
 }

@@ -1,5 +1,5 @@
 -- Batches that are refused: one primitive too many, and a reference to the primitive's own place.
-use Rattle.std.proofs.Common.{◌≡◌, refl, [], ◌∷◌, replicate, Some, None, pos, negsuc}
+use Rattle.std.proofs.Common.{◌≡◌, refl, [], ◌∷◌, replicate, true, Some, None, pos, negsuc}
 use Rattle.gd_base.specs.declared.datum.Datum.TheVariants as datum
 use Rattle.gd_prim.specs.declared.What.TheVariants as what
 use Rattle.gd_prim.specs.Builtin.{builtin, object}
@@ -32,3 +32,16 @@ least = refl
 
 pub below_least : bad_place builtin (record { moment = 0; prims = record object { value = datum.Int (negsuc 9_223_372_036_854_775_808) } ∷ [] }) ≡ Some 70
 below_least = refl
+
+-- a language is that of a text, is not English, and lies below
+pub lang : bad_place builtin (record { moment = 0; prims = record object { value = datum.Text []; lang = Some 69 } ∷ [] }) ≡ None
+lang = refl
+
+pub lang_itself : bad_place builtin (record { moment = 0; prims = record object { value = datum.Text []; lang = Some 70 } ∷ [] }) ≡ Some 70
+lang_itself = refl
+
+pub lang_english : bad_place builtin (record { moment = 0; prims = record object { value = datum.Text []; lang = Some 3 } ∷ [] }) ≡ Some 70
+lang_english = refl
+
+pub lang_of_number : bad_place builtin (record { moment = 0; prims = record object { value = datum.Bool true; lang = Some 2 } ∷ [] }) ≡ Some 70
+lang_of_number = refl

@@ -8,6 +8,12 @@ use Rattle.gd_prim.specs.declared.Primitive.{Primitive}
 abbrev pub root_place : ℕ
 root_place = 0
 
+abbrev pub lang_place : ℕ
+lang_place = 2
+
+abbrev pub english_place : ℕ
+english_place = 3
+
 abbrev pub property_place : ℕ
 property_place = 6
 
@@ -48,9 +54,9 @@ master_place = 18
 abbrev pub builtin_end : ℕ
 builtin_end = 70
 
--- a live primitive of moment 0 without scope, name and previous
+-- a live primitive of moment 0 without scope, name, previous and language
 abbrev pub primitive : Option ℕ → Option ℕ → Option ℕ → Datum → Primitive
-primitive left right typ value = record { left = left; right = right; typ = typ; scope = None; value = value; name = None; previous = None; live = true; moment = 0 }
+primitive left right typ value = record { left = left; right = right; typ = typ; scope = None; value = value; name = None; previous = None; live = true; moment = 0; lang = None }
 
 -- an object
 abbrev pub object : Primitive

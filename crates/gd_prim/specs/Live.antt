@@ -1,10 +1,11 @@
 -- Which primitives of a list are current, live, objects and links.
-use Rattle.std.specs.Prelude.{ℕ, List, Bool, false, not, ◌&&◌, ◌==◌, Option, Some, None, is_none, option_map, option_and_then, slice_get, filter_map, find, if◌then◌else◌, bytes_eq}
+use Rattle.std.specs.Prelude.{ℕ, List, Bool, false, not, ◌&&◌, ◌==◌, Option, Some, None, is_none, option_map, unwrap_or, option_and_then, slice_get, filter_map, find, if◌then◌else◌, bytes_eq}
 use Rattle.std.specs.Option.{option_map_or}
 use Rattle.std.specs.List.{list_any, enumerate_from}
 use Rattle.gd_base.specs.declared.datum.Datum.{Datum}
 use Rattle.gd_base.specs.declared.datum.Datum.TheVariants as datum
 use Rattle.gd_prim.specs.declared.Primitive.{Primitive}
+use Rattle.gd_prim.specs.Builtin.{english_place}
 
 -- the reference is there and names this place
 abbrev pub refers : Option ℕ → ℕ → Bool
@@ -69,3 +70,11 @@ is_text text _ = false
 abbrev pub text_of : Datum → Option (List ℕ)
 text_of (datum.Text t) = Some t
 text_of _ = None
+
+-- the language of a primitive: of a text the one that it names, or English; what is no text has none
+abbrev pub language_of : Primitive → Option ℕ
+language_of p = option_map (λ t. unwrap_or p.lang english_place) (text_of p.value)
+
+-- the language of the primitive at a place, if it has one
+abbrev pub language_at : List Primitive → ℕ → Option ℕ
+language_at prims place = option_and_then language_of (slice_get prims place)

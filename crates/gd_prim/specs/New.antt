@@ -6,11 +6,11 @@ use Rattle.gd_prim.specs.declared.Primitive.{Primitive}
 
 -- a live object of a moment
 abbrev pub object : ℕ → Primitive
-object moment = record { left = None; right = None; typ = None; scope = None; value = datum.Empty; name = None; previous = None; live = true; moment = moment }
+object moment = record { left = None; right = None; typ = None; scope = None; value = datum.Empty; name = None; previous = None; live = true; moment = moment; lang = None }
 
 -- a live link of a moment: left, right, typ, value
 abbrev pub link : ℕ → Option ℕ → ℕ → Datum → ℕ → Primitive
-link left right typ value moment = record { left = Some left; right = right; typ = Some typ; scope = None; value = value; name = None; previous = None; live = true; moment = moment }
+link left right typ value moment = record { left = Some left; right = right; typ = Some typ; scope = None; value = value; name = None; previous = None; live = true; moment = moment; lang = None }
 
 -- the primitive as a newer version of the one at a place
 abbrev pub newer : ℕ → Bool → Primitive → Primitive

@@ -6,7 +6,8 @@ use Rattle.gd_base.specs.declared.datum.Datum.{Datum}
 use Rattle.gd_base.specs.declared.datum.Datum.TheVariants as datum
 use Rattle.gd_prim.specs.declared.Primitive.{Primitive}
 use Rattle.gd_prim.specs.declared.Batch.{Batch}
-use Rattle.gd_prim.specs.Live.{is_current}
+use Rattle.gd_prim.specs.Builtin.{english_place}
+use Rattle.gd_prim.specs.Live.{is_current, text_of}
 use Rattle.gd_prim.specs.Limits.{max_prims, max_batch, limits, first_full}
 
 -- a clock's numbers are cut off here
@@ -38,12 +39,16 @@ may_hold _ = true
 
 -- each reference of the primitive is below this place
 abbrev pub refers_back : ℕ → Primitive → Bool
-refers_back place p = list_all (refers_below place) (p.left ∷ p.right ∷ p.typ ∷ p.scope ∷ p.previous ∷ [])
+refers_back place p = list_all (refers_below place) (p.left ∷ p.right ∷ p.typ ∷ p.scope ∷ p.previous ∷ p.lang ∷ [])
+
+-- a language that is named is not English, and is that of a text
+abbrev pub may_name_language : Primitive → Bool
+may_name_language p = option_map_or (λ l. not (l == english_place) && is_some (text_of p.value)) p.lang true
 
 -- the rules for the primitive at the end of a list, the i-th of a batch of this moment
 abbrev pub is_well_placed : List Primitive → ℕ → ℕ → Primitive → Bool
 is_well_placed before moment i p =
-    refers_back (length before) p && (p.live || is_some p.previous) && may_hold p.value
+    refers_back (length before) p && (p.live || is_some p.previous) && may_hold p.value && may_name_language p
     && p.moment == moment && nat_le moment max_moment && nat_lt (length before) max_prims && nat_lt i max_batch
     && succeeds_current before p.previous
 

@@ -3,6 +3,7 @@
 
 ghost use Rattle.std.specs.Prelude.{◌≡◌, ◌↔◌, [], ◌∷◌, ◌++◌, take, length, IsTrue, IfOk, OnOk, OnErr};
 ghost use Rattle.gd_prim.specs.End.{end_of};
+ghost use Rattle.gd_prim.specs.Live.{language_of};
 ghost use Rattle.gd_prim.specs.New as new;
 
 pub mod builtin;
@@ -16,6 +17,9 @@ use gd_base::memory::Memory;
 use gd_base::text::Text;
 use std::alloc::Global;
 use std::marker::Model;
+
+/// The language of texts that name none: `/lang/en`.
+pub const ENGLISH: Id = Id(3);
 
 /// The references by which primitives are found.
 #[derive(Clone, Copy, Debug, PartialEq, Eq, PartialOrd, Ord, Hash)]
@@ -45,6 +49,8 @@ pub struct Primitive {
     pub live: bool,
     /// When it was written, in milliseconds since 1970-01-01 in UTC.
     pub moment: u64,
+    /// The language of a text, where it is not English.
+    pub lang: Option<Id>,
 }
 
 impl Primitive {
@@ -62,6 +68,7 @@ impl Primitive {
             previous: None,
             live: true,
             moment,
+            lang: None,
         }
     }
 
@@ -79,6 +86,7 @@ impl Primitive {
             previous: None,
             live: true,
             moment,
+            lang: None,
         }
     }
 
@@ -105,6 +113,17 @@ impl Primitive {
         }
     }
 
+    /// The language of a text: the one that is named, or English. What is no text has none.
+    pub fn language(&self) -> Option<Id>
+        ensures { result ≡ language_of self.now }
+    {
+        match (&self.value, self.lang) {
+            (Datum::Text(_), Some(lang)) => Some(lang),
+            (Datum::Text(_), None) => Some(ENGLISH),
+            _ => None,
+        }
+    }
+
     /// The same primitive again.
     pub fn copy(&self) -> Result<Primitive, Memory>
         ensures { IfOk result (λ prim. prim ≡ self.now) }
@@ -122,6 +141,7 @@ impl Primitive {
             previous: self.previous,
             live: self.live,
             moment: self.moment,
+            lang: self.lang,
         })
     }
 }

@@ -1,11 +1,12 @@
 //! Which batches may follow a list of primitives.
-ghost use Rattle.std.specs.Prelude.{◌≡◌, ◌<◌, ◌≤◌, ◌++◌, IsTrue, List, None, Some, length, MatchResult};
+ghost use Rattle.std.specs.Prelude.{◌≡◌, ◌<◌, ◌≤◌, ◌++◌, IsTrue, List, None, Some, length, MatchResult, is_some};
 ghost use Rattle.gd_prim.specs.Live as graph;
+ghost use Rattle.gd_prim.specs.Live.{text_of};
 ghost use Rattle.gd_prim.specs.WellFormed as defined;
 
 use crate::limits::{MAX_BATCH, MAX_PRIMS};
 use crate::live::has_successor;
-use crate::{Batch, Primitive};
+use crate::{Batch, ENGLISH, Primitive};
 use gd_base::datum::Datum;
 use gd_base::id::Id;
 use thiserror::Error;
@@ -42,6 +43,7 @@ fn refers_back(place: usize, prim: &Primitive) -> bool
         && refers_below(place, prim.typ)
         && refers_below(place, prim.scope)
         && refers_below(place, prim.previous)
+        && refers_below(place, prim.lang)
 }
 
 /// A list of primitives that a batch is to follow.
@@ -91,6 +93,16 @@ fn has_64_bits(number: i64) -> bool
     true
 }
 
+/// Whether the value is a text.
+fn is_text(value: &Datum) -> bool
+    ensures { result ≡ is_some (text_of value.now) }
+{
+    match value {
+        Datum::Text(_) => true,
+        _ => false,
+    }
+}
+
 /// Whether a primitive may hold the value.
 fn may_hold(value: &Datum) -> bool
     ensures { result ≡ defined.may_hold value.now }
@@ -100,6 +112,16 @@ fn may_hold(value: &Datum) -> bool
         Datum::Int(number) => has_64_bits(*number),
         Datum::Moment { ms, .. } => *ms >= MIN_MOMENT && *ms <= MAX_MOMENT as i64,
         _ => true,
+    }
+}
+
+/// Whether the language that the primitive names, if it names one, is not English and that of a text.
+fn may_name_language(prim: &Primitive) -> bool
+    ensures { result ≡ defined.may_name_language prim.now }
+{
+    match prim.lang {
+        Some(lang) => lang != ENGLISH && is_text(&prim.value),
+        None => true,
     }
 }
 
@@ -114,6 +136,7 @@ fn is_well_placed<P: Prior>(prior: &P, earlier: &[Primitive], moment: u64, prim:
     refers_back(place, prim)
         && (prim.live || prim.previous.is_some())
         && may_hold(&prim.value)
+        && may_name_language(prim)
         && prim.moment == moment
         && moment <= MAX_MOMENT
         && place < MAX_PRIMS
@@ -141,7 +164,7 @@ pub fn is_well_formed_behind<P: Prior>(prior: &P, batch: &Batch) -> Result<(), B
 /// Whether the batch may follow these primitives. `BadBatch`: some primitive of it breaks a rule, with the place of the
 /// first that does. The rules: each reference is below the primitive's own place; `previous` names a place that is
 /// current among the primitives before; a primitive that is not live has a `previous`; the value is no `Object`, and a
-/// `Moment` lies in the years 0000 to 9999; the primitive's moment is the batch's, and at most `MAX_MOMENT`; the place
+/// `Moment` lies in the years 0000 to 9999; a `lang` is not English, and is that of a text; the primitive's moment is the batch's, and at most `MAX_MOMENT`; the place
 /// is below `MAX_PRIMS`; the primitive is among the first `MAX_BATCH` of its batch. It takes no memory.
 pub fn is_well_formed(prior: &[Primitive], batch: &Batch) -> Result<(), BadBatch>
     requires { length prior.now ≤ 2_097_151 }

@@ -6,11 +6,12 @@ use Rattle.gd_prim.specs.declared.Primitive.{Primitive}
 use Rattle.gd_prim.specs.End.{places_with}
 use Rattle.gd_prim.specs.Live.{refers, passes_at, is_live, is_object, live_where}
 use Rattle.gd_defs.specs.Plan.{asked_end}
-use Rattle.gd_defs.specs.Property.{Property, answers, first, leads_to_object, holds_expected, expects_of}
+use Rattle.gd_defs.specs.Property.{Property, is_of, answers, first, leads_to_object, holds_expected, expects_of}
 use Rattle.gd_defs.specs.Asked.{SortKey}
 use Rattle.gd_defs.specs.Rows.{key_place, first_key, later_keys}
 use Rattle.gd_defs.specs.Reply.{fitted}
-use Rattle.gd_template_laws.proofs.Places.{filter-filter, filter-same, live_where-places, places_where-places, object-live, places}
+use Rattle.gd_list_laws.proofs.Places.{filter-filter, filter-same, live_where-places, places_where-places}
+use Rattle.gd_template_laws.proofs.Places.{object-live, places}
 use Rattle.gd_plan.specs.declared.asked.SortKey as asked
 use Rattle.gd_plan.specs.Seen.{sort_key_view}
 use Rattle.gd_window.specs.Laws.{keys_at}
@@ -23,8 +24,8 @@ object_is prims k = object-live prims k
 -- ---- links
 
 links_back : (prims : List Primitive) (p : Property) (o x : ℕ) (near : Primitive → Option ℕ) (held : Primitive → Bool)
-    → (passes_at (λ k. refers k.typ p.stored && refers (near k) o && held k) prims x && is_live prims x)
-    ≡ (passes_at (λ k. refers (near k) o) prims x && (passes_at (λ k. refers k.typ p.stored && held k) prims x && is_live prims x))
+    → (passes_at (λ k. is_of p k && refers (near k) o && held k) prims x && is_live prims x)
+    ≡ (passes_at (λ k. refers (near k) o) prims x && (passes_at (λ k. is_of p k && held k) prims x && is_live prims x))
 links_back prims p o x near held = by (slice_get prims x) (is_live prims x)
   where
     swap : (t n h l : Bool) → (((t && n) && h) && l) ≡ (n && ((t && h) && l))
@@ -33,32 +34,32 @@ links_back prims p o x near held = by (slice_get prims x) (is_live prims x)
     swap false true h l = refl
     swap false false h l = refl
 
-    by : (q : Option Primitive) (l : Bool) → (option_map_or (λ k. refers k.typ p.stored && refers (near k) o && held k) q false && l)
-        ≡ (option_map_or (λ k. refers (near k) o) q false && (option_map_or (λ k. refers k.typ p.stored && held k) q false && l))
+    by : (q : Option Primitive) (l : Bool) → (option_map_or (λ k. is_of p k && refers (near k) o && held k) q false && l)
+        ≡ (option_map_or (λ k. refers (near k) o) q false && (option_map_or (λ k. is_of p k && held k) q false && l))
     by None l = refl
-    by (Some k) l = swap (refers k.typ p.stored) (refers (near k) o) (held k) l
+    by (Some k) l = swap (is_of p k) (refers (near k) o) (held k) l
 
 among : (prims : List Primitive) (p : Property) (o : ℕ) (near : Primitive → Option ℕ) (held : Primitive → Bool)
-    → live_where (λ k. refers k.typ p.stored && refers (near k) o && held k) prims
-    ≡ filter (λ x. passes_at (λ k. refers k.typ p.stored && held k) prims x && is_live prims x) (filter (passes_at (λ k. refers (near k) o) prims) (places prims))
+    → live_where (λ k. is_of p k && refers (near k) o && held k) prims
+    ≡ filter (λ x. passes_at (λ k. is_of p k && held k) prims x && is_live prims x) (filter (passes_at (λ k. refers (near k) o) prims) (places prims))
 among prims p o near held =
-    live_where-places (λ k. refers k.typ p.stored && refers (near k) o && held k) prims
+    live_where-places (λ k. is_of p k && refers (near k) o && held k) prims
     ∙ filter-same _ _ (places prims) (λ x. links_back prims p o x near held)
-    ∙ sym (filter-filter (passes_at (λ k. refers (near k) o) prims) (λ x. passes_at (λ k. refers k.typ p.stored && held k) prims x && is_live prims x) (places prims))
+    ∙ sym (filter-filter (passes_at (λ k. refers (near k) o) prims) (λ x. passes_at (λ k. is_of p k && held k) prims x && is_live prims x) (places prims))
 
 -- the answers of a property on an object are among the links that have it at the end by which the property is asked
-answers-links : (prims : List Primitive) (stored : ℕ) (reversed : Bool) (expected : Option ℕ) (unique : Bool) (o : ℕ)
-    → let p : Property = record { stored = stored; reversed = reversed; expected = expected; unique = unique } in
+answers-links : (prims : List Primitive) (stored : ℕ) (reversed : Bool) (expected : Option ℕ) (unique : Bool) (language : Option ℕ) (o : ℕ)
+    → let p : Property = record { stored = stored; reversed = reversed; expected = expected; unique = unique; language = language } in
     answers prims p o ≡ filter (is_answer_at prims p) (places_with (asked_end p) o prims)
-answers-links prims stored true expected unique o =
-    let p : Property = record { stored = stored; reversed = true; expected = expected; unique = unique } in
+answers-links prims stored true expected unique language o =
+    let p : Property = record { stored = stored; reversed = true; expected = expected; unique = unique; language = language } in
     among prims p o (λ k. k.right) (λ k. leads_to_object prims k.left) ∙ ap (filter (is_answer_at prims p)) (sym (places_where-places (λ k. refers k.right o) prims))
-answers-links prims stored false expected unique o =
-    let p : Property = record { stored = stored; reversed = false; expected = expected; unique = unique } in
+answers-links prims stored false expected unique language o =
+    let p : Property = record { stored = stored; reversed = false; expected = expected; unique = unique; language = language } in
     among prims p o (λ k. k.left) (λ k. holds_expected prims (expects_of expected) k) ∙ ap (filter (is_answer_at prims p)) (sym (places_where-places (λ k. refers k.left o) prims))
 
 pub first_answer : (prims : List Primitive) (p : Property) (o : ℕ) → first (answers prims p o) ≡ first (filter (is_answer_at prims p) (places_with (asked_end p) o prims))
-first_answer prims p o = ap first (answers-links prims p.stored p.reversed p.expected p.unique o)
+first_answer prims p o = ap first (answers-links prims p.stored p.reversed p.expected p.unique p.language o)
 
 -- ---- keys
 

@@ -1,8 +1,8 @@
 -- Sort keys at their places, and the links that are answers of a property.
 use Rattle.std.specs.Prelude.{ℕ, List, Bool, ◌&&◌, nat_lt, Option, None, Some, option_map, if◌then◌else◌}
 use Rattle.gd_prim.specs.declared.Primitive.{Primitive}
-use Rattle.gd_prim.specs.Live.{refers, passes_at, is_live}
-use Rattle.gd_defs.specs.Property.{Property, leads_to_object, holds_expected, expects_of}
+use Rattle.gd_prim.specs.Live.{passes_at, is_live}
+use Rattle.gd_defs.specs.Property.{Property, is_of, leads_to_object, holds_expected, expects_of}
 use Rattle.gd_defs.specs.Asked.{SortKey}
 use Rattle.gd_defs.specs.Rows.{key_place, key_value}
 use Rattle.gd_window.specs.declared.keys.Key.{Key}
@@ -13,7 +13,7 @@ holds prims p k = if p.reversed then leads_to_object prims k.left else holds_exp
 
 -- a live link of the property stands at the place, and holds what that expects
 abbrev pub is_answer_at : List Primitive → Property → ℕ → Bool
-is_answer_at prims p x = passes_at (λ k. refers k.typ p.stored && holds prims p k) prims x && is_live prims x
+is_answer_at prims p x = passes_at (λ k. is_of p k && holds prims p k) prims x && is_live prims x
 
 -- a sort key at its place, with the value there
 abbrev pub key_at : List Primitive → SortKey → Option ℕ → Key

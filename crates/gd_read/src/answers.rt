@@ -13,8 +13,7 @@ use gd_datum::value::Kind;
 use gd_plan::constraint::asked_end;
 use gd_plan::expects::{Expects, expects_of};
 use gd_prim::Primitive;
-use gd_prim::live::refers;
-use gd_resolve::property::Property;
+use gd_resolve::property::{Property, is_of};
 use gd_trees::linked::LinkedPrims;
 
 /// Whether a primitive without typ stands at the place.
@@ -68,11 +67,11 @@ fn holds_expected(linked: &LinkedPrims, expects: Expects, link: &Primitive) -> b
     }
 }
 
-/// Whether a link has the typ of a property, and holds what that expects in its direction.
+/// Whether a link is one of a property, and holds what that expects in its direction.
 fn holds(linked: &LinkedPrims, property: &Property, link: &Primitive) -> bool
-    ensures { result ≡ (live.refers link.now.typ property.now.stored && holds linked.now property.now link.now) }
+    ensures { result ≡ (defs.is_of property.now link.now && holds linked.now property.now link.now) }
 {
-    if !refers(link.typ, property.stored) {
+    if !is_of(property, link) {
         return false;
     }
     if property.reversed {
@@ -84,7 +83,7 @@ fn holds(linked: &LinkedPrims, property: &Property, link: &Primitive) -> bool
 
 /// Whether a link of the property stands at the place, and holds what that expects.
 fn holds_at(linked: &LinkedPrims, property: &Property, place: Id) -> bool
-    ensures { result ≡ live.passes_at (λ k. live.refers k.typ property.now.stored && holds linked.now property.now k) linked.now place }
+    ensures { result ≡ live.passes_at (λ k. defs.is_of property.now k && holds linked.now property.now k) linked.now place }
 {
     match linked.prims().get(place.place() as usize) {
         Some(link) => holds(linked, property, link),

@@ -18,7 +18,8 @@ use Rattle.gd_runs.specs.Replay.{event_from, event_of}
 use Rattle.gd_replay_laws.specs.Built.{StepBuilt, Takes}
 use Rattle.gd_replay_laws.specs.Runs.{BuiltLine, IsBounded, AreBelow}
 use Rattle.gd_replay_laws.specs.Faults.{IsCounted}
-use Rattle.gd_replay_laws.proofs.Faults.{takes_quiet, fault_quiet, memory_quiet, quiet_counted}
+use Rattle.gd_core_laws.proofs.Quiet.{fault_quiet, memory_quiet}
+use Rattle.gd_replay_laws.proofs.Faults.{takes_quiet, quiet_counted}
 use Rattle.gd_sessions.specs.Running.{Answers, MayTake}
 use Rattle.gd_replay.specs.Lines.{TellsTooLong, TellsFault}
 
@@ -97,12 +98,12 @@ reopened_counted members may s k bytes t before after result = answers_counted (
 -- nor does the refusal of what is no event
 pub fault_told_quiet : (k : ℕ) (f : LineFault) (line : List ℕ) → TellsFault k f line → tells_fault k line ≡ false
 fault_told_quiet k f line tells = ⊎_elim
-    (λ told. ap (tells_fault k) told.1 ∙ fault_quiet k (fault_view f))
-    (λ lacks. ap (tells_fault k) lacks ∙ memory_quiet k)
+    (λ told. ap (tells_fault k) told.1 ∙ fault_quiet k k (fault_view f))
+    (λ lacks. ap (tells_fault k) lacks ∙ memory_quiet k k)
     tells
 
 pub long_told_quiet : (k : ℕ) (line : List ℕ) → TellsTooLong k line → tells_fault k line ≡ false
 long_told_quiet k line tells = ⊎_elim
-    (λ told. ap (tells_fault k) told ∙ fault_quiet k line_too_long)
-    (λ lacks. ap (tells_fault k) lacks ∙ memory_quiet k)
+    (λ told. ap (tells_fault k) told ∙ fault_quiet k k line_too_long)
+    (λ lacks. ap (tells_fault k) lacks ∙ memory_quiet k k)
     tells

@@ -2,12 +2,12 @@
 use Rattle.std.proofs.Common.{◌≡◌, ℕ, ◌≤◌, Bool, true, false, List, [], ◌++◌, length, take, Option, Some, None, IfSome, Result, Ok, Err, OnErr, OnOk, refl, sym, subst, ap, ◌∙◌, arith, length-append, append_assoc, append-nil, take_all}
 use Rattle.std.specs.Io.KnownBytes.{Keeps, prepend_known}
 use Rattle.std.proofs.KnownBytes.{Consumes-nil, Appends-kept, Keeps-refl}
+use Rattle.gd_base.specs.Counts.{RoseBy}
 use Rattle.gd_prim.specs.declared.Batch.{Batch}
 use Rattle.gd_outside.specs.declared.Failed.{Failed}
 use Rattle.gd_runs.specs.Owed.{MembersOf}
 use Rattle.gd_runs.specs.Explained.{Numbered, lines_of}
 use Rattle.gd_runs.specs.Core.{State, opened}
-use Rattle.gd_replay_laws.specs.Faults.{RoseBy}
 use Rattle.gd_input.specs.declared.fault.InputFault.{InputFault}
 use Rattle.gd_input.specs.declared.fault.InputFault.TheVariants as input
 use Rattle.gd_input.specs.declared.piece.Piece.{Piece}
@@ -18,7 +18,8 @@ use Rattle.gd_journal.specs.declared.fault.JournalFault.TheVariants as journal
 use Rattle.gd_replay.specs.declared.stop.Stop.{Stop}
 use Rattle.gd_replay.specs.declared.stop.Stop.TheVariants as stop
 use Rattle.gd_replay.specs.Stops.{stop_of, IsCaused, EndsAs, EndsBy, EndsSent}
-use Rattle.gd_replay.specs.Runs.{Accounts, Replays, ReplaysTaken, ReplaysFront, PiecePrints, PieceStops, RunUpto}
+use Rattle.gd_replay.specs.Replays.{Accounts, Replays, ReplaysTaken, ReplaysFront}
+use Rattle.gd_replay.specs.Runs.{PiecePrints, PieceStops, RunUpto}
 use Rattle.gd_replay.proofs.Upto.{upto_start, upto_more, upto_end, upto_taken, taken_front, upto_front}
 
 -- ---- the loop

@@ -1,4 +1,3 @@
-pub mod Printed
 pub mod Answered
 pub mod Pieces
 pub mod Upto

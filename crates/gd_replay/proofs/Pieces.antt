@@ -1,10 +1,11 @@
 -- A piece of the input, as the line that it is.
 use Rattle.std.proofs.Common.{◌≡◌, ℕ, ◌+◌, ◌≤◌, List, [], ◌∷◌, ◌++◌, bytes_eq, Bool, true, false, Option, refl, sym, subst, arith}
 use Rattle.std.proofs.KnownBytes.{Appends-nil}
+use Rattle.gd_base.specs.Counts.{RoseBy}
 use Rattle.gd_runs.specs.Owed.{MembersOf}
 use Rattle.gd_runs.specs.Core.{State}
 use Rattle.gd_replay_laws.specs.Runs.{BuiltLine, PieceRuns}
-use Rattle.gd_replay_laws.specs.Faults.{RoseBy, faults_from}
+use Rattle.gd_replay_laws.specs.Faults.{faults_from}
 use Rattle.gd_replay_laws.proofs.Faults.{plain_built, rose_none, rose_line}
 use Rattle.gd_replay.specs.declared.stop.Stop.{Stop}
 use Rattle.gd_replay.specs.declared.stop.Stop.TheVariants as stop

@@ -14,7 +14,8 @@ use Rattle.gd_journal.specs.declared.fault.JournalFault.TheVariants as journal
 use Rattle.gd_replay.specs.declared.stop.Stop.{Stop}
 use Rattle.gd_replay.specs.declared.stop.Stop.TheVariants as stop
 use Rattle.gd_replay.specs.Stops.{IsHalt, IsCaused}
-use Rattle.gd_replay.specs.Runs.{GainsFront, IsDue, LinePrints, LineFront, LineStops}
+use Rattle.gd_outside.specs.Gains.{GainsFront}
+use Rattle.gd_replay.specs.Runs.{IsDue, LinePrints, LineFront, LineStops}
 
 -- the reply was made and printed
 pub printed_line : (members : MembersOf) (may : ℕ → Bool) (s t : State) (k : ℕ) (bytes : List ℕ) (old new : Option (List ℕ)) (a b : ℕ) (reply : Result (Vec ℕ) Memory) → Answers (λ line. BuiltLine members may s k bytes line t × IsCounted k line a b) reply

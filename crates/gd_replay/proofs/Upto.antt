@@ -4,6 +4,7 @@ use Rattle.std.specs.Prelude.{if◌then◌else◌}
 use Rattle.std.proofs.lemmas.List.{take-append-le}
 use Rattle.std.proofs.KnownBytes.{Appends-trans, Appends-nil, Appends-kept}
 use Rattle.std.specs.Io.KnownBytes.{Keeps}
+use Rattle.gd_base.specs.Counts.{RoseBy}
 use Rattle.gd_prim.specs.declared.Batch.{Batch}
 use Rattle.gd_runs.specs.Owed.{MembersOf}
 use Rattle.gd_runs.specs.Explained.{Numbered, pieces, numbered, lines_of, max_round, faults_told}
@@ -11,10 +12,11 @@ use Rattle.gd_runs.specs.Core.{State, opened}
 use Rattle.gd_input.specs.declared.piece.Piece.{Piece}
 use Rattle.gd_input.specs.Pieces.{TakesPiece, later_pieces}
 use Rattle.gd_replay_laws.specs.Runs.{BuiltReplies, PieceRuns, lines_at}
-use Rattle.gd_replay_laws.specs.Faults.{RoseBy, faults_from}
+use Rattle.gd_replay_laws.specs.Faults.{faults_from}
 use Rattle.gd_replay_laws.proofs.Joined.{runs_join}
 use Rattle.gd_replay_laws.proofs.Faults.{faults_run, rose_none, rose_then, rose_within}
-use Rattle.gd_replay.specs.Runs.{Accounts, Replays, ReplaysTaken, ReplaysFront, PiecePrints, PieceFront, RunUpto}
+use Rattle.gd_replay.specs.Replays.{Accounts, Replays, ReplaysTaken, ReplaysFront}
+use Rattle.gd_replay.specs.Runs.{PiecePrints, PieceFront, RunUpto}
 
 -- ---- the lines of pieces
 

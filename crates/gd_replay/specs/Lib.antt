@@ -1,4 +1,5 @@
 pub mod Stops
 pub mod Kept
 pub mod Lines
+pub mod Replays
 pub mod Runs

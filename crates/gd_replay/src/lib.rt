@@ -3,7 +3,6 @@
 
 mod answering;
 mod lines;
-mod printing;
 pub mod replay;
 mod running;
 pub mod stop;

@@ -2,7 +2,7 @@
 ghost use Rattle.std.specs.Prelude.{◌≡◌, ◌≤◌, ◌^◌, ℕ, List, length, Ok, Err, OnOk, IfSome};
 ghost use Rattle.std.specs.Option.{ForSome};
 ghost use Rattle.std.specs.Io.KnownBytes.{IsAtEnd};
-ghost use Rattle.gd_base.specs.Counts.{Rose};
+ghost use Rattle.gd_base.specs.Counts.{Rose, RoseBy};
 ghost use Rattle.gd_prim.specs.declared.Batch.{Batch};
 ghost use Rattle.gd_bytes.specs.File.{StandsFor, meaning};
 ghost use Rattle.gd_log.specs.Opening.{IsKept, Refuses};
@@ -10,11 +10,10 @@ ghost use Rattle.gd_runs.specs.Core as core;
 ghost use Rattle.gd_runs.specs.Legal.{batches};
 ghost use Rattle.gd_runs.specs.Owed.{MembersOf};
 ghost use Rattle.gd_writer.specs.Parts.{Tells};
-ghost use Rattle.gd_replay_laws.specs.Faults.{RoseBy};
 ghost use Rattle.gd_sessions.specs.Running.{core_state};
 ghost use Rattle.gd_replay.specs.Stops.{Leaves, EndsAs, EndsBy, EndsSent, stop_of};
 ghost use Rattle.gd_replay.specs.Kept.{HasBatches, KeepsAs};
-ghost use Rattle.gd_replay.specs.Runs.{Loads, Replays, ReplaysTaken, ReplaysFront};
+ghost use Rattle.gd_replay.specs.Replays.{Loads, Replays, ReplaysTaken, ReplaysFront};
 
 use crate::running::{halted, take_piece};
 use crate::stop::Stop;

@@ -10,16 +10,17 @@ ghost use Rattle.gd_replay_laws.specs.Runs.{AreBelow};
 ghost use Rattle.gd_sessions.specs.Running.{core_state};
 ghost use Rattle.gd_replay.specs.Stops.{Leaves, GoesAlong, IsHalt, IsCaused};
 ghost use Rattle.gd_replay.specs.Kept.{HasBatches, KeepsAs};
-ghost use Rattle.gd_replay.specs.Runs.{IsDue, GainsFront, LinePrints, LineStops, PiecePrints, PieceStops};
+ghost use Rattle.gd_outside.specs.Gains.{GainsFront};
+ghost use Rattle.gd_replay.specs.Runs.{IsDue, LinePrints, LineStops, PiecePrints, PieceStops};
 
 use crate::answering::answer;
-use crate::printing::print_line;
 use crate::stop::Stop;
 use gd_base::memory::Memory;
 use gd_base::steps::Steps;
 use gd_disk::disk::Disk;
 use gd_input::line::RoundLine;
 use gd_outside::clock::Clock;
+use gd_outside::printing::write_line;
 use gd_outside::sink::Sink;
 use gd_sessions::running::Running;
 use std::alloc::Global;
@@ -54,7 +55,7 @@ fn print_reply<R: Wait, D: Disk, K: Sink, C: Clock>(
     ensures later { K.faults sink.old ≤ K.faults sink.new }
 {
     match reply {
-        Ok(bytes) => match print_line(sink, &bytes) {
+        Ok(bytes) => match write_line(sink, &bytes) {
             Ok(()) => Ok(running),
             Err(_) => Err(halted(rt, running, Stop::SinkFault)),
         },

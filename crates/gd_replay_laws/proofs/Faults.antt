@@ -1,6 +1,6 @@
 -- Which replies tell a failure of the disk, and how many lines of an output do.
 use Rattle.std.proofs.Common.{◌≡◌, ℕ, ◌+◌, ◌≤◌, List, [], ◌∷◌, ◌++◌, length, codes, Bool, true, false, if◌then◌else◌, Option, Some, None, Result, Ok, Err, ⊎_elim, refl, sym, ap, subst, ◌∙◌, nat_lt, arith, append_assoc}
-use Rattle.gd_base.specs.Counts.{Rose}
+use Rattle.gd_base.specs.Counts.{Rose, RoseBy}
 use Rattle.gd_prim.specs.declared.Batch.{Batch}
 use Rattle.gd_tree.specs.Json.{Json, text, list, no_items}
 use Rattle.gd_json.specs.declared.from.JsonFault.TheVariants as json_fault
@@ -15,10 +15,11 @@ use Rattle.gd_runs.specs.Explained.{Numbered, memory_line, disk_line, tells_faul
 use Rattle.gd_runs.specs.Core as core
 use Rattle.gd_runs.specs.Core.{Event, Reading, State, reading_of, said, no_reading_line, owed_line, BeginStep, SliceStep, LearnStep, WriteStep, ReopenStep}
 use Rattle.gd_runs.specs.Replay.{event_from}
+use Rattle.gd_core_laws.proofs.Quiet.{Quiet, ok_quiet, err_quiet, fault_quiet, memory_quiet, owed_quiet}
 use Rattle.gd_replay_laws.specs.Built.{StepBuilt, Takes, unbuilt_line}
 use Rattle.gd_replay_laws.specs.Runs.{BuiltLine, BuiltReplies}
-use Rattle.gd_replay_laws.specs.Faults.{IsCounted, RoseBy, faults_from, IsNoWrite}
-use Rattle.gd_replay_laws.proofs.Shapes.{read_each, owed_each}
+use Rattle.gd_replay_laws.specs.Faults.{IsCounted, faults_from, IsNoWrite}
+use Rattle.gd_core_laws.proofs.Shapes.{owed_each}
 use Rattle.gd_replay_laws.proofs.Plain.{Plain, plain_ok, plain_cursor, plain_err, plain_refusal, first_piece}
 
 -- ---- the reply lines of an event that is no write, and what holds of each
@@ -79,50 +80,18 @@ module _ (P : List ℕ → Type 0) (k : ℕ) (ok : (n k : ℕ) (j : Json) → P 
 -- ---- only the reply to a write tells a failure of the disk
 
 module _ (k : ℕ) where
-  abbrev Quiet : List ℕ → Type 0
-  Quiet reply = tells_fault k reply ≡ false
-
-  ok_quiet : (n line : ℕ) (j : Json) → Quiet (ok_line n line j)
-  ok_quiet n line j = refl
-
-  cursor_quiet : (n line : ℕ) (c j : Json) → Quiet (ok_cursor_line n line c j)
-  cursor_quiet n line c j = refl
-
-  err_quiet : (n line : ℕ) (r : Refusal) → Quiet (err_line n line r)
-  err_quiet n line r = refl
-
-  pub fault_quiet : (f : InputFault) → Quiet (input_fault_line k f)
-  fault_quiet line_too_long = refl
-  fault_quiet (no_json json_fault.BadJson) = refl
-  fault_quiet (no_json json_fault.TooDeep) = refl
-  fault_quiet (no_json json_fault.TooWide) = refl
-  fault_quiet (no_json json_fault.FloatValue) = refl
-  fault_quiet (no_json json_fault.Memory) = refl
-  fault_quiet (no_line bad_line) = refl
-  fault_quiet (no_line (bad_form f)) = refl
-
-  pub memory_quiet : Quiet (memory_line k)
-  memory_quiet = refl
-
-  -- nor does the reply to a read
-  pub read_quiet : (bs : List Batch) (snapshot line : ℕ) (r : ReadRequest) → Quiet (reply_of bs snapshot line r)
-  read_quiet bs snapshot line r = read_each Quiet ok_quiet cursor_quiet err_quiet refl bs snapshot line r
-
-  owed_quiet : (s : State) (r : Reading) → Quiet (owed_line (batches s.history) k r)
-  owed_quiet s r = owed_each Quiet ok_quiet cursor_quiet err_quiet refl (batches s.history) k r
-
   -- an event that is taken, or for which no memory was found
-  pub takes_quiet : (members : MembersOf) (may : ℕ → Bool) (s : State) (bytes : ℕ) (e : Event) (line : List ℕ) (t : State) → IsNoWrite e → Takes members may s k bytes e line t → Quiet line
+  pub takes_quiet : (members : MembersOf) (may : ℕ → Bool) (s : State) (bytes : ℕ) (e : Event) (line : List ℕ) (t : State) → IsNoWrite e → Takes members may s k bytes e line t → Quiet k line
   takes_quiet members may s bytes e line t other takes =
-      takes_each Quiet k ok_quiet err_quiet owed_quiet refl refl memory_quiet members may s bytes e line t (λ i w is step. absurd (subst IsNoWrite is other)) takes
+      takes_each (Quiet k) k (ok_quiet k) (err_quiet k) (λ u. owed_quiet k (batches u.history) k) refl refl (memory_quiet k k) members may s bytes e line t (λ i w is step. absurd (subst IsNoWrite is other)) takes
 
   -- a line
-  pub line_quiet : (members : MembersOf) (may : ℕ → Bool) (s t : State) (bytes line : List ℕ) → ((i : ℕ) (w : WriteRequest) → event_from bytes ≡ Ok (core.write i w) → ⊥) → BuiltLine members may s k bytes line t → Quiet line
+  pub line_quiet : (members : MembersOf) (may : ℕ → Bool) (s t : State) (bytes line : List ℕ) → ((i : ℕ) (w : WriteRequest) → event_from bytes ≡ Ok (core.write i w) → ⊥) → BuiltLine members may s k bytes line t → Quiet k line
   line_quiet members may s t bytes line other built =
-      line_each Quiet k ok_quiet err_quiet owed_quiet refl refl memory_quiet members may s bytes line t fault_quiet (λ i w is step. absurd (other i w is)) built
+      line_each (Quiet k) k (ok_quiet k) (err_quiet k) (λ u. owed_quiet k (batches u.history) k) refl refl (memory_quiet k k) members may s bytes line t (fault_quiet k k) (λ i w is step. absurd (other i w is)) built
 
   -- a reply that tells none is counted
-  pub quiet_counted : (reply : List ℕ) (before after : ℕ) → Quiet reply → IsCounted k reply before after
+  pub quiet_counted : (reply : List ℕ) (before after : ℕ) → Quiet k reply → IsCounted k reply before after
   quiet_counted reply before after quiet tells = absurd (apart (sym quiet ∙ tells))
     where
       apart : false ≡ true → ⊥

@@ -2,6 +2,5 @@ pub mod Joined
 pub mod Below
 pub mod Whole
 pub mod Bounds
-pub mod Shapes
 pub mod Plain
 pub mod Faults

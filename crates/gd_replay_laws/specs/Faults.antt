@@ -1,5 +1,5 @@
 -- Failures of the disk that a run of events tells, and the count that rose for them.
-use Rattle.std.specs.Prelude.{◌≡◌, ℕ, ◌+◌, ◌-◌, ◌^◌, ◌≤◌, min, List, [], true}
+use Rattle.std.specs.Prelude.{◌≡◌, ℕ, List, [], true}
 use Rattle.gd_base.specs.Counts.{Rose}
 use Rattle.gd_runs.specs.Core.{Event, write}
 use Rattle.gd_runs.specs.Explained.{pieces, tells_fault, fault_count}
@@ -7,10 +7,6 @@ use Rattle.gd_runs.specs.Explained.{pieces, tells_fault, fault_count}
 -- a failure of the disk that the reply to line k tells was counted: the count rose from the first number to the second
 abbrev pub IsCounted : ℕ → List ℕ → ℕ → ℕ → Type 0
 IsCounted k reply before after = tells_fault k reply ≡ true → Rose before after
-
--- the count rose by so many, or stands at its type's end
-abbrev pub RoseBy : ℕ → ℕ → ℕ → Type 0
-RoseBy before after n = min (before + n) (2 ^ 64 - 1) ≤ after
 
 -- how many lines of an output tell a failure of the disk, where the first of them is the reply to line k
 abbrev pub faults_from : ℕ → List ℕ → ℕ

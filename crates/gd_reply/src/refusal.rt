@@ -110,6 +110,7 @@ fn code_name(code: Code) -> &'static str
         Code::BadSort => "bad_sort",
         Code::NotMet => "not_met",
         Code::BadPrevious => "bad_previous",
+        Code::BadLang => "bad_lang",
     }
 }
 

@@ -5,7 +5,7 @@ use Rattle.std.specs.Option.{option_map_or}
 use Rattle.std.specs.List.{filter_map, enumerate_from, cons_option, range_with_len}
 use Rattle.gd_prim.specs.declared.Primitive.{Primitive}
 use Rattle.gd_prim.specs.declared.End.TheVariants.{Left}
-use Rattle.gd_prim.specs.Builtin.{type_link_place, unique_place}
+use Rattle.gd_prim.specs.Builtin.{type_link_place, key_place, unique_place}
 use Rattle.gd_prim.specs.End.{places_with}
 use Rattle.gd_prim.specs.Live.{refers, is_live, passes_at}
 use Rattle.gd_resolve.specs.Found.{is_link, is_wanted, is_found, first_found, left_of}
@@ -24,6 +24,7 @@ second_of false b is = cc
 wanted_left : (w : Wanted) (p : Primitive) → is_wanted w p ≡ true → refers p.left (left_of w) ≡ true
 wanted_left (wanted.Link typ o) p is = second_of _ _ is
 wanted_left (wanted.TypeLink o type) p is = second_of (refers p.typ type_link_place) (refers p.left o) (first_of (is_link type_link_place o p) _ is)
+wanted_left (wanted.Language o) p is = second_of (refers p.typ key_place) (refers p.left o) (first_of (is_link key_place o p) _ is)
 wanted_left (wanted.Mark property) p is = second_of (refers p.typ unique_place) (refers p.left property) (first_of (is_link unique_place property p) _ is)
 
 -- the places from one on whose primitive passes

@@ -1,5 +1,7 @@
+pub mod Costs
 pub mod Counted
-pub mod Last
+pub mod Languages
 pub mod Lefts
+pub mod Long
 pub mod Scans
 pub mod Ways

@@ -4,11 +4,11 @@ use Rattle.std.specs.Prelude.{filter, slice_get, nat_lt, ◌||◌}
 use Rattle.std.specs.List.{find, filter_map, cons_option, list_any, range_with_len}
 use Rattle.gd_grammar.specs.Maybe.{◌>>=◌}
 use Rattle.gd_prim.specs.declared.Primitive.{Primitive}
-use Rattle.gd_prim.specs.Builtin.{type_link_place, unique_place}
+use Rattle.gd_prim.specs.Builtin.{lang_place, type_link_place, key_place, unique_place}
 use Rattle.gd_prim.specs.Live.{refers, is_current, live_where, passes_at, value_at, end_at}
-use Rattle.gd_defs.specs.Property.{first, links_from, first_right, has_type, is_unique, boolean_of}
+use Rattle.gd_defs.specs.Property.{first, links_from, first_right, has_type, is_language, is_unique, boolean_of}
 use Rattle.gd_list_laws.proofs.Places.{live_where-places, filter-filter, filter-same, list_any-filter}
-use Rattle.gd_resolve.specs.Found.{is_link, gives_type, is_mark, is_found, first_found}
+use Rattle.gd_resolve.specs.Found.{is_link, gives_type, gives_language, is_mark, is_found, first_found}
 
 -- the first that a test keeps is the one that a search finds
 first-filter : {A : Type 0} (p : A → Bool) (xs : List A) → first (filter p xs) ≡ find p xs
@@ -74,6 +74,14 @@ has_type-found prims o type =
     ∙ ap (λ ks. nat_lt 0 (length ks)) (filter-live_where (is_link type_link_place o) (λ p. refers p.right type) prims ∙ live_where-places (gives_type o type) prims)
     ∙ sym (list_any-filter (is_found (gives_type o type) prims) (range_with_len 0 (length prims)))
     ∙ is_some-find (is_found (gives_type o type) prims) (range_with_len 0 (length prims))
+
+-- an object is a language where a live link that gives it a key among them is found
+pub is_language-found : (prims : List Primitive) (o : ℕ) → is_language prims o ≡ is_some (first_found (gives_language o) prims)
+is_language-found prims o =
+    list_any-filter (passes_at (λ p. refers p.right lang_place) prims) (links_from prims key_place o)
+    ∙ ap (λ ks. nat_lt 0 (length ks)) (filter-live_where (is_link key_place o) (λ p. refers p.right lang_place) prims ∙ live_where-places (gives_language o) prims)
+    ∙ sym (list_any-filter (is_found (gives_language o) prims) (range_with_len 0 (length prims)))
+    ∙ is_some-find (is_found (gives_language o) prims) (range_with_len 0 (length prims))
 
 -- a search over the places from one on looks at it, and then at those behind it
 pub find-range : (test : ℕ → Bool) (k n : ℕ) → k < n → find test (range_with_len k (n - k)) ≡ cond (test k) (Some k) (find test (range_with_len (k + 1) (n - (k + 1))))

@@ -3,7 +3,9 @@ use Rattle.std.specs.Prelude.{ℕ, List, [], ◌∷◌, Bool, Option, Some, None
 use Rattle.gd_grammar.specs.Maybe.{◌>>=◌}
 use Rattle.gd_prim.specs.declared.Primitive.{Primitive}
 use Rattle.gd_prim.specs.Live.{is_live, end_at}
-use Rattle.gd_defs.specs.Ids.{object_of, object_at}
+use Rattle.gd_defs.specs.Cost.{key_count}
+use Rattle.gd_defs.specs.Ids.{object_of, object_at, path_keys}
+use Rattle.gd_defs.specs.Query.{is_path}
 use Rattle.gd_defs.specs.Property.{Property, property}
 use Rattle.gd_resolve.specs.declared.fault.ResolveFault.{ResolveFault}
 use Rattle.gd_resolve.specs.declared.fault.ResolveFault.TheVariants as fault
@@ -24,3 +26,7 @@ property_asked prims context reversed word = or_fault (fault.NoSuchProperty (wor
 -- the left end of a link, if the link is live and an object stands there
 abbrev pub link_leads : List Primitive → ℕ → Option ℕ
 link_leads prims k = if is_live prims k then (end_at (λ p. p.left) prims k >>= object_at prims) else None
+
+-- how many keys a word has: those of a path, or one
+abbrev pub word_keys : List ℕ → ℕ
+word_keys word = if is_path word then key_count (path_keys word) else 1

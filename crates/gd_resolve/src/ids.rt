@@ -6,6 +6,7 @@ ghost use Rattle.gd_base.specs.Counts.{Rose};
 ghost use Rattle.gd_prim.specs.Builtin.{root_place};
 ghost use Rattle.gd_prim.specs.History.{prims_of};
 ghost use Rattle.gd_prim.specs.Live as live;
+ghost use Rattle.gd_defs.specs.Cost.{key_count};
 ghost use Rattle.gd_defs.specs.Ids as defined;
 ghost use Rattle.gd_resolve.specs.Asked as asked;
 ghost use Rattle.gd_resolve.specs.Asked.{id_asked};
@@ -130,6 +131,7 @@ pub fn named_object<L>(
     steps: &mut Steps<L>,
 ) -> Result<Option<Id>, Memory>
     ensures object { IfOk result (λ object. object ≡ defined.object_of (prims_of view.now) text.now) }
+    ensures keys { steps.new ≤ steps.old + 3 + 30 * key_count (defined.id_keys text.now) }
     ensures work { steps.new ≤ steps.old + 500 }
     ensures later { steps.old ≤ steps.new }
     ensures guid_counted { IfSome (defined.guid_place text.now) (λ place. place < length (prims_of view.now) → Rose steps.old steps.new) }

@@ -102,7 +102,7 @@ fn write_way<L>(
 /// The id of an object as it is below the dateline: `/` for the root, else the path of its keys from the root down, else
 /// its guid. Of an object's first eight key links the first one counts that is live and has a namespace; a path has at
 /// most 16 keys, and each of them is a text. Any place has an id, also one where no object stands. It looks at no more
-/// than 1,024 things.
+/// than 784 things.
 pub fn id_of<L>(
     alloc: Global,
     view: &View<'_>,
@@ -110,7 +110,7 @@ pub fn id_of<L>(
     steps: &mut Steps<L>,
 ) -> Result<JsonText, Memory>
     ensures id { IfOk result (λ text. text ≡ defined.id_text (prims_of view.now) object) }
-    ensures work { steps.new ≤ steps.old + 1024 }
+    ensures work { steps.new ≤ steps.old + 784 }
     ensures later { steps.old ≤ steps.new }
     ensures counted { object ≢ 0 → Rose steps.old steps.new }
 {

@@ -1,26 +1,25 @@
 //! The properties that words ask for.
-ghost use Rattle.std.specs.Prelude.{◌≡◌, ◌==◌, ◌≤◌, None, [], ◌∷◌, codes, if◌then◌else◌, option_map, IfOk, IsOk, IsSome};
-ghost use Rattle.std.specs.List.{last_or, starts_with};
+ghost use Rattle.std.specs.Prelude.{◌≡◌, ◌==◌, ◌+◌, ◌*◌, ◌≤◌, length, None, [], ◌∷◌, codes, if◌then◌else◌, option_map, IfOk, IfSome, IsOk, IsSome};
+ghost use Rattle.std.specs.List.{starts_with};
 ghost use Rattle.gd_base.specs.Answers.{Gives};
 ghost use Rattle.gd_base.specs.Counts.{Rose};
+ghost use Rattle.gd_prim.specs.declared.End.TheVariants.{Left};
+ghost use Rattle.gd_prim.specs.End.{places_with};
 ghost use Rattle.gd_prim.specs.History.{prims_of};
-ghost use Rattle.gd_prim.specs.Live as live;
+ghost use Rattle.gd_defs.specs.Cost.{said_of, word_cost};
 ghost use Rattle.gd_defs.specs.Ids as ids;
 ghost use Rattle.gd_defs.specs.Property as defined;
-ghost use Rattle.gd_resolve.specs.Asked.{property_asked};
+ghost use Rattle.gd_resolve.specs.Asked.{property_asked, word_keys};
 
 use crate::fault::ResolveFault;
-use crate::ids::{key_leads, link_leads, named_object};
+use crate::ids::{key_leads, named_object};
 use crate::property::{Property, is_property, stated};
-use gd_base::datum::Datum;
 use gd_base::id::Id;
 use gd_base::memory::Memory;
 use gd_base::steps::Steps;
-use gd_base::text::{TEXT_LIMIT, Text};
+use gd_base::text::Text;
 use gd_fault::fault::Path;
 use gd_json::value::JsonText;
-use gd_prim::Primitive;
-use gd_prim::live::refers;
 use gd_store::view::View;
 use std::alloc::Global;
 
@@ -62,41 +61,12 @@ fn turned(property: &Property) -> Property
         reversed: !property.reversed,
         expected: None,
         unique: false,
+        language: None,
     }
 }
 
-/// Whether the value is this text.
-fn is_text(value: &Datum, text: &str) -> bool
-    ensures { result ≡ live.is_text text.now value.now }
-{
-    match value {
-        Datum::Text(held) => text == held.as_str(),
-        _ => false,
-    }
-}
-
-/// Whether the primitive is a link of this key into this namespace.
-fn is_key_link(prim: &Primitive, namespace: Id, key: &str) -> bool
-    ensures { result ≡ ids.is_key_link namespace key.now prim.now }
-{
-    refers(prim.typ, KEY) && refers(prim.right, namespace) && is_text(&prim.value, key)
-}
-
-/// The last place whose primitive is a link of this key into this namespace.
-fn last_link<L>(view: &View<'_>, namespace: Id, key: &str, steps: &mut Steps<L>) -> Option<Id>
-    ensures last { result ≡ last_or None (live.places_where (ids.is_key_link namespace key.now) (prims_of view.now)) }
-    ensures later { steps.old ≤ steps.new }
-{
-    let mut last = None;
-    for place in 0..view.end().place() {
-        if is_key_link(view.primitive(Id(place), steps), namespace, key) {
-            last = Some(Id(place));
-        }
-    }
-    last
-}
-
-/// The object that a key in a namespace leads to, where the key may be longer than a text.
+/// The object that a key in a namespace leads to. A key that is longer than a text leads nowhere, which is told at once.
+#[tactic(auto, using(crate::proofs::Long::no_key_leads))]
 fn any_key_leads<L>(
     alloc: Global,
     view: &View<'_>,
@@ -105,16 +75,14 @@ fn any_key_leads<L>(
     steps: &mut Steps<L>,
 ) -> Result<Option<Id>, Memory>
     ensures leads { IfOk result (λ object. object ≡ ids.key_leads (prims_of view.now) namespace key.now) }
+    ensures work { steps.new ≤ steps.old + 30 }
     ensures later { steps.old ≤ steps.new }
 {
-    if key.len() <= TEXT_LIMIT {
-        let key = Text::of(alloc, key)?;
-        return Ok(key_leads(view, namespace, &key, steps));
+    if !view.may_have_text(key) {
+        return Ok(None);
     }
-    match last_link(view, namespace, key, steps) {
-        Some(link) => Ok(link_leads(view, link, steps)),
-        None => Ok(None),
-    }
+    let key = Text::of(alloc, key)?;
+    Ok(key_leads(view, namespace, &key, steps))
 }
 
 /// The object that a word leads to: a path is an id, `name`, `type` and `key` are of every object, another key stands in
@@ -127,6 +95,7 @@ fn word_object<L>(
     steps: &mut Steps<L>,
 ) -> Result<Option<Id>, Memory>
     ensures object { IfOk result (λ object. object ≡ defined.word_object (prims_of view.now) context word.now) }
+    ensures work { steps.new ≤ steps.old + 3 + 30 * word_keys word.now }
     ensures later { steps.old ≤ steps.new }
 {
     if starts_with_slash(word) {
@@ -156,6 +125,7 @@ fn property_object<L>(
     steps: &mut Steps<L>,
 ) -> Result<Option<Id>, Memory>
     ensures object { IfOk result (λ object. object ≡ defined.property_object (prims_of view.now) context word.now) }
+    ensures work { IfOk result (λ object. steps.new ≤ steps.old + 28 + 30 * word_keys word.now + 4 * said_of (prims_of view.now) (defined.word_object (prims_of view.now) context word.now)) }
     ensures later { steps.old ≤ steps.new }
     ensures counted { IfOk result (λ object. IsSome object → Rose steps.old steps.new) }
 {
@@ -172,6 +142,7 @@ fn property_object<L>(
 /// What the property at a place states, turned or not.
 fn stated_in<L>(view: &View<'_>, place: Id, reversed: bool, steps: &mut Steps<L>) -> Property
     ensures stated { result ≡ (if reversed then defined.turned (defined.stated (prims_of view.now) place) else defined.stated (prims_of view.now) place) }
+    ensures work { steps.new ≤ steps.old + 25 + 12 * length (places_with Left place (prims_of view.now)) }
     ensures later { steps.old ≤ steps.new }
 {
     let property = stated(view, place, steps);
@@ -195,6 +166,10 @@ pub fn named_property<L>(
 ) -> Result<Option<Named>, Memory>
     ensures object { IfOk result (λ named. option_map (λ n. n.object) named ≡ defined.property_object (prims_of view.now) context word.now) }
     ensures property { IfOk result (λ named. option_map (λ n. n.property) named ≡ defined.property (prims_of view.now) context reversed word.now) }
+
+    // So that what the property expects may be looked up once more.
+    ensures cost { IfOk result (λ named. IfSome named (λ n. steps.new + 23 + 4 * length (places_with Left n.object (prims_of view.now)) ≤ steps.old + 64 * word_cost (prims_of view.now) context word.now)) }
+    ensures none { IfOk result (λ named. steps.new ≤ steps.old + 64 * word_cost (prims_of view.now) context word.now) }
     ensures later { steps.old ≤ steps.new }
     ensures counted { IfOk result (λ named. IsSome named → Rose steps.old steps.new) }
 {

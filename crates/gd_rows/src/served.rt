@@ -11,7 +11,7 @@ use gd_disk::memory_shelf::MemoryShelf;
 use gd_disk::shelf::{Shelf, ShelfFault};
 use gd_outside::clock::FixedClock;
 use gd_outside::gate::OpenGate;
-use gd_top::serve::graphd;
+use gd_top::program::graphd;
 use gd_top::status::Status;
 use std::alloc::Global;
 use std::sync::Wait;

@@ -3,6 +3,7 @@ mod Family
 mod Forms
 mod Keys
 mod Kinds
+mod Languages
 mod Lines
 mod Meanings
 mod Pages

@@ -12,7 +12,7 @@ use Rattle.gd_tree.specs.Trees.{Tree, tree, TreeLists, place_of, first_list, res
 use Rattle.gd_defs.specs.Ids.{id_text, guid}
 use Rattle.gd_defs.specs.Data.{datum_json}
 use Rattle.gd_defs.specs.Property.{answer_datum, first}
-use Rattle.gd_defs.specs.Asked.{Own, its_id, its_namespace, Style, as_operand, as_value, as_id, Asking, Members, no_members, own, asks, Asked}
+use Rattle.gd_defs.specs.Asked.{Own, its_id, its_namespace, its_lang, Style, as_operand, as_value, as_id, Asking, Members, no_members, own, asks, Asked}
 use Rattle.gd_defs.specs.Rows.{own_datum}
 use Rattle.gd_defs.specs.Reply.{Path, under, is_ambiguous, operand_of, is_clause, first_item}
 use Rattle.gd_bytes.specs.Frozen as frozen
@@ -49,6 +49,7 @@ abbrev pub own_shape : List Primitive → Own → Option Json → ℕ → ℕ �
 own_shape prims w (Some j) link o ws = (j, ws)
 own_shape prims its_id None link o ws = id_json prims (own_datum prims its_id link o) ws
 own_shape prims its_namespace None link o ws = id_json prims (own_datum prims its_namespace link o) ws
+own_shape prims its_lang None link o ws = id_json prims (own_datum prims its_lang link o) ws
 own_shape prims w None link o ws = (datum_json (own_datum prims w link o), ws)
 
 -- the first name that the lists of an object have, or null

@@ -60,14 +60,14 @@ module _ {A : Type 0} where
 
 module _ (prims : List Primitive) (q : Asked) where
   -- a mark lets through the same rows before and after they are put in order
-  window_after : (after : Option Mark) → window prims q after (of_objects prims q (meeting prims q)) ≡ rows_after prims q after
+  pub window_after : (after : Option Mark) → window prims q after (of_objects prims q (meeting prims q)) ≡ rows_after prims q after
   window_after None = refl
   window_after (Some m) = sorted-filter (row_cmp prims q.sort) (row_total prims q.sort) (λ r. is_lt (row_cmp prims q.sort (mark_row prims q.sort m) r)) (of_objects prims q (meeting prims q))
       (apart_rows prims q (meeting prims q) (apart_objects prims (meets prims q.members 0)))
 
 module _ (prims : List Primitive) (q : Asked) (planned : Planned prims q) (order : ScanOrder) (once : Apart nat_cmp (scanned prims q order))
     (all : (o : ℕ) → In o (scanned prims q order) ↔ In o (candidates prims q)) where
-  abbrev plan : Template
+  abbrev pub plan : Template
   plan = template_of q
 
   -- an object that meets the root answers, and the other way round
@@ -100,7 +100,7 @@ module _ (prims : List Primitive) (q : Asked) (planned : Planned prims q) (order
       subst (λ s. In s (answer_rows prims q (scanned prims q order))) from.2
       (In-mapped (row_of prims q.sort 0) (filter (is_answer prims plan) (scanned prims q order)) from.0 (In-filtered (is_answer prims plan) (scanned prims q order) from.0 (in_scanned from.0 answers) answers))
 
-  offered_is : (after : Option Mark) → window prims q after (answer_rows prims q (scanned prims q order)) ≡ rows_after prims q after
+  pub offered_is : (after : Option Mark) → window prims q after (answer_rows prims q (scanned prims q order)) ≡ rows_after prims q after
   offered_is after =
       window_alike prims q after (answer_rows prims q (scanned prims q order)) (of_objects prims q (meeting prims q))
       (apart_rows prims q (filter (is_answer prims plan) (scanned prims q order)) (Apart-filter nat_cmp nat_cmp_total (is_answer prims plan) (scanned prims q order) once))
@@ -108,19 +108,19 @@ module _ (prims : List Primitive) (q : Asked) (planned : Planned prims q) (order
       rows_from rows_to
       ∙ window_after prims q after
 
-  heavy_is : list_any (λ p. weighs_too_much (candidate prims plan p)) (scanned prims q order) ≡ has_heavy_candidate prims q
+  pub heavy_is : list_any (λ p. weighs_too_much (candidate prims plan p)) (scanned prims q order) ≡ has_heavy_candidate prims q
   heavy_is =
       same_any (λ p. weighs_too_much (candidate prims plan p)) (scanned prims q order) (candidates prims q) (λ p. (all p).0) (λ p. (all p).1)
       ∙ any_agrees (λ p. weighs_too_much (candidate prims plan p)) (λ o. nat_lt max_candidate_weight (row_weight prims q o)) (candidates prims q) (λ o there. ap (nat_lt max_candidate_weight) (planned.weighs o there))
 
   -- a row is that of an object that answers
-  abbrev Known : Row → Type 0
+  abbrev pub Known : Row → Type 0
   Known r = is_answer prims plan r.object ≡ true
 
   known_rows : Each Known (rows prims q)
   known_rows = Each-from_members Known (rows prims q) (λ r there. let known = row_known prims q r there in subst Known known.3 (answers_from known.0 known.1 known.2))
 
-  known_after : (after : Option Mark) → Each Known (rows_after prims q after)
+  pub known_after : (after : Option Mark) → Each Known (rows_after prims q after)
   known_after None = known_rows
   known_after (Some m) = Each-filter Known (λ r. is_lt (row_cmp prims q.sort (mark_row prims q.sort m) r)) (rows prims q) known_rows
 

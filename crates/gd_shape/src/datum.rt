@@ -1,7 +1,7 @@
 //! Data as they print.
 ghost use Rattle.std.specs.Prelude.{◌≡◌, ℕ, IfErr, IfOk, IsTrue};
 ghost use Rattle.gd_tree.specs.Json.{text};
-ghost use Rattle.gd_prim.specs.Live.{value_at, end_at, object_datum};
+ghost use Rattle.gd_prim.specs.Live.{value_at, end_at, object_datum, language_at};
 ghost use Rattle.gd_prim.specs.WellFormed.{may_hold};
 ghost use Rattle.gd_defs.specs.Data.{datum_json};
 ghost use Rattle.gd_defs.specs.Ids.{id_text, guid};
@@ -119,6 +119,16 @@ fn right_of(sight: &Sight<'_>, link: Id) -> Option<Id>
     }
 }
 
+/// The language of the text of a link.
+fn language_of(sight: &Sight<'_>, link: Id) -> Option<Id>
+    ensures { result ≡ language_at sight.now link }
+{
+    match sight.prim(link) {
+        Some(prim) => prim.language(),
+        None => None,
+    }
+}
+
 /// The end of a link at which the answer of a property stands.
 fn far_end(sight: &Sight<'_>, property: &Property, link: Id) -> Option<Id>
     ensures { result ≡ props.far_end sight.now property.now link }
@@ -157,6 +167,10 @@ pub(crate) fn own_json(
         Own::Namespace => {
             let namespace = right_of(sight, link);
             some_id_json(sight, ids, namespace)
+        }
+        Own::Lang => {
+            let language = language_of(sight, link);
+            some_id_json(sight, ids, language)
         }
     }
 }

@@ -35,6 +35,11 @@ fn push_own(
                 push_some(objects, prim.right)?;
             }
         }
+        Own::Lang => {
+            if let Some(prim) = sight.prim(at.link) {
+                push_some(objects, prim.language())?;
+            }
+        }
         _ => {}
     }
     Ok(())

@@ -13,6 +13,8 @@ use Rattle.gd_prim.specs.WellFormed.{refers_below, succeeds_current}
 use Rattle.gd_postings.specs.Postings.{IsAbove, ids_below}
 use Rattle.gd_versions.specs.Versions.{successor_of}
 use Rattle.gd_keys.specs.Keys.{KeysValue, key_list, object_list, is_under, is_of, with_entry, without_entry, last_of, SameIds}
+use Rattle.gd_store.specs.Short.{are_short}
+use Rattle.gd_store.proofs.Short.{short_front}
 use Rattle.gd_store.specs.Keys.{is_key_link, is_key_of}
 use Rattle.gd_prim.specs.declared.End.{End}
 use Rattle.gd_prim.specs.End.{end_of, places_with}
@@ -418,12 +420,13 @@ pub joined_enters : (all prims now more : List Primitive) → all ≡ prims ++ m
 joined_enters all prims now more is same here behind = ap (may_enter []) is ∙ enters_more [] prims more here (ap (λ bs. may_enter bs more) same ∙ behind)
 
 -- a front of it
-pub front_indexed : (indexes : Indexes) (prims slice kept : List Primitive) (n : ℕ) → may_enter [] prims ≡ true → slice ≡ prims → kept ≡ take n prims → AreIndexes indexes (take n slice) → IsIndexed indexes kept
-front_indexed indexes prims slice kept n entered same is are = record {
+pub front_indexed : (indexes : Indexes) (prims slice kept : List Primitive) (n : ℕ) → may_enter [] prims ≡ true → are_short prims ≡ true → slice ≡ prims → kept ≡ take n prims → AreIndexes indexes (take n slice) → IsIndexed indexes kept
+front_indexed indexes prims slice kept n entered short same is are = record {
   entered = ap (may_enter []) is ∙ enters_front [] prims n entered;
+  short = ap are_short is ∙ short_front n prims short;
   indexed = subst (AreIndexes indexes) (ap (take n) same ∙ sym is) are;
 }
 
 -- the whole
-pub whole_indexed : (indexes : Indexes) (all slice : List Primitive) → slice ≡ all → may_enter [] all ≡ true → AreIndexes indexes slice → IsIndexed indexes all
-whole_indexed indexes all slice same entered are = record { entered = entered; indexed = subst (AreIndexes indexes) same are }
+pub whole_indexed : (indexes : Indexes) (all slice : List Primitive) → slice ≡ all → may_enter [] all ≡ true → are_short all ≡ true → AreIndexes indexes slice → IsIndexed indexes all
+whole_indexed indexes all slice same entered short are = record { entered = entered; short = short; indexed = subst (AreIndexes indexes) same are }

@@ -95,9 +95,9 @@ pub not_bad : (b : Bool) (o : Option ℕ) (n : ℕ) → (if b then o else Some n
 not_bad true o n h = (refl, h)
 not_bad false o n h = cc
 
--- the last of five
-fifth : (a b c d e : Bool) → (a && (b && (c && (d && (e && true))))) ≡ true → e ≡ true
-fifth a b c d e h = first e true (second d (e && true) (second c (d && (e && true)) (second b (c && (d && (e && true))) (second a (b && (c && (d && (e && true)))) h))))
+-- the fifth of more
+fifth : (a b c d e f : Bool) → (a && (b && (c && (d && (e && f))))) ≡ true → e ≡ true
+fifth a b c d e f h = first e f (second d (e && f) (second c (d && (e && f)) (second b (c && (d && (e && f))) (second a (b && (c && (d && (e && f)))) h))))
 
 -- the primitives of a well-formed batch may be entered
 pub good_enters : (before : List Primitive) (moment i : ℕ) (ps : List Primitive) → first_bad before moment i ps ≡ None → may_enter before ps ≡ true
@@ -107,6 +107,6 @@ good_enters before moment i (p ∷ ps) good =
     not_bad (is_well_placed before moment i p) (first_bad (before ++ p ∷ []) moment (i + 1) ps) (length before) good in
     let placed : is_well_placed before moment i p ≡ true = parts.0 in
     let room : nat_lt (length before) max_prims ≡ true = second _ _ (first _ _ (first _ _ placed)) in
-    let back : refers_back (length before) p ≡ true = first _ _ (first _ _ (first _ _ (first _ _ (first _ _ (first _ _ (first _ _ placed)))))) in
-    let below : refers_below (length before) p.previous ≡ true = fifth (refers_below (length before) p.left) (refers_below (length before) p.right) (refers_below (length before) p.typ) (refers_below (length before) p.scope) (refers_below (length before) p.previous) back in
+    let back : refers_back (length before) p ≡ true = first _ _ (first _ _ (first _ _ (first _ _ (first _ _ (first _ _ (first _ _ (first _ _ placed))))))) in
+    let below : refers_below (length before) p.previous ≡ true = fifth (refers_below (length before) p.left) (refers_below (length before) p.right) (refers_below (length before) p.typ) (refers_below (length before) p.scope) (refers_below (length before) p.previous) (refers_below (length before) p.lang && true) back in
     both _ _ (both _ _ (both _ _ below (second _ _ placed)) room) (good_enters (before ++ p ∷ []) moment (i + 1) ps parts.1)

@@ -22,7 +22,7 @@ is_in_range p = may_hold p.value && nat_le p.moment max_moment
 -- one that keeps the rules is in range
 placed_in_range : (before : List Primitive) (moment i : ℕ) (p : Primitive) → is_well_placed before moment i p ≡ true → is_in_range p ≡ true
 placed_in_range before moment i p placed =
-    let holds : may_hold p.value ≡ true = second _ _ (first _ _ (first _ _ (first _ _ (first _ _ (first _ _ placed))))) in
+    let holds : may_hold p.value ≡ true = second _ _ (first _ _ (first _ _ (first _ _ (first _ _ (first _ _ (first _ _ placed)))))) in
     let same : (p.moment == moment) ≡ true = second _ _ (first _ _ (first _ _ (first _ _ (first _ _ placed)))) in
     let early : nat_le moment max_moment ≡ true = second _ _ (first _ _ (first _ _ (first _ _ placed))) in
     both _ _ holds (ap (λ m. nat_le m max_moment) (eqb-true p.moment moment same) ∙ early)

@@ -5,6 +5,7 @@ pub mod Held
 pub mod History
 pub mod Places
 pub mod Rising
+pub mod Short
 pub mod Stored
 pub mod Valued
 pub mod Within

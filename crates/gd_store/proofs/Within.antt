@@ -2,14 +2,20 @@
 use Rattle.std.proofs.Common.{◌≡◌, ℕ, zero, suc, ◌+◌, ◌<◌, ◌≤◌, Bool, true, false, List, [], ◌∷◌, length, take, refl, ◌∙◌, sym, subst, arith}
 use Rattle.std.specs.Prelude.{Option, None, Some, slice_get, IfSome, if◌then◌else◌}
 use Rattle.std.specs.List.{last_or}
+use Rattle.gd_prim.specs.declared.Batch.{Batch}
+use Rattle.gd_prim.specs.declared.End.{End}
 use Rattle.gd_prim.specs.declared.Primitive.{Primitive}
+use Rattle.gd_prim.specs.End.{end_of, places_with}
+use Rattle.gd_prim.specs.History.{prims_of}
 use Rattle.gd_prim.specs.Live.{refers, places_where, successor}
 use Rattle.gd_postings.specs.Postings.{IsAbove}
-use Rattle.std.specs.List.{cons_option}
+use Rattle.std.specs.List.{cons_option, list_any}
 use Rattle.gd_store.specs.Scan.{places_from}
 use Rattle.gd_store.proofs.Entered.{above_where, below_where}
+use Rattle.gd_store.proofs.History.{front_of_all}
 use Rattle.gd_store.proofs.Rising.{fewer_below}
 use Rattle.gd_store.proofs.Places.{first_within}
+use Rattle.gd_store.proofs.Short.{none_in_front}
 
 -- one of a list is less than what is above the list
 get_less : (ids : List ℕ) (m k x : ℕ) → IsAbove ids m → slice_get ids k ≡ Some x → x < m
@@ -91,3 +97,15 @@ pub front_kth : (t : Primitive → Bool) (n : ℕ) (prims front : List Primitive
     → slice_get (places_where t front) k ≡ Some x
 front_kth t n prims front k x is within found =
     subst (λ xs. slice_get (places_where t xs) k ≡ Some x) is (kth_from t 0 n prims x k (subst (λ xs. k < length (places_where t xs)) (sym is) within) found)
+
+-- a node is at an end of no more primitives below a dateline than of all
+pub links_fewer : (end : End) (node n : ℕ) (bs : List Batch) → length (places_with end node (prims_of (take n bs))) ≤ length (places_with end node (prims_of bs))
+links_fewer end node n bs =
+    subst (λ (prims : List Primitive). length (places_with end node prims) ≤ length (places_with end node (prims_of bs)))
+    (front_of_all bs n)
+    (front_fewer (λ p. refers (end_of end p) node) (length (prims_of (take n bs))) (prims_of bs))
+
+-- what no primitive of all has, none below a dateline has
+pub none_below : (test : Primitive → Bool) (n : ℕ) (bs : List Batch) → list_any test (prims_of bs) ≡ false → list_any test (prims_of (take n bs)) ≡ false
+none_below test n bs none =
+    subst (λ (prims : List Primitive). list_any test prims ≡ false) (front_of_all bs n) (none_in_front test (length (prims_of (take n bs))) (prims_of bs) none)

@@ -10,6 +10,7 @@ use Rattle.gd_versions.specs.Versions.{successor_of}
 use Rattle.gd_keys.specs.Keys.{KeysValue, key_list, object_list}
 use Rattle.gd_linkage.specs.Linkage.{LinkageValue, list_of}
 use Rattle.gd_store.specs.Keys.{is_key_link, is_key_of}
+use Rattle.gd_store.specs.Short.{are_short}
 use Rattle.gd_store.specs.Valued.{AreValues}
 use Rattle.gd_store.specs.declared.indexes.Indexes.{Indexes}
 
@@ -42,9 +43,10 @@ pub record AreIndexes (indexes : Indexes) (prims : List Primitive) : Type 0 wher
   pub links : AreLinks indexes.linkage prims
   pub values : AreValues indexes.values prims
 
--- the indexes are those of the list, and it could be entered
+-- the indexes are those of the list, it could be entered, and its texts are short
 pub record IsIndexed (indexes : Indexes) (prims : List Primitive) : Type 0 where
   pub entered : IsTrue (may_enter [] prims)
+  pub short : IsTrue (are_short prims)
   pub indexed : AreIndexes indexes prims
 
 -- the place, if it is below an end

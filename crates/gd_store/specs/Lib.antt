@@ -1,6 +1,7 @@
 pub mod Indexed
 pub mod Keys
 pub mod Scan
+pub mod Short
 pub mod Stored
 pub mod Valued
 pub mod Viewed

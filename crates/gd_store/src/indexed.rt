@@ -1,12 +1,13 @@
 //! A list of primitives with its indexes.
-ghost use Rattle.std.specs.Prelude.{◌≡◌, ◌+◌, ◌-◌, ◌^◌, ◌<◌, ◌≤◌, [], ◌++◌, None, Some, length, take, slice_get, min, IsTrue, IfOk, OnOk, OnErr, IfSome};
-ghost use Rattle.std.specs.List.{last_or};
+ghost use Rattle.std.specs.Prelude.{◌≡◌, ℕ, ◌+◌, ◌-◌, ◌^◌, ◌<◌, ◌≤◌, [], ◌++◌, None, Some, true, false, length, take, slice_get, min, nat_le, IsTrue, IfOk, OnOk, OnErr, IfSome};
+ghost use Rattle.std.specs.List.{last_or, list_any};
 ghost use Rattle.gd_base.specs.Counts.{Rose};
 ghost use Rattle.gd_prim.specs.End.{places_with};
 ghost use Rattle.gd_prim.specs.Live as graph;
 ghost use Rattle.gd_postings.specs.Postings.{ids_below, first_from};
 ghost use Rattle.gd_store.specs.Indexed.{may_enter};
 ghost use Rattle.gd_store.specs.Keys.{is_key_link, is_key_of};
+ghost use Rattle.gd_store.specs.Short.{is_short, are_short};
 ghost use Rattle.gd_store.specs.Valued.{AreValues, number_in, places_of_number};
 
 use crate::indexes::Indexes;
@@ -14,7 +15,7 @@ use gd_base::datum::Datum;
 use gd_base::id::Id;
 use gd_base::memory::Memory;
 use gd_base::steps::Steps;
-use gd_base::text::Text;
+use gd_base::text::{TEXT_LIMIT, Text};
 use gd_prim::well_formed::Prior;
 use gd_prim::{End, Primitive, Prims};
 use gd_valueidx::values::Values;
@@ -41,6 +42,33 @@ impl Model for IndexedPrims {
     ghost invariant = { λ indexed. IsIndexed indexed.indexes indexed.prims };
 }
 
+/// Whether a text is as short as each that is stored.
+fn fits_text(text: &str) -> bool
+    ensures same { result ≡ nat_le (length text.now) 4_096 }
+    ensures short { result ≡ true → length text.now ≤ 4_096 }
+{
+    text.len() <= TEXT_LIMIT
+}
+
+/// Sees that a value that is a text is short, as each text is.
+fn see_short(value: &Datum)
+    ensures { IsTrue (is_short value.now) }
+{
+    if let Datum::Text(text) = value {
+        let _bytes = text.as_bytes();
+    }
+}
+
+/// Sees the same of each of these primitives: contracts see a text as a list, of which they don't know how long it is.
+#[tactic(auto, using(crate::proofs::Short::short_left))]
+fn see_all_short(prims: &[Primitive])
+    ensures { IsTrue (are_short prims.now) }
+{
+    for prim in prims {
+        see_short(&prim.value);
+    }
+}
+
 impl IndexedPrims {
     /// The list of these primitives.
     pub(crate) fn new(alloc: Global, prims: Prims) -> Result<IndexedPrims, Memory>
@@ -48,6 +76,7 @@ impl IndexedPrims {
         requires entered { IsTrue (may_enter [] prims) }
         ensures { IfOk result (λ made. made ≡ prims) }
     {
+        see_all_short(prims.as_slice());
         let mut indexes = Indexes::new(alloc);
         indexes.enter_all(prims.as_slice(), 0)?;
         Ok(IndexedPrims { prims, indexes })
@@ -72,6 +101,8 @@ impl IndexedPrims {
         ensures ok { OnOk result (self.new ≡ self.old ++ more) }
         ensures err { OnErr result (self.new ≡ self.old) }
     {
+        let texts = more.as_slice();
+        see_all_short(texts);
         let start = self.prims.len();
         self.prims.append(more)?;
         if let Err(fault) = self.indexes.enter_all(self.prims.as_slice(), start) {
@@ -180,6 +211,13 @@ impl IndexedPrims {
         self.indexes.link_count(end, node, Id(below), steps)
     }
 
+    /// A number such that no node is at this end of more primitives.
+    pub(crate) fn most(&self, end: End) -> u32
+        ensures { (node : ℕ) → length (places_with end node self.now) ≤ result }
+    {
+        self.indexes.most(end)
+    }
+
     /// The places below `below` whose primitive has this node at the end, in rising order.
     pub(crate) fn links<L>(&self, end: End, node: Id, below: u32, steps: &mut Steps<L>) -> &[Id]
         ensures places { result.now ≡ places_with end node (take below self.now) }
@@ -233,6 +271,15 @@ impl IndexedPrims {
         ensures later { steps.old ≤ steps.new }
     {
         self.indexes.link_at(end, node, k, steps)
+    }
+
+    /// Whether a primitive may have this text as its value. False: none has it, since no text is so long.
+    pub(crate) fn may_have_text(&self, text: &str) -> bool
+        ensures none { result ≡ false → list_any (λ p. graph.is_text text.now p.value) self.now ≡ false }
+        ensures short { result ≡ true → length text.now ≤ 4_096 }
+    {
+        let _list = &self.prims;
+        fits_text(text)
     }
 
     /// The values of the primitives by number, and the places of each.

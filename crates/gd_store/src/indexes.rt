@@ -1,6 +1,6 @@
 //! Indexes of a list of primitives: which one succeeds which, where the key links are, which places name a node, and
 //! which have a value.
-ghost use Rattle.std.specs.Prelude.{◌≡◌, ◌+◌, ◌-◌, ◌^◌, ◌<◌, ◌≤◌, [], None, Some, length, take, slice_get, min, position, is_some, if◌then◌else◌, IsTrue, OnOk, OnErr, IfSome};
+ghost use Rattle.std.specs.Prelude.{◌≡◌, ℕ, ◌+◌, ◌-◌, ◌^◌, ◌<◌, ◌≤◌, [], None, Some, length, take, slice_get, min, position, is_some, if◌then◌else◌, IsTrue, OnOk, OnErr, IfSome};
 ghost use Rattle.std.specs.List.{last_or};
 ghost use Rattle.std.specs.Option.{option_copied};
 ghost use Rattle.gd_base.specs.Counts.{Rose};
@@ -333,6 +333,13 @@ impl Indexes {
         ensures counted { Rose steps.old steps.new }
     {
         count_below(self.linkage.list(end, node), below, steps)
+    }
+
+    /// A number such that no node is named at this end by more places.
+    pub(crate) fn most(&self, end: End) -> u32
+        ensures { (node : ℕ) → length (list_of end node self.now.linkage).ids ≤ result }
+    {
+        self.linkage.most(end)
     }
 
     /// The places below `below` that name this node at this end.

@@ -1,6 +1,6 @@
 //! The store.
-ghost use Rattle.std.specs.Prelude.{◌≡◌, ◌^◌, ◌+◌, ◌-◌, ◌<◌, ◌≤◌, [], ◌∷◌, ◌++◌, None, Some, length, take, drop, slice_get, min, option_map, sum_by, nat_lt, if◌then◌else◌, Ok, Err, IsTrue, IfOk, IfErr, OnOk, OnErr, MatchResult, IfSome};
-ghost use Rattle.std.specs.List.{last_or};
+ghost use Rattle.std.specs.Prelude.{◌≡◌, ℕ, ◌^◌, ◌+◌, ◌-◌, ◌<◌, ◌≤◌, [], ◌∷◌, ◌++◌, None, Some, true, false, length, take, drop, slice_get, min, option_map, sum_by, nat_lt, if◌then◌else◌, Ok, Err, IsTrue, IfOk, IfErr, OnOk, OnErr, MatchResult, IfSome};
+ghost use Rattle.std.specs.List.{last_or, list_any};
 ghost use Rattle.gd_base.specs.Counts.{Rose};
 ghost use Rattle.gd_prim.specs.End.{places_with};
 ghost use Rattle.gd_prim.specs.History.{prims_of, prims_at, is_history, AreHeld, AreTimed};
@@ -389,6 +389,21 @@ impl Store {
         ensures counted { Rose steps.old steps.new }
     {
         self.prims.link_count(end, node, self.end(dateline), steps)
+    }
+
+    /// A number such that no node is at this end of more primitives.
+    pub(crate) fn most(&self, end: End) -> u32
+        ensures { (node : ℕ) → length (places_with end node (prims_of self.now)) ≤ result }
+    {
+        self.prims.most(end)
+    }
+
+    /// Whether a primitive may have this text as its value. False: none has it, since no text is so long.
+    pub(crate) fn may_have_text(&self, text: &str) -> bool
+        ensures none { result ≡ false → list_any (λ p. graph.is_text text.now p.value) (prims_of self.now) ≡ false }
+        ensures short { result ≡ true → length text.now ≤ 4_096 }
+    {
+        self.prims.may_have_text(text)
     }
 
     /// The places below a dateline whose primitive has this node at the end, in rising order.

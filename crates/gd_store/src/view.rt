@@ -1,6 +1,6 @@
 //! Views of a store.
-ghost use Rattle.std.specs.Prelude.{◌≡◌, ℕ, ◌+◌, ◌-◌, ◌^◌, ◌<◌, ◌≤◌, None, Some, length, take, slice_get, min, IfSome, IsTrue};
-ghost use Rattle.std.specs.List.{last_or};
+ghost use Rattle.std.specs.Prelude.{◌≡◌, ℕ, ◌+◌, ◌-◌, ◌^◌, ◌<◌, ◌≤◌, None, Some, true, false, length, take, slice_get, min, IfSome, IsTrue};
+ghost use Rattle.std.specs.List.{last_or, list_any};
 ghost use Rattle.gd_base.specs.Counts.{Rose};
 ghost use Rattle.gd_prim.specs.End.{places_with};
 ghost use Rattle.gd_prim.specs.History.{prims_of, is_history, AreHeld, AreTimed};
@@ -199,6 +199,15 @@ impl<'a> View<'a> {
         store.links(self.dateline, end, node, steps)
     }
 
+    /// A number such that no node is at this end of more primitives: those that came after the view are counted too, so
+    /// two views of equal batches may give different numbers. It takes no steps and no memory.
+    pub fn most(&self, end: End) -> u32
+        ensures { (node : ℕ) → length (places_with end node (prims_of self.now)) ≤ result }
+    {
+        let store = self.store;
+        store.most(end)
+    }
+
     /// How many of the places whose primitive has this node at the end are less than `from`: so this is the index among
     /// them of the first that is `from` or greater. It takes no memory.
     pub fn list_from<L>(&self, end: End, node: Id, from: Id, steps: &mut Steps<L>) -> u32
@@ -222,6 +231,16 @@ impl<'a> View<'a> {
     {
         let store = self.store;
         store.first_link(self.dateline, end, node, from, steps)
+    }
+
+    /// Whether a primitive below the dateline may have this text as its value. False: none has it, since no text is so long.
+    /// It takes no steps and no memory.
+    pub fn may_have_text(&self, text: &str) -> bool
+        ensures none { result ≡ false → list_any (λ p. graph.is_text text.now p.value) (prims_of self.now) ≡ false }
+        ensures short { result ≡ true → length text.now ≤ 4_096 }
+    {
+        let store = self.store;
+        store.may_have_text(text)
     }
 
     /// The number of a value that a primitive below the dateline has: values are numbered from 0 in the order in which

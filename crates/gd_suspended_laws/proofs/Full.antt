@@ -1,5 +1,5 @@
 -- An order that has each place once, and each that passes, has each candidate of a query once.
-use Rattle.std.proofs.Common.{◌≡◌, ◌↔◌, ℕ, List, map, filter, true, sym, ◌∙◌}
+use Rattle.std.proofs.Common.{◌≡◌, ◌↔◌, ℕ, List, map, true, sym, ◌∙◌}
 use Rattle.std.specs.Ordering.{nat_cmp}
 use Rattle.std.proofs.lemmas.Cmp.{nat_cmp_total}
 use Rattle.gd_prim.specs.declared.Primitive.{Primitive}

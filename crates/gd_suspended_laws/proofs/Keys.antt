@@ -1,15 +1,14 @@
 -- The sort keys of an object stand where its tree tells.
-use Rattle.std.proofs.Common.{◌≡◌, ℕ, List, [], ◌∷◌, map, Some, refl, ap, ◌∙◌}
+use Rattle.std.proofs.Common.{◌≡◌, ℕ, List, [], ◌∷◌, ◌++◌, map, Some, refl, ap, ◌∙◌}
 use Rattle.std.specs.Prelude.{option_map}
 use Rattle.gd_prim.specs.declared.Primitive.{Primitive}
-use Rattle.gd_prim.specs.declared.End.TheVariants.{Typ}
 use Rattle.gd_tree.specs.Trees.{and_list, place_of, trees_of}
 use Rattle.gd_defs.specs.Property.{answers, first}
 use Rattle.gd_defs.specs.Asked.{Key, by_guid, by_timestamp, by_property, SortKey, Members, no_members, own, asks}
 use Rattle.gd_defs.specs.Rows as rows
-use Rattle.gd_defs.specs.Plan.{asked_end, clauses_of, sort_clauses, of_kind}
+use Rattle.gd_defs.specs.Plan.{property_tests, asked_end, clauses_of, sort_clauses, of_kind}
 use Rattle.gd_defs.specs.Query.{optional}
-use Rattle.gd_defs.specs.Template.{Constraint, template, no_clauses, clause, links_by, end_is, tree_of, clause_lists}
+use Rattle.gd_defs.specs.Template.{Constraint, template, no_clauses, clause, links_by, tree_of, clause_lists}
 use Rattle.gd_template_laws.specs.Fits.{IsTyped, IsSortKey, AreSortKeys}
 use Rattle.gd_template_laws.proofs.AskedQuery.{query-asked}
 use Rattle.gd_template_laws.proofs.Results.{held-typed}
@@ -37,7 +36,7 @@ key_places-are prims typed (s ∷ ss) are o = by s.key refl are.0 (key_places-ar
     by by_guid key fits rest = rw key (ap (λ ks. Some o ∷ ks) rest)
     by by_timestamp key fits rest = rw key (ap (λ ks. Some o ∷ ks) rest)
     by (by_property p) key fits rest =
-        let cs = end_is Typ p.stored ∷ of_kind fits.1.0 ∷ [] in
+        let cs = property_tests p ++ of_kind fits.1.0 ∷ [] in
         let clauses : sort_clauses (s ∷ ss) ≡ clause optional (links_by (asked_end p)) (template cs no_clauses) (sort_clauses ss) = let expected = fits.1.1 in rw (key, expected) refl in
         let here : key_places (s ∷ ss) o (and_list (trees_of (map (tree_of prims (template cs no_clauses)) (answers prims p o))) (clause_lists prims (sort_clauses ss) o)) ≡ first (answers prims p o) ∷ key_places ss o (clause_lists prims (sort_clauses ss) o) =
         rw key (ap (λ k. k ∷ key_places ss o (clause_lists prims (sort_clauses ss) o)) (ap (λ ts. option_map place_of (first ts)) (list_of-trees_of (map (tree_of prims (template cs no_clauses)) (answers prims p o))) ∙ first-place prims cs (answers prims p o))) in

@@ -57,7 +57,7 @@ window_is : (prims : List Primitive) (q : Asked) (after : Option Mark) (rows : L
 window_is prims q None rows = refl
 window_is prims q (Some m) rows = refl
 
-window_few : (prims : List Primitive) (q : Asked) (after : Option Mark) (rows : List defs.Row) → length (window prims q after rows) ≤ length rows
+pub window_few : (prims : List Primitive) (q : Asked) (after : Option Mark) (rows : List defs.Row) → length (window prims q after rows) ≤ length rows
 window_few prims q None rows = let same = sorted_as_many (row_cmp prims q.sort) [] rows in omega (arith, same)
 window_few prims q (Some m) rows =
     let kept = filter (λ r. is_lt (row_cmp prims q.sort (mark_row prims q.sort m) r)) rows in

@@ -9,7 +9,7 @@ use Rattle.gd_prim.specs.declared.Primitive.{Primitive}
 use Rattle.gd_prim.specs.Live.{is_object, is_live, passes_at}
 use Rattle.gd_defs.specs.Data.{Test, passes}
 use Rattle.gd_defs.specs.Property.{Property, Expects, a_value, a_key, an_object_of_system, a_plain_object, expects_of, answers}
-use Rattle.gd_defs.specs.Asked.{its_id, its_guid, its_timestamp, its_link, its_value, its_namespace, Key, by_guid, by_timestamp, by_property, SortKey, Asking, Members, no_members, own, asks, Asked}
+use Rattle.gd_defs.specs.Asked.{its_id, its_guid, its_timestamp, its_link, its_value, its_namespace, its_lang, Key, by_guid, by_timestamp, by_property, SortKey, Asking, Members, no_members, own, asks, Asked}
 use Rattle.gd_defs.specs.Rows.{meets, meets_given, met, is_met, answer_meets, meets_mode}
 use Rattle.gd_defs.specs.Plan.{object_test, object_tests, sort_clauses, unless_literal, asked_end, answers_of, link_template, clauses_of, template_of}
 use Rattle.gd_defs.specs.Template as template
@@ -112,6 +112,7 @@ clause-meets prims typed (own name its_link t j ms) are sort link o obj =
     clause-meets prims typed ms are.1 sort link o obj ∙ ap (λ b. b && meets prims ms link o) (sym (passes-anything t (datum.Object link) are.0))
 clause-meets prims typed (own name its_value t j ms) are sort link o obj = absurd are
 clause-meets prims typed (own name its_namespace t j ms) are sort link o obj = absurd are
+clause-meets prims typed (own name its_lang t j ms) are sort link o obj = absurd are
 clause-meets prims typed (asks name a c ms) are sort link o obj =
     swap (list_all (λ c. holds prims c o) (object_tests ms)) _ (meets_mode a.mode (is_met prims a c o)) _ _
     (ap (meets_mode a.mode) (found prims a c (clauses_of a.sort c) o (member-links prims a c (clauses_of a.sort c) (AreAsked c) typed are.0 (λ asked x y here. clause-meets prims typed c asked a.sort x y here))))
@@ -153,6 +154,7 @@ clause-passes prims typed (own name its_link t j ms) are sort link o obj =
     clause-passes prims typed ms are.1 sort link o obj ∙ ap (λ b. b && meets_given prims ms link o) (sym (passes-anything t (datum.Object link) are.0))
 clause-passes prims typed (own name its_value t j ms) are sort link o obj = absurd are
 clause-passes prims typed (own name its_namespace t j ms) are sort link o obj = absurd are
+clause-passes prims typed (own name its_lang t j ms) are sort link o obj = absurd are
 clause-passes prims typed (asks name a c ms) are sort link o obj =
     given_clause (list_all (λ c. holds prims c o) (object_tests ms)) _ a.given _ (is_met prims a c o) (is_required a.mode && false) _ _ _
     (member-literal a c are.0) (member-is_met prims a c typed are.0 o) (and-false _) (clause-passes prims typed ms are.1 sort link o obj)

@@ -9,7 +9,7 @@ use Rattle.gd_defs.specs.Data.{Kind, of_text, Test, anything, equals, differs, i
 use Rattle.gd_defs.specs.Query.{Directives, SortWord, required, bad_sort, is_word}
 use Rattle.gd_defs.specs.Property.{Property, Expects, a_value, a_key, an_object_of_system, a_plain_object, expects_of, property, holds_values}
 use Rattle.gd_defs.specs.Asked.{by_guid, by_timestamp, by_property, SortKey, as_operand, as_clause, Asking, Members, no_members, asks, Clause, Unknown, bad, asked, sort_key, sort_keys}
-use Rattle.gd_defs.specs.Asked.Forms.{bare_asking, style_of, own_clause, counts, operand_form, clause_form, name_test, mode_of, asks_single}
+use Rattle.gd_defs.specs.Asked.Forms.{bare_asking, style_of, own_clause, counts, operand_form, clause_form, name_test, mode_of, asks_single, spoken}
 use Rattle.gd_defs.specs.Plan.{answers_of}
 use Rattle.gd_template_laws.specs.Fits.{FitsObject, FitsOne, IsEquals, ValueMembers, IsSortKey, AreSortKeys, IsAsked, AreAsked}
 use Rattle.gd_grammar.proofs.Steps.{steps, ok_same}
@@ -138,7 +138,7 @@ pub front-clause : (name : List ℕ) (p : Property) (d : Directives) (listed : B
 front-clause name p d listed c rest backwards below are = (asked-in_direction p (asking (expects_of p.expected)) c.0 (AreAsked c.0) backwards (by (expects_of p.expected) below), are)
   where
     asking : Expects → Asking
-    asking e = record (bare_asking p as_clause) { mode = mode_of d; counted = holds_values e; listed = listed; single = asks_single listed d; sort = c.1; limit = unwrap_or d.limit 100 }
+    asking e = record (bare_asking (spoken p c.0) as_clause) { mode = mode_of d; counted = holds_values e; listed = listed; single = asks_single listed d; sort = c.1; limit = unwrap_or d.limit 100 }
 
     by : (e : Expects) → IsBelow e c → IsAsked e (asking e) c.0 (AreAsked c.0)
     by (a_value k) below = record { test = tt; clause = below.0; counted = refl; given = λ is. absurd (false≢true is); sort = below.1; unnamed = λ is. cc }

@@ -9,7 +9,7 @@ use Rattle.gd_defs.specs.Data.{of_text, Test, anything}
 use Rattle.gd_defs.specs.Query as query
 use Rattle.gd_defs.specs.Query.{Name, Form, Directives, SortWord, Mode, required, optional, bad_operator, value_reversed, object_form, bad_sort, is_word, is_link, Query}
 use Rattle.gd_defs.specs.Property.{Property, Expects, a_value, a_key, an_object_of_system, a_plain_object, expects_of, property_object, holds_values, is_reversed_value, stated, turned}
-use Rattle.gd_defs.specs.Asked.{Own, its_link, its_value, its_namespace, Members, no_members, own, Clause, Unknown, bad, own_member, own_test, with_own, value_member, value_members, has_namespace, member_property}
+use Rattle.gd_defs.specs.Asked.{Own, its_link, its_value, its_namespace, its_lang, Members, no_members, own, Clause, Unknown, bad, own_member, own_test, with_own, value_member, value_members, has_namespace, has_lang, member_property}
 use Rattle.gd_defs.specs.Asked.Tests.{checked_test}
 use Rattle.gd_template_laws.specs.Fits.{IsAnything, FitsOne, ValueMembers}
 use Rattle.gd_grammar.proofs.Steps.{steps, ok_same}
@@ -75,6 +75,12 @@ front-namespace a_key n t j ms has fits are = (refl, fits, are)
 front-namespace an_object_of_system n t j ms has fits are = are
 front-namespace a_plain_object n t j ms has fits are = are
 
+front-lang : (e : Expects) (n : Name) (t : Test) (j : Option Json) (ms : Members) → FitsOne t → AreValues e ms → AreValues e (own n.spelled its_lang t j ms)
+front-lang (a_value k) n t j ms fits are = (fits, are)
+front-lang a_key n t j ms fits are = (fits, are)
+front-lang an_object_of_system n t j ms fits are = are
+front-lang a_plain_object n t j ms fits are = are
+
 fits-nothing : (e : Expects) → Fits e anything
 fits-nothing (a_value k) = tt
 fits-nothing a_key = tt
@@ -82,24 +88,29 @@ fits-nothing an_object_of_system = tt
 fits-nothing a_plain_object = tt
 
 value_member-are : (prims : List Primitive) (e : Expects) (path : List (List ℕ)) (n : Name) (f : Form) (rest : Result Clause Unknown) (c : Clause) → value_member prims e path n f rest ≡ Ok c → Behind e rest c
-value_member-are prims e path n f rest c is more = by (is_link n.word) (bytes_eq n.word (codes "value")) (bytes_eq n.word (codes "namespace")) (has_namespace e) refl is
+value_member-are prims e path n f rest c is more = by (is_link n.word) (bytes_eq n.word (codes "value")) (bytes_eq n.word (codes "namespace")) (has_namespace e) (bytes_eq n.word (codes "lang") && has_lang e) refl is
   where
     ended : (o : Own) (T : Test → Type 0) → ((t : Test) (j : Option Json) (ms : Members) → T t → AreValues e ms → AreValues e (own n.spelled o t j ms)) → Computed n o T rest c → AreValues e c.0 × (c.1 ≡ [])
     ended o T front made =
         let behind = more made.behind made.gave in
         (subst (λ (c : Clause). AreValues e c.0) made.is (front made.test made.operand made.behind.0 made.fits behind.0), ap (λ (c : Clause). c.1) (sym made.is) ∙ behind.1)
 
-    by : (b1 b2 b3 b4 : Bool) → has_namespace e ≡ b4
+    last : (b5 : Bool) → (if b5 then own_member path n its_lang f (own_test prims path its_lang n.operator) rest else bad object_form path) ≡ Ok c → AreValues e c.0 × (c.1 ≡ [])
+    last true is = ended its_lang FitsOne (front-lang e n) (computed path n its_lang f (own_test prims path its_lang n.operator) rest c FitsOne tt (λ j t made. own-fits prims path its_lang n.operator j t made) is)
+    last false is = absurd (cc)
+
+    by : (b1 b2 b3 b4 b5 : Bool) → has_namespace e ≡ b4
         → (if b1 then own_member path n its_link f (own_test prims path its_link n.operator) rest
         else if b2 then own_member path n its_value f (checked_test prims e path n.operator) rest
         else if b3 && b4 then own_member path n its_namespace f (own_test prims path its_namespace n.operator) rest
+        else if b5 then own_member path n its_lang f (own_test prims path its_lang n.operator) rest
         else bad object_form path) ≡ Ok c
         → AreValues e c.0 × (c.1 ≡ [])
-    by true b2 b3 b4 has is = ended its_link IsAnything (front-link e n) (computed path n its_link f (own_test prims path its_link n.operator) rest c IsAnything tt (λ j t made. own-fits prims path its_link n.operator j t made) is)
-    by false true b3 b4 has is = ended its_value (Fits e) (front-value e n) (computed path n its_value f (checked_test prims e path n.operator) rest c (Fits e) (fits-nothing e) (λ j t made. checked-fits prims e path n.operator j t made) is)
-    by false false true true has is = ended its_namespace FitsOne (λ t j ms fits are. front-namespace e n t j ms has fits are) (computed path n its_namespace f (own_test prims path its_namespace n.operator) rest c FitsOne tt (λ j t made. own-fits prims path its_namespace n.operator j t made) is)
-    by false false true false has is = absurd (cc)
-    by false false false b4 has is = absurd (cc)
+    by true b2 b3 b4 b5 has is = ended its_link IsAnything (front-link e n) (computed path n its_link f (own_test prims path its_link n.operator) rest c IsAnything tt (λ j t made. own-fits prims path its_link n.operator j t made) is)
+    by false true b3 b4 b5 has is = ended its_value (Fits e) (front-value e n) (computed path n its_value f (checked_test prims e path n.operator) rest c (Fits e) (fits-nothing e) (λ j t made. checked-fits prims e path n.operator j t made) is)
+    by false false true true b5 has is = ended its_namespace FitsOne (λ t j ms fits are. front-namespace e n t j ms has fits are) (computed path n its_namespace f (own_test prims path its_namespace n.operator) rest c FitsOne tt (λ j t made. own-fits prims path its_namespace n.operator j t made) is)
+    by false false true false b5 has is = last b5 is
+    by false false false b4 b5 has is = last b5 is
 
 pub value_members-are : (prims : List Primitive) (e : Expects) (path : List (List ℕ)) (ms : query.Members) (c : Clause) → AreValues e no_members → value_members prims e path ms ≡ Ok c → AreValues e c.0 × (c.1 ≡ [])
 value_members-are prims e path query.no_members c none is =

@@ -9,7 +9,7 @@ use Rattle.gd_defs.specs.Data.{Kind, of_text, Test}
 use Rattle.gd_defs.specs.Query as query
 use Rattle.gd_defs.specs.Query.{Name, Form, Directives, required, Query, is_word, is_link}
 use Rattle.gd_defs.specs.Property.{Property, Expects, a_value, a_key, an_object_of_system, a_plain_object, expects_of, holds_values}
-use Rattle.gd_defs.specs.Asked.{Own, its_id, its_guid, its_timestamp, its_link, its_value, its_namespace, Key, by_guid, by_timestamp, by_property, SortKey, Asking, Members, no_members, own, asks, Clause, Unknown, Asked, asked, asked_form, asked_query, own_of, own_member, own_test, value_members, member_property, below_property, context_of, type_text, sort_keys}
+use Rattle.gd_defs.specs.Asked.{Own, its_id, its_guid, its_timestamp, its_link, its_value, its_namespace, its_lang, Key, by_guid, by_timestamp, by_property, SortKey, Asking, Members, no_members, own, asks, Clause, Unknown, Asked, asked, asked_form, asked_query, own_of, own_member, own_test, value_members, member_property, below_property, context_of, type_text, sort_keys}
 use Rattle.gd_defs.specs.Asked.Tests.{checked_test}
 use Rattle.gd_defs.specs.Asked.Forms.{ask_form, own_clause, operand_form, clause_form, name_test, asks_single}
 use Rattle.gd_defs.specs.Plan.{namespace_tests, answers_of, unless_literal, sort_clauses, clauses_of, template_of}
@@ -114,6 +114,7 @@ values-height k keys no_members are = omega arith
 values-height k keys (own name its_link t j ms) are = values-height k keys ms are.1
 values-height k keys (own name its_value t j ms) are = values-height k keys ms are.1
 values-height k keys (own name its_namespace t j ms) are = values-height k keys ms are.2
+values-height k keys (own name its_lang t j ms) are = values-height k keys ms are.1
 values-height k keys (own name its_id t j ms) are = absurd are
 values-height k keys (own name its_guid t j ms) are = absurd are
 values-height k keys (own name its_timestamp t j ms) are = absurd are

@@ -1,5 +1,5 @@
 -- The links that answer the template of a member are its answers that meet it; and those that pass it.
-use Rattle.std.proofs.Common.{◌≡◌, ℕ, List, [], ◌∷◌, ◌++◌, Bool, true, false, ◌&&◌, ◌||◌, Option, Some, None, refl, ap, sym, ◌∙◌}
+use Rattle.std.proofs.Common.{◌≡◌, ℕ, List, ◌∷◌, ◌++◌, Bool, true, false, ◌&&◌, ◌||◌, Option, Some, None, refl, ap, sym, ◌∙◌}
 use Rattle.std.specs.Prelude.{slice_get, is_none, unwrap_or, if◌then◌else◌}
 use Rattle.std.specs.Option.{option_map_or, option_to_list}
 use Rattle.std.specs.List.{list_any, list_all}
@@ -9,11 +9,10 @@ use Rattle.gd_base.specs.declared.datum.Datum.TheVariants as datum
 use Rattle.gd_prim.specs.declared.Primitive.{Primitive}
 use Rattle.gd_prim.specs.Live.{refers, passes_at, is_live, is_object, end_at, value_at, object_datum}
 use Rattle.gd_defs.specs.Data.{Kind, of_text, of_int, of_boolean, of_datetime, has_kind, Test, passes}
-use Rattle.gd_defs.specs.Property.{Property, Expects, a_value, a_key, an_object_of_system, a_plain_object, expects_of, far_of, far_end, leads_to_object}
+use Rattle.gd_defs.specs.Property.{is_of, Property, Expects, a_value, a_key, an_object_of_system, a_plain_object, expects_of, far_of, far_end, leads_to_object}
 use Rattle.gd_defs.specs.Asked.{Asking, Members}
 use Rattle.gd_defs.specs.Rows.{meets, far}
-use Rattle.gd_defs.specs.Plan.{value_test, link_tests, namespace_tests, object_test, object_tests, unless_literal, answers_of, answer_end}
-use Rattle.gd_prim.specs.declared.End.TheVariants.{Typ}
+use Rattle.gd_defs.specs.Plan.{property_tests, value_test, link_tests, namespace_tests, object_test, object_tests, unless_literal, answers_of, answer_end}
 use Rattle.gd_prim.specs.End.{end_of}
 use Rattle.gd_defs.specs.Template.{end_is, holds, Constraint, meets_constraints, is_answer, meets_clauses, Clauses, no_clauses, clause, template, end_here, led_to, passes_template, passes_clauses}
 use Rattle.gd_defs.specs.Template as template
@@ -22,7 +21,7 @@ use Rattle.gd_template_laws.proofs.Bools.{and-true, and-false, and-assoc}
 use Rattle.gd_template_laws.proofs.Places.{passes_at-and, object-live}
 use Rattle.gd_template_laws.proofs.ValueTests.{value_test-holds}
 use Rattle.gd_template_laws.proofs.ObjectTests.{object_test-holds}
-use Rattle.gd_template_laws.proofs.Shapes.{far_clause, shaped, holds_far, answer_end-at, is_link}
+use Rattle.gd_template_laws.proofs.Shapes.{property_tests-hold, property_tests-alone, of-typ, far_clause, shaped, holds_far, answer_end-at, is_link}
 use Rattle.gd_template_laws.proofs.ValueLinks.{link-reads, meets-value, namespace-value, namespace-holds, namespace_passes}
 
 -- ---- a link by what the answers are
@@ -35,14 +34,14 @@ datum_at an_object_of_system prims p x = object_datum (far_end prims p x)
 datum_at a_plain_object prims p x = object_datum (far_end prims p x)
 
 abbrev pub linked : Expects → List Primitive → Asking → (ℕ → ℕ → Bool) → ℕ → Bool
-linked e prims a m x = is_live prims x && ((passes_at (λ q. refers q.typ a.property.stored) prims x && passes_at (holds_far prims e a.property) prims x)
+linked e prims a m x = is_live prims x && ((passes_at (is_of a.property) prims x && passes_at (holds_far prims e a.property) prims x)
     && (passes a.test (datum_at e prims a.property x) && m x (far prims a.property x)))
 
 pub is_link-linked : (prims : List Primitive) (a : Asking) (m : ℕ → ℕ → Bool) (x : ℕ) (e : Expects) → answers_of a.property ≡ e → linked e prims a m x ≡ is_link prims a m x
-is_link-linked prims a m x e is = ap (λ b. is_live prims x && (b && (passes a.test (datum_at e prims a.property x) && m x (far prims a.property x)))) (sym (passes_at-and (λ q. refers q.typ a.property.stored) (holds_far prims e a.property) prims x)) ∙ by e is
+is_link-linked prims a m x e is = ap (λ b. is_live prims x && (b && (passes a.test (datum_at e prims a.property x) && m x (far prims a.property x)))) (sym (passes_at-and (is_of a.property) (holds_far prims e a.property) prims x)) ∙ by e is
   where
     by : (e : Expects) → answers_of a.property ≡ e
-        → (is_live prims x && (passes_at (λ q. refers q.typ a.property.stored && holds_far prims e a.property q) prims x && (passes a.test (datum_at e prims a.property x) && m x (far prims a.property x)))) ≡ is_link prims a m x
+        → (is_live prims x && (passes_at (λ q. is_of a.property q && holds_far prims e a.property q) prims x && (passes a.test (datum_at e prims a.property x) && m x (far prims a.property x)))) ≡ is_link prims a m x
     by (a_value k) is = rw is refl
     by a_key is = rw is refl
     by an_object_of_system is = rw is refl
@@ -122,21 +121,22 @@ value-constraints prims x k t c typed s is fits =
 pub value-answers : (prims : List Primitive) (a : Asking) (c : Members) (nested : Clauses) (k : Kind) (x : ℕ) → IsTyped prims → answers_of a.property ≡ a_value k → FitsKind k a.test → ValueMembers k false c
     → is_answer prims (shaped (a_value k) a c nested) x ≡ is_link prims a (meets prims c) x
 value-answers prims a c nested k x typed is fits are =
-    ap (λ b. meets_constraints prims (end_is Typ a.property.stored ∷ value_test k a.test ++ link_tests k c) x && b) (unless_literal-meets prims a.given no_clauses x)
+    ap (λ b. meets_constraints prims (property_tests a.property ++ (value_test k a.test ++ link_tests k c)) x && b) (unless_literal-meets prims a.given no_clauses x)
     ∙ and-true _
-    ∙ value_shuffle (is_live prims x) (passes_at (λ q. refers q.typ a.property.stored) prims x) _ (has_kind k (value_at prims x)) (passes a.test (value_at prims x)) (meets prims c x (far prims a.property x)) tests
-    ∙ ap (λ b. is_live prims x && ((passes_at (λ q. refers q.typ a.property.stored) prims x && b) && (passes a.test (value_at prims x) && meets prims c x (far prims a.property x)))) (sym (passes-kind prims k x))
+    ∙ ap (λ b. is_live prims x && b) (property_tests-hold prims x a.property (value_test k a.test ++ link_tests k c))
+    ∙ value_shuffle (is_live prims x) (passes_at (is_of a.property) prims x) _ (has_kind k (value_at prims x)) (passes a.test (value_at prims x)) (meets prims c x (far prims a.property x)) tests
+    ∙ ap (λ b. is_live prims x && ((passes_at (is_of a.property) prims x && b) && (passes a.test (value_at prims x) && meets prims c x (far prims a.property x)))) (sym (passes-kind prims k x))
     ∙ is_link-linked prims a (meets prims c) x (a_value k) is
   where
-    tests : passes_at (λ q. refers q.typ a.property.stored) prims x ≡ true
+    tests : passes_at (is_of a.property) prims x ≡ true
         → list_all (λ c. holds prims c x) (value_test k a.test ++ link_tests k c) ≡ (has_kind k (value_at prims x) && (passes a.test (value_at prims x) && meets prims c x (far prims a.property x)))
-    tests here = value-constraints prims x k a.test c typed a.property.stored here fits ∙ of (has_kind k (value_at prims x)) refl
+    tests here = value-constraints prims x k a.test c typed a.property.stored (of-typ prims x a.property here) fits ∙ of (has_kind k (value_at prims x)) refl
       where
         of : (b : Bool) → has_kind k (value_at prims x) ≡ b
             → (has_kind k (value_at prims x) && (passes a.test (value_at prims x) && list_all (λ c. holds prims c x) (link_tests k c))) ≡ (has_kind k (value_at prims x) && (passes a.test (value_at prims x) && meets prims c x (far prims a.property x)))
         of true kind = ap (λ b. has_kind k (value_at prims x) && (passes a.test (value_at prims x) && b))
             (sym (and-true _) ∙ ap (λ b. list_all (λ c. holds prims c x) (link_tests k c) && b) (sym (namespace-value k (object_datum (end_at (λ p. p.right) prims x)) c are))
-            ∙ meets-value prims x (far prims a.property x) k false c (link-reads prims a.property.stored x typed here) kind are)
+            ∙ meets-value prims x (far prims a.property x) k false c (link-reads prims a.property.stored x typed (of-typ prims x a.property here)) kind are)
         of false kind = ap (λ b. b && (passes a.test (value_at prims x) && list_all (λ c. holds prims c x) (link_tests k c))) kind
             ∙ ap (λ b. b && (passes a.test (value_at prims x) && meets prims c x (far prims a.property x))) (sym kind)
 
@@ -162,14 +162,15 @@ forward-far prims p x is = rw is refl
 pub key-answers : (prims : List Primitive) (a : Asking) (c : Members) (nested : Clauses) (x : ℕ) → IsTyped prims → answers_of a.property ≡ a_key → FitsKind of_text a.test → ValueMembers of_text true c
     → is_answer prims (shaped a_key a c nested) x ≡ is_link prims a (meets prims c) x
 key-answers prims a c nested x typed is fits are =
-    ap (λ b. meets_constraints prims (end_is Typ a.property.stored ∷ value_test of_text a.test ++ link_tests of_text c) x && b)
+    ap (λ b. meets_constraints prims (property_tests a.property ++ (value_test of_text a.test ++ link_tests of_text c)) x && b)
     (unless_literal-meets prims a.given (far_clause a.property (namespace_tests c) no_clauses) x ∙ and-true _)
-    ∙ key_shuffle (is_live prims x) (passes_at (λ q. refers q.typ a.property.stored) prims x) _ _ (has_kind of_text (value_at prims x)) (passes a.test (value_at prims x))
+    ∙ ap (λ b. (is_live prims x && b) && at_far prims (namespace_tests c) (λ y. true) (end_at (end_of (answer_end a.property)) prims x)) (property_tests-hold prims x a.property (value_test of_text a.test ++ link_tests of_text c))
+    ∙ key_shuffle (is_live prims x) (passes_at (is_of a.property) prims x) _ _ (has_kind of_text (value_at prims x)) (passes a.test (value_at prims x))
     (list_all (λ c. holds prims c x) (link_tests of_text c)) (namespace_passes d c) (meets prims c x (far prims a.property x)) (leads_to_object prims (far_end prims a.property x))
-    (λ here. value-constraints prims x of_text a.test c typed a.property.stored here fits)
+    (λ here. value-constraints prims x of_text a.test c typed a.property.stored (of-typ prims x a.property here) fits)
     at_end
-    (λ here kind. meets-value prims x (far prims a.property x) of_text true c (link-reads prims a.property.stored x typed here) kind are)
-    ∙ ap (λ b. is_live prims x && ((passes_at (λ q. refers q.typ a.property.stored) prims x && b) && (passes a.test (value_at prims x) && meets prims c x (far prims a.property x)))) (sym held)
+    (λ here kind. meets-value prims x (far prims a.property x) of_text true c (link-reads prims a.property.stored x typed (of-typ prims x a.property here)) kind are)
+    ∙ ap (λ b. is_live prims x && ((passes_at (is_of a.property) prims x && b) && (passes a.test (value_at prims x) && meets prims c x (far prims a.property x)))) (sym held)
     ∙ is_link-linked prims a (meets prims c) x a_key is
   where
     d : Datum
@@ -195,10 +196,11 @@ object_shuffle true true f e m is = and-true f ∙ is
 -- a link whose other end is an object that passes what is asked of it
 pub object-links : (prims : List Primitive) (a : Asking) (c : Members) (g : ℕ → Bool) (m : ℕ → ℕ → Bool) (x : ℕ) → FitsObject a.test
     → ((y : ℕ) → is_object prims y ≡ true → (list_all (λ c. holds prims c y) (object_tests c) && g y) ≡ m x y)
-    → (meets_constraints prims (end_is Typ a.property.stored ∷ []) x && (at_far prims (object_test a.test ++ object_tests c) g (end_at (end_of (answer_end a.property)) prims x) && true)) ≡ linked a_plain_object prims a m x
+    → (meets_constraints prims (property_tests a.property) x && (at_far prims (object_test a.test ++ object_tests c) g (end_at (end_of (answer_end a.property)) prims x) && true)) ≡ linked a_plain_object prims a m x
 object-links prims a c g m x fits inner =
-    object_shuffle (is_live prims x) (passes_at (λ q. refers q.typ a.property.stored) prims x) _ (leads_to_object prims (far_end prims a.property x)) (passes a.test (object_datum (far_end prims a.property x)) && m x (far prims a.property x)) at_end
-    ∙ ap (λ b. is_live prims x && ((passes_at (λ q. refers q.typ a.property.stored) prims x && b) && (passes a.test (object_datum (far_end prims a.property x)) && m x (far prims a.property x)))) (sym (passes-far prims a.property x))
+    ap (λ b. (is_live prims x && b) && (at_far prims (object_test a.test ++ object_tests c) g (end_at (end_of (answer_end a.property)) prims x) && true)) (property_tests-alone prims x a.property)
+    ∙ object_shuffle (is_live prims x) (passes_at (is_of a.property) prims x) _ (leads_to_object prims (far_end prims a.property x)) (passes a.test (object_datum (far_end prims a.property x)) && m x (far prims a.property x)) at_end
+    ∙ ap (λ b. is_live prims x && ((passes_at (is_of a.property) prims x && b) && (passes a.test (object_datum (far_end prims a.property x)) && m x (far prims a.property x)))) (sym (passes-far prims a.property x))
   where
     one : (y : ℕ) → far_end prims a.property x ≡ Some y → is_object prims y ≡ true
         → (list_all (λ c. holds prims c y) (object_test a.test ++ object_tests c) && g y) ≡ (passes a.test (object_datum (far_end prims a.property x)) && m x (far prims a.property x))

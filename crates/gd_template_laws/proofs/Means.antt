@@ -7,12 +7,11 @@ use Rattle.std.proofs.lemmas.Bool.{false≢true, and_parts}
 use Rattle.gd_prim.specs.declared.Primitive.{Primitive}
 use Rattle.gd_prim.specs.Live.{end_at}
 use Rattle.gd_defs.specs.Property.{Expects, a_value, a_key, an_object_of_system, a_plain_object, far_end}
-use Rattle.gd_defs.specs.Asked.{its_id, its_guid, its_timestamp, its_link, its_value, its_namespace, Asking, Members, no_members, own, asks, Asked}
+use Rattle.gd_defs.specs.Asked.{its_id, its_guid, its_timestamp, its_link, its_value, its_namespace, its_lang, Asking, Members, no_members, own, asks, Asked}
 use Rattle.gd_defs.specs.Rows.{far}
-use Rattle.gd_defs.specs.Plan.{answer_end, answers_of, link_template, clauses_of}
-use Rattle.gd_prim.specs.declared.End.TheVariants.{Typ}
+use Rattle.gd_defs.specs.Plan.{property_tests, answer_end, answers_of, link_template, clauses_of}
 use Rattle.gd_prim.specs.End.{end_of}
-use Rattle.gd_defs.specs.Template.{end_is, end_here, is_answer, clause_answers, meets_constraints}
+use Rattle.gd_defs.specs.Template.{end_here, is_answer, clause_answers, meets_constraints}
 use Rattle.gd_template_laws.specs.Fits.{IsTyped, AreSortKeys, IsAsked, AreAsked}
 use Rattle.gd_template_laws.specs.Laws.{far_template, HasFar, OnObjects, MembersMean, TemplateMeans}
 use Rattle.gd_template_laws.proofs.Shapes.{link_template-shaped, answer_end-at}
@@ -42,9 +41,9 @@ far-stands prims a c x found = by (far_end prims a.property x) refl (sym (ap (λ
 pub member-far : (prims : List Primitive) (a : Asking) (c : Members) (x : ℕ) → is_answer prims (link_template a c (clauses_of a.sort c)) x ≡ true → HasFar prims (answers_of a.property) a c x
 member-far prims a c x found = by (answers_of a.property) refl
   where
-    objects : (is_answer prims (link_template a c (clauses_of a.sort c)) x) ≡ (meets_constraints prims (end_is Typ a.property.stored ∷ []) x && (list_any (is_answer prims (far_template a c)) (option_to_list (end_at (end_of (answer_end a.property)) prims x)) && true))
+    objects : (is_answer prims (link_template a c (clauses_of a.sort c)) x) ≡ (meets_constraints prims (property_tests a.property) x && (list_any (is_answer prims (far_template a c)) (option_to_list (end_at (end_of (answer_end a.property)) prims x)) && true))
         → clause_answers prims (end_here (answer_end a.property)) (far_template a c) x ≡ far prims a.property x ∷ []
-    objects shape = far-stands prims a c x (and_parts _ true (and_parts (meets_constraints prims (end_is Typ a.property.stored ∷ []) x) _ (sym shape ∙ found)).1).0
+    objects shape = far-stands prims a c x (and_parts _ true (and_parts (meets_constraints prims (property_tests a.property) x) _ (sym shape ∙ found)).1).0
 
     by : (e : Expects) → answers_of a.property ≡ e → HasFar prims e a c x
     by (a_value k) is = tt
@@ -68,6 +67,7 @@ members-mean prims typed (own name its_timestamp t j ms) are = members-mean prim
 members-mean prims typed (own name its_link t j ms) are = members-mean prims typed ms are.1
 members-mean prims typed (own name its_value t j ms) are = absurd are
 members-mean prims typed (own name its_namespace t j ms) are = absurd are
+members-mean prims typed (own name its_lang t j ms) are = absurd are
 members-mean prims typed (asks name a c ms) are = (
   record { found = λ o. member-met prims a c typed are.0 o; far_object = λ x found. member-far prims a c x found },
   (on_objects (answers_of a.property) a c (MembersMean prims c) are.0 (λ asked. members-mean prims typed c asked), members-mean prims typed ms are.1),

@@ -14,9 +14,9 @@ use Rattle.gd_base.specs.declared.datum.Precision.{Precision}
 use Rattle.std.specs.Prelude.{ℤ}
 use Rattle.gd_defs.specs.Data.{Kind, of_text, of_int, of_boolean, of_datetime, has_kind, datum_from, key_from, Test, anything, equals, differs, is_one_of, is_below, is_above, matches_words}
 use Rattle.gd_defs.specs.Query as query
-use Rattle.gd_defs.specs.Query.{Fault, within, Operator, bad_value, bad_operator}
+use Rattle.gd_defs.specs.Query.{Fault, within, Operator, bad_value, bad_operator, bad_lang}
 use Rattle.gd_defs.specs.Property.{Expects, a_value, a_key, an_object_of_system, a_plain_object}
-use Rattle.gd_defs.specs.Asked.{bad_query, bad, Own, its_id, its_guid, its_timestamp, its_link, its_value, its_namespace, own_test, own_expects, takes, place_named, operand_datum, test_of}
+use Rattle.gd_defs.specs.Asked.{bad_query, bad, Own, its_id, its_guid, its_timestamp, its_link, its_value, its_namespace, its_lang, own_test, own_expects, takes, names_language, speaks, told, place_named, operand_datum, test_of}
 use Rattle.gd_defs.specs.Asked.Tests.{allows, operand_data, pattern_test, tested_as, checked_test}
 use Rattle.gd_grammar.proofs.Steps.{steps, ok_same, some_given}
 use Rattle.gd_template_laws.specs.Fits.{AreOfKind, FitsKind, IsObjectDatum, AreObjects, FitsObject, FitsOne, FitsMoment, IsAnything, IsEquals}
@@ -210,6 +210,7 @@ FitsOwn its_timestamp t = FitsMoment t
 FitsOwn its_link t = IsAnything t
 FitsOwn its_value t = FitsObject t
 FitsOwn its_namespace t = FitsOne t
+FitsOwn its_lang t = FitsOne t
 
 one-test : (prims : List Primitive) (path : List (List ℕ)) (operator : Operator) (j : Json) (t : Test) → takes its_namespace operator ≡ true → test_of prims an_object_of_system path operator j ≡ Ok t → FitsOne t
 one-test prims path query.no_operator j t allowed is = made FitsOne prims an_object_of_system path j equals t (λ d of. of) is
@@ -222,8 +223,42 @@ moment-test prims path query.above j t allowed is = made FitsMoment prims (a_val
 moment-test prims path query.at_least j t allowed is = made FitsMoment prims (a_value of_datetime) path j (λ d. is_above d true) t (λ d of. tt) is
 moment-test prims path other j t allowed is = absurd (false≢true allowed)
 
+language-test : (prims : List Primitive) (path : List (List ℕ)) (operator : Operator) (j : Json) (t : Test) → takes its_lang operator ≡ true → test_of prims an_object_of_system path operator j ≡ Ok t → FitsOne t
+language-test prims path query.no_operator j t allowed is = made FitsOne prims an_object_of_system path j equals t (λ d of. of) is
+language-test prims path other j t allowed is = absurd (false≢true allowed)
+
+-- a test of a language is handed on as it is, or refused
+speaks-same : (prims : List Primitive) (path : List (List ℕ)) (t u : Test) → speaks prims path t ≡ Ok u → t ≡ u
+speaks-same prims path t u is = by (names_language prims t) is
+  where
+    by : (b : Bool) → (if b then Ok t else bad bad_lang path) ≡ Ok u → t ≡ u
+    by true is = ok_same t u is
+    by false is = absurd (cc)
+
+-- so is that of any computed word
+told-same : (prims : List Primitive) (path : List (List ℕ)) (o : Own) (t u : Test) → told prims path o t ≡ Ok u → t ≡ u
+told-same prims path its_lang t u is = speaks-same prims path t u is
+told-same prims path its_id t u is = ok_same t u is
+told-same prims path its_guid t u is = ok_same t u is
+told-same prims path its_timestamp t u is = ok_same t u is
+told-same prims path its_link t u is = ok_same t u is
+told-same prims path its_value t u is = ok_same t u is
+told-same prims path its_namespace t u is = ok_same t u is
+
+-- the test of a computed member is that of its operand, and its word takes the operator
+pub own-made : (prims : List Primitive) (path : List (List ℕ)) (o : Own) (operator : Operator) (j : Json) (t : Test)
+    → own_test prims path o operator j ≡ Ok t → (takes o operator ≡ true) × (test_of prims (own_expects o) path operator j ≡ Ok t)
+own-made prims path o operator j t is = by (takes o operator) refl is
+  where
+    by : (b : Bool) → takes o operator ≡ b → (if b then (test_of prims (own_expects o) path operator j >>= told prims path o) else bad bad_operator path) ≡ Ok t
+        → (takes o operator ≡ true) × (test_of prims (own_expects o) path operator j ≡ Ok t)
+    by true allowed is =
+        let step = steps (test_of prims (own_expects o) path operator j) (told prims path o) t is in
+        (allowed, step.gave ∙ ap Ok (told-same prims path o step.value t step.then_gave))
+    by false allowed is = absurd (cc)
+
 pub own-fits : (prims : List Primitive) (path : List (List ℕ)) (o : Own) (operator : Operator) (j : Json) (t : Test) → own_test prims path o operator j ≡ Ok t → FitsOwn o t
-own-fits prims path o operator j t is = by (takes o operator) refl is
+own-fits prims path o operator j t is = let made = own-made prims path o operator j t is in made_of o made.0 made.1
   where
     made_of : (o : Own) → takes o operator ≡ true → test_of prims (own_expects o) path operator j ≡ Ok t → FitsOwn o t
     made_of its_id allowed is = object-test prims path operator j t allowed is
@@ -232,7 +267,4 @@ own-fits prims path o operator j t is = by (takes o operator) refl is
     made_of its_link allowed is = absurd (false≢true allowed)
     made_of its_value allowed is = object-test prims path operator j t allowed is
     made_of its_namespace allowed is = one-test prims path operator j t allowed is
-
-    by : (b : Bool) → takes o operator ≡ b → (if b then test_of prims (own_expects o) path operator j else bad bad_operator path) ≡ Ok t → FitsOwn o t
-    by true allowed is = made_of o allowed is
-    by false allowed is = absurd (cc)
+    made_of its_lang allowed is = language-test prims path operator j t allowed is

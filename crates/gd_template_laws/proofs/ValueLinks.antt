@@ -1,22 +1,24 @@
 -- The links of a member whose answers are values or keys.
-use Rattle.std.proofs.Common.{◌≡◌, ℕ, List, ◌++◌, Bool, true, false, ◌&&◌, Option, Some, None, refl, ap, sym, subst, ◌∙◌}
-use Rattle.std.specs.Prelude.{slice_get, is_none, if◌then◌else◌}
+use Rattle.std.proofs.Common.{◌≡◌, ℕ, List, ◌++◌, Bool, true, false, ◌&&◌, Option, Some, None, refl, ap, sym, subst, ◌∙◌, arith}
+use Rattle.std.specs.Prelude.{◌==◌, slice_get, is_none, option_and_then, if◌then◌else◌}
 use Rattle.std.specs.Option.{option_map_or}
 use Rattle.std.specs.List.{list_all}
 use Rattle.std.proofs.lemmas.Bool.{false≢true}
+use Rattle.std.proofs.lemmas.Bool.Decides.{nat_tests}
 use Rattle.std.proofs.lemmas.List.Folds.{list_all-append}
+use Rattle.gd_base.specs.Order.{datum_eq}
 use Rattle.gd_base.specs.declared.datum.Datum.{Datum}
 use Rattle.gd_base.specs.declared.datum.Datum.TheVariants as datum
 use Rattle.gd_prim.specs.declared.Primitive.{Primitive}
-use Rattle.gd_prim.specs.Live.{refers, passes_at, end_at, value_at, object_datum}
+use Rattle.gd_prim.specs.Live.{refers, passes_at, end_at, value_at, object_datum, language_of, language_at}
 use Rattle.gd_tree.specs.Json.{Json}
 use Rattle.gd_defs.specs.Data.{Kind, has_kind, Test, anything, equals, differs, is_one_of, is_below, is_above, matches_words, passes}
-use Rattle.gd_defs.specs.Asked.{its_id, its_guid, its_timestamp, its_link, its_value, its_namespace, Members, no_members, own, asks}
+use Rattle.gd_defs.specs.Asked.{its_id, its_guid, its_timestamp, its_link, its_value, its_namespace, its_lang, Members, no_members, own, asks}
 use Rattle.gd_defs.specs.Rows.{timestamp, meets}
-use Rattle.gd_defs.specs.Plan.{value_test, link_tests, namespace_tests, object_test}
+use Rattle.gd_defs.specs.Plan.{value_test, lang_tests, link_tests, namespace_tests, object_test}
 use Rattle.gd_defs.specs.Template.{holds, ordered_datum}
-use Rattle.gd_template_laws.specs.Fits.{IsBounded, IsTyped, FitsKind, IsAnything, ValueMembers}
-use Rattle.gd_template_laws.proofs.Bools.{and-assoc}
+use Rattle.gd_template_laws.specs.Fits.{IsBounded, IsTyped, FitsKind, FitsOne, IsAnything, ValueMembers}
+use Rattle.gd_template_laws.proofs.Bools.{and-true, and-assoc}
 use Rattle.gd_template_laws.proofs.ValueTests.{value_test-holds}
 use Rattle.gd_template_laws.proofs.ObjectTests.{object_test-holds, one-object}
 
@@ -81,7 +83,33 @@ passes-anything (is_below v e) d is = absurd is
 passes-anything (is_above v e) d is = absurd is
 passes-anything (matches_words p) d is = absurd is
 
--- a link meets the members where its value and its namespace pass
+-- the constraints of a test of its language
+lang_tests-hold : (prims : List Primitive) (x : ℕ) (t : Test) → FitsOne t → list_all (λ c. holds prims c x) (lang_tests t) ≡ passes t (object_datum (language_at prims x))
+lang_tests-hold prims x anything fits = refl
+lang_tests-hold prims x (equals (datum.Object l)) fits = by (slice_get prims x)
+  where
+    same : (m : Option ℕ) → (refers m l && true) ≡ datum_eq (object_datum m) (datum.Object l)
+    same None = refl
+    same (Some m) = and-true (m == l) ∙ flip m
+      where
+        flip : (m : ℕ) → (m == l) ≡ datum_eq (datum.Object m) (datum.Object l)
+        flip m = grind (arith, nat_tests)
+
+    by : (o : Option Primitive) → (option_map_or (λ (p : Primitive). refers (language_of p) l) o false && true) ≡ datum_eq (object_datum (option_and_then language_of o)) (datum.Object l)
+    by None = refl
+    by (Some p) = same (language_of p)
+lang_tests-hold prims x (equals (datum.Bool b)) fits = absurd fits
+lang_tests-hold prims x (equals (datum.Int n)) fits = absurd fits
+lang_tests-hold prims x (equals (datum.Moment ms precision)) fits = absurd fits
+lang_tests-hold prims x (equals (datum.Text t)) fits = absurd fits
+lang_tests-hold prims x (equals datum.Empty) fits = absurd fits
+lang_tests-hold prims x (differs v) fits = absurd fits
+lang_tests-hold prims x (is_one_of vs) fits = absurd fits
+lang_tests-hold prims x (is_below v e) fits = absurd fits
+lang_tests-hold prims x (is_above v e) fits = absurd fits
+lang_tests-hold prims x (matches_words p) fits = absurd fits
+
+-- a link meets the members where its value, its language and its namespace pass
 pub meets-value : (prims : List Primitive) (x y : ℕ) (k : Kind) (keys : Bool) (c : Members) → Reads prims x → has_kind k (value_at prims x) ≡ true → ValueMembers k keys c
     → (list_all (λ c. holds prims c x) (link_tests k c) && namespace_passes (object_datum (end_at (λ p. p.right) prims x)) c) ≡ meets prims c x y
 meets-value prims x y k keys no_members reads of are = refl
@@ -100,6 +128,11 @@ meets-value prims x y k keys (own name its_namespace t j ms) reads of are =
     swap true b c = refl
     swap false true c = refl
     swap false false c = refl
+meets-value prims x y k keys (own name its_lang t j ms) reads of are =
+    let d = object_datum (end_at (λ p. p.right) prims x) in
+    ap (λ b. b && namespace_passes d ms) (list_all-append (λ c. holds prims c x) (lang_tests t) (link_tests k ms) ∙ ap (λ b. b && list_all (λ c. holds prims c x) (link_tests k ms)) (lang_tests-hold prims x t are.0))
+    ∙ and-assoc (passes t (object_datum (language_at prims x))) _ (namespace_passes d ms)
+    ∙ ap (λ b. passes t (object_datum (language_at prims x)) && b) (meets-value prims x y k keys ms reads of are.1)
 meets-value prims x y k keys (own name its_id t j ms) reads of are = absurd are
 meets-value prims x y k keys (own name its_guid t j ms) reads of are = absurd are
 meets-value prims x y k keys (own name its_timestamp t j ms) reads of are = absurd are
@@ -111,6 +144,7 @@ namespace-value k d no_members are = refl
 namespace-value k d (own name its_link t j ms) are = namespace-value k d ms are.1
 namespace-value k d (own name its_value t j ms) are = namespace-value k d ms are.1
 namespace-value k d (own name its_namespace t j ms) are = absurd (false≢true are.0)
+namespace-value k d (own name its_lang t j ms) are = namespace-value k d ms are.1
 namespace-value k d (own name its_id t j ms) are = absurd are
 namespace-value k d (own name its_guid t j ms) are = absurd are
 namespace-value k d (own name its_timestamp t j ms) are = absurd are
@@ -125,6 +159,7 @@ namespace-holds prims y k keys (own name its_namespace t j ms) are =
     list_all-append (λ c. holds prims c y) (object_test t) (namespace_tests ms)
     ∙ ap (λ b. b && list_all (λ c. holds prims c y) (namespace_tests ms)) (object_test-holds prims y t (one-object t are.1))
     ∙ ap (λ b. passes t (datum.Object y) && b) (namespace-holds prims y k keys ms are.2)
+namespace-holds prims y k keys (own name its_lang t j ms) are = namespace-holds prims y k keys ms are.1
 namespace-holds prims y k keys (own name its_id t j ms) are = absurd are
 namespace-holds prims y k keys (own name its_guid t j ms) are = absurd are
 namespace-holds prims y k keys (own name its_timestamp t j ms) are = absurd are

@@ -10,18 +10,19 @@ use Rattle.gd_prim.specs.Live.{is_object, is_live, passes_at, end_at}
 use Rattle.gd_defs.specs.Data.{Kind, of_text}
 use Rattle.gd_defs.specs.Query.{Mode, required, optional, forbidden}
 use Rattle.gd_defs.specs.Property.{Property, Expects, a_value, a_key, an_object_of_system, a_plain_object, expects_of, answers, far_end}
-use Rattle.gd_defs.specs.Asked.{its_id, its_guid, its_timestamp, its_link, its_value, its_namespace, Key, by_guid, by_timestamp, by_property, SortKey, as_value, Asking, Members, no_members, own, asks, Asked}
+use Rattle.gd_defs.specs.Asked.{its_id, its_guid, its_timestamp, its_link, its_value, its_namespace, its_lang, Key, by_guid, by_timestamp, by_property, SortKey, as_value, Asking, Members, no_members, own, asks, Asked}
 use Rattle.gd_defs.specs.Asked.Forms.{bare_asking}
 use Rattle.gd_defs.specs.Rows as rows
 use Rattle.gd_defs.specs.Rows.{meets, meets_given, met, is_met, answer_meets, sort_weight, goes_on, row_weight, far}
-use Rattle.gd_defs.specs.Plan.{object_test, object_tests, namespace_tests, value_test, link_tests, of_kind, sort_clauses, unless_literal, asked_end, answer_end, answers_of, link_template, clauses_of, template_of}
+use Rattle.gd_defs.specs.Plan.{property_tests, object_test, object_tests, namespace_tests, value_test, link_tests, of_kind, sort_clauses, unless_literal, asked_end, answer_end, answers_of, link_template, clauses_of, template_of}
 use Rattle.gd_defs.specs.Template as template
 use Rattle.gd_prim.specs.declared.End.TheVariants.{Typ}
 use Rattle.gd_prim.specs.End.{end_of}
 use Rattle.gd_defs.specs.Template.{end_is, Constraint, Template, template, Clauses, no_clauses, clause, links_by, end_here, led_to, holds, is_answer, meets_clauses, meets_constraints, clause_answers, passes_template, passes_clauses, is_literal, are_literal, is_literal_constraint, is_required, weight, clauses_weight}
 use Rattle.gd_template_laws.specs.Fits.{IsTyped, IsSortKey, AreSortKeys, FitsObject, AsksObjects, IsAsked, AreAsked}
 use Rattle.gd_template_laws.proofs.Bools.{and-false}
-use Rattle.gd_template_laws.proofs.Places.{filter-same, object-live}
+use Rattle.gd_list_laws.proofs.Places.{filter-same}
+use Rattle.gd_template_laws.proofs.Places.{object-live}
 use Rattle.gd_template_laws.proofs.Shapes.{shaped, link_template-shaped, is_link, links-answers, far_clause, answer_end-at}
 use Rattle.gd_template_laws.proofs.Links.{value-answers, object-links, is_link-linked, linked, unless_literal-passes, unless_literal-meets, at_far}
 use Rattle.gd_template_laws.proofs.Literals.{member-literal, literal-passes}
@@ -70,10 +71,10 @@ absorbed false true = refl
 absorbed false false = refl
 
 value-passes : (prims : List Primitive) (a : Asking) (c : Members) (nested : Clauses) (k : Kind) (x : ℕ) → passes_template prims (shaped (a_value k) a c nested) x ≡ is_answer prims (shaped (a_value k) a c nested) x
-value-passes prims a c nested k x = ap (λ b. meets_constraints prims (end_is Typ a.property.stored ∷ value_test k a.test ++ link_tests k c) x && b) (unless_literal-passes prims a.given no_clauses x ∙ sym (unless_literal-meets prims a.given no_clauses x))
+value-passes prims a c nested k x = ap (λ b. meets_constraints prims (property_tests a.property ++ (value_test k a.test ++ link_tests k c)) x && b) (unless_literal-passes prims a.given no_clauses x ∙ sym (unless_literal-meets prims a.given no_clauses x))
 
 key-passes : (prims : List Primitive) (a : Asking) (c : Members) (nested : Clauses) (x : ℕ) → passes_template prims (shaped a_key a c nested) x ≡ is_answer prims (shaped a_key a c nested) x
-key-passes prims a c nested x = ap (λ b. meets_constraints prims (end_is Typ a.property.stored ∷ value_test of_text a.test ++ link_tests of_text c) x && b)
+key-passes prims a c nested x = ap (λ b. meets_constraints prims (property_tests a.property ++ (value_test of_text a.test ++ link_tests of_text c)) x && b)
     (unless_literal-passes prims a.given (far_clause a.property (namespace_tests c) no_clauses) x
     ∙ absorbed (is_literal (template (template.is_object ∷ namespace_tests c) no_clauses)) (list_any (is_answer prims (template (template.is_object ∷ namespace_tests c) no_clauses)) (led_to prims (end_here (answer_end a.property)) x))
     ∙ sym (unless_literal-meets prims a.given (far_clause a.property (namespace_tests c) no_clauses) x))
@@ -99,7 +100,7 @@ far_template a c nested = template (template.is_object ∷ (object_test a.test +
 
 -- the shape of links to objects
 abbrev object_shape : Asking → Members → Clauses → Template
-object_shape a c nested = template (end_is Typ a.property.stored ∷ []) (far_clause a.property (object_test a.test ++ object_tests c) (unless_literal a.given nested))
+object_shape a c nested = template (property_tests a.property) (far_clause a.property (object_test a.test ++ object_tests c) (unless_literal a.given nested))
 
 far-not_literal : (a : Asking) (c : Members) (nested : Clauses) → a.given ≡ false → is_literal (far_template a c nested) ≡ false
 far-not_literal a c nested given = ap (λ b. list_all is_literal_constraint (object_test a.test ++ object_tests c) && are_literal (unless_literal b nested)) given ∙ and-false _
@@ -107,9 +108,9 @@ far-not_literal a c nested given = ap (λ b. list_all is_literal_constraint (obj
 -- a link that is not given passes where its other end does
 object-passes : (prims : List Primitive) (a : Asking) (c : Members) (nested : Clauses) (x : ℕ) → a.given ≡ false
     → passes_template prims (object_shape a c nested) x
-    ≡ (meets_constraints prims (end_is Typ a.property.stored ∷ []) x && (at_far prims (object_test a.test ++ object_tests c) (passes_clauses prims (unless_literal a.given nested)) (end_at (end_of (answer_end a.property)) prims x) && true))
+    ≡ (meets_constraints prims (property_tests a.property) x && (at_far prims (object_test a.test ++ object_tests c) (passes_clauses prims (unless_literal a.given nested)) (end_at (end_of (answer_end a.property)) prims x) && true))
 object-passes prims a c nested x given =
-    ap (λ l. meets_constraints prims (end_is Typ a.property.stored ∷ []) x
+    ap (λ l. meets_constraints prims (property_tests a.property) x
     && (((not l || list_any (is_answer prims (far_template a c nested)) (led_to prims (end_here (answer_end a.property)) x))
     && (false || list_any (passes_template prims (far_template a c nested)) (led_to prims (end_here (answer_end a.property)) x))) && true)) (far-not_literal a c nested given)
 
@@ -121,7 +122,7 @@ object-weight prims a c nested w x given same passed =
     by (far_end prims a.property x) refl
     (sym (ap (at_far prims (object_test a.test ++ object_tests c) (passes_clauses prims (unless_literal a.given nested))) (answer_end-at prims a.property x))
     ∙ (and_parts (at_far prims (object_test a.test ++ object_tests c) (passes_clauses prims (unless_literal a.given nested)) (end_at (end_of (answer_end a.property)) prims x)) true
-    (and_parts (meets_constraints prims (end_is Typ a.property.stored ∷ []) x) _ (sym (object-passes prims a c nested x given) ∙ passed)).1).0)
+    (and_parts (meets_constraints prims (property_tests a.property) x) _ (sym (object-passes prims a c nested x given) ∙ passed)).1).0)
   where
     t : Template
     t = far_template a c nested
@@ -169,11 +170,11 @@ keep-all (x ∷ xs) = ap (λ ys. x ∷ ys) (keep-all xs)
 
 -- the answers of a sort key's clause are those of its property
 pub sort-answers : (prims : List Primitive) → IsTyped prims → (p : Property) (k : Kind) → p.reversed ≡ false → expects_of p.expected ≡ a_value k → (o : ℕ)
-    → clause_answers prims (links_by (asked_end p)) (template (end_is Typ p.stored ∷ of_kind k ∷ []) no_clauses) o ≡ answers prims p o
+    → clause_answers prims (links_by (asked_end p)) (template (property_tests p ++ of_kind k ∷ []) no_clauses) o ≡ answers prims p o
 sort-answers prims typed p k turned expected o =
     let a : Asking = record (bare_asking p as_value) { given = true } in
     let is : answers_of p ≡ a_value k = ap (λ b. if b then a_plain_object else expects_of p.expected) turned ∙ expected in
-    links-answers prims a (meets prims no_members) (is_answer prims (template (end_is Typ p.stored ∷ of_kind k ∷ []) no_clauses)) o
+    links-answers prims a (meets prims no_members) (is_answer prims (template (property_tests p ++ of_kind k ∷ []) no_clauses)) o
     (λ x. value-answers prims a no_members no_clauses k x typed is tt tt)
     ∙ keep-all (answers prims p o)
 
@@ -185,12 +186,12 @@ sort-weights prims typed (s ∷ ss) are o = by s.key refl are.0 (sort-weights pr
     by by_guid key fits rest = rw key (rest ∙ sym (zero_left (sort_weight prims ss o)))
     by by_timestamp key fits rest = rw key (rest ∙ sym (zero_left (sort_weight prims ss o)))
     by (by_property p) key fits rest =
-        let clauses : sort_clauses (s ∷ ss) ≡ clause optional (links_by (asked_end p)) (template (end_is Typ p.stored ∷ of_kind fits.1.0 ∷ []) no_clauses) (sort_clauses ss) = let expected = fits.1.1 in rw (key, expected) refl in
+        let clauses : sort_clauses (s ∷ ss) ≡ clause optional (links_by (asked_end p)) (template (property_tests p ++ of_kind fits.1.0 ∷ []) no_clauses) (sort_clauses ss) = let expected = fits.1.1 in rw (key, expected) refl in
         let weighs : length (answers prims p o) + sort_weight prims ss o ≡ sort_weight prims (s ∷ ss) o = rw key refl in
         let found = sort-answers prims typed p fits.1.0 fits.0 fits.1.1 o in
         ap (λ cs. clauses_weight prims cs o) clauses
-        ∙ ap (λ n. sum_by (λ x. 1) (filter (is_answer prims (template (end_is Typ p.stored ∷ of_kind fits.1.0 ∷ []) no_clauses)) (led_to prims (links_by (asked_end p)) o)) + n) rest
-        ∙ ap (λ n. n + sort_weight prims ss o) (sum-ones (λ x. 1) (filter (is_answer prims (template (end_is Typ p.stored ∷ of_kind fits.1.0 ∷ []) no_clauses)) (led_to prims (links_by (asked_end p)) o)) (λ x. refl) ∙ ap length found)
+        ∙ ap (λ n. sum_by (λ x. 1) (filter (is_answer prims (template (property_tests p ++ of_kind fits.1.0 ∷ []) no_clauses)) (led_to prims (links_by (asked_end p)) o)) + n) rest
+        ∙ ap (λ n. n + sort_weight prims ss o) (sum-ones (λ x. 1) (filter (is_answer prims (template (property_tests p ++ of_kind fits.1.0 ∷ []) no_clauses)) (led_to prims (links_by (asked_end p)) o)) (λ x. refl) ∙ ap length found)
         ∙ weighs
 
 -- ---- a member
@@ -317,6 +318,7 @@ clause-weighs prims typed (own name its_timestamp t j ms) are sort keys link o =
 clause-weighs prims typed (own name its_link t j ms) are sort keys link o = clause-weighs prims typed ms are.1 sort keys link o
 clause-weighs prims typed (own name its_value t j ms) are sort keys link o = absurd are
 clause-weighs prims typed (own name its_namespace t j ms) are sort keys link o = absurd are
+clause-weighs prims typed (own name its_lang t j ms) are sort keys link o = absurd are
 clause-weighs prims typed (asks name a c ms) are sort keys link o =
     let here : member_weight prims a c o ≡ added prims a c o = member-weighs prims a c o typed are.0 (λ asked sorted x y obj. clause-weighs prims typed c asked a.sort sorted x y) in
     let rest = clause-weighs prims typed ms are.1 sort keys link o in

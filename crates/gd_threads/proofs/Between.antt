@@ -8,7 +8,7 @@ use Rattle.gd_runs.specs.Legal.{Entry}
 use Rattle.gd_runs.specs.Explained.{entry_at}
 use Rattle.gd_runs.proofs.Rounds.{no_some, slot}
 use Rattle.gd_writer.specs.Side.{SideValue, Begins}
-use Rattle.gd_caller.specs.Served.{IsFreshFrom}
+use Rattle.gd_round_lines.specs.Fresh.{IsFreshFrom}
 use Rattle.gd_crew.specs.Ready.{IsIdle}
 
 -- a session of a new seat reads nothing

@@ -1,6 +1,5 @@
 pub mod Between
 pub mod Loaded
-pub mod Locked
 pub mod Opened
 pub mod Passed
 pub mod Served

@@ -6,10 +6,10 @@ use Rattle.gd_runs.specs.Explained.{Run}
 use Rattle.gd_core_laws.specs.Threads.{RoundServed}
 use Rattle.gd_writer.specs.Side.{SideValue, state_of, StandsForSide}
 use Rattle.gd_caller.specs.Served.{printed}
-use Rattle.gd_caller.specs.Replies.{no_memory}
+use Rattle.gd_round_lines.specs.Replies.{no_memory}
 use Rattle.gd_caller.proofs.JoinedRounds.{round_passed}
 use Rattle.gd_caller.proofs.Lines.{passed_many, passed_count}
-use Rattle.gd_caller.proofs.Read.{count_is}
+use Rattle.gd_round_lines.proofs.Read.{count_is}
 use Rattle.gd_threads.specs.Served.{RoundsValue}
 use Rattle.gd_threads.specs.Rounds.{Serves, StandsForRound, AnswersRound}
 use Rattle.gd_threads.specs.Working.{KeepsNow}

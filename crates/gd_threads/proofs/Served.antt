@@ -12,17 +12,19 @@ use Rattle.gd_runs.specs.Side.{KeepsRound}
 use Rattle.gd_runs.proofs.Rounds.{no_some, some_same}
 use Rattle.gd_core_laws.specs.Round.{begun_at, write_lines}
 use Rattle.gd_core_laws.specs.Writes.{CallerWrites}
+use Rattle.gd_core_laws.proofs.Prefix.{callers_pass}
 use Rattle.gd_writer.specs.Parts.{Tells}
 use Rattle.gd_writer.specs.Side.{SideValue, state_of}
-use Rattle.gd_writers.specs.Round.{most, LeavesSince}
-use Rattle.gd_caller.specs.declared.work.Works.{Works}
-use Rattle.gd_caller.specs.Served.{AreOf, IsFreshFrom}
-use Rattle.gd_caller.specs.Works.{texts_of, write_of, AreRead, AreWithin}
+use Rattle.gd_crew.specs.Round.{most, LeavesSince}
+use Rattle.gd_round_lines.specs.declared.work.Works.{Works}
+use Rattle.gd_caller.specs.Served.{AreOf}
+use Rattle.gd_round_lines.specs.Fresh.{IsFreshFrom}
+use Rattle.gd_round_lines.specs.Works.{texts_of, write_of, AreRead, AreWithin}
 use Rattle.gd_caller.specs.Writes.{RoseBy, faults_kept, StandsWritten}
-use Rattle.gd_caller.specs.Some.{IsSomeOf}
+use Rattle.gd_round_lines.specs.Some.{IsSomeOf}
 use Rattle.gd_caller.specs.Joined.{IsOfWrites, AnswersJoined}
 use Rattle.gd_caller.proofs.JoinedLines.{lock_rose}
-use Rattle.gd_caller.proofs.Callers.{some_all, callers_pass}
+use Rattle.gd_round_lines.proofs.Some.{some_all}
 use Rattle.gd_caller.proofs.JoinedRounds.{outcomes_of_writes, round_fresh, round_rose, round_joined}
 use Rattle.gd_crew.specs.Joined.{begun_by}
 use Rattle.gd_threads.specs.Served.{RoundsValue}

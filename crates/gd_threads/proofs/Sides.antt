@@ -11,19 +11,20 @@ use Rattle.gd_runs.proofs.Rounds.{length_batches}
 use Rattle.gd_core_laws.specs.Round.{begun_at}
 use Rattle.gd_core_laws.specs.Writes.{AreNew}
 use Rattle.gd_core_laws.proofs.WriteLines.{line_there}
+use Rattle.gd_core_laws.proofs.LockRun.{lock_starts}
 use Rattle.gd_writer.specs.Parts.{Tells}
 use Rattle.gd_writer.specs.Side.{SideValue, KeepsAll, StandsForSide}
-use Rattle.gd_writers.specs.Round.{most, StandsInRound}
-use Rattle.gd_caller.specs.declared.work.WriteLine.{WriteLine}
-use Rattle.gd_caller.specs.declared.work.Works.{Works}
-use Rattle.gd_caller.specs.Served.{IsFreshFrom, LeftAreFresh}
-use Rattle.gd_caller.specs.Works.{write_of, AreWithin, AreRead}
+use Rattle.gd_crew.specs.Round.{most, StandsInRound}
+use Rattle.gd_round_lines.specs.declared.work.WriteLine.{WriteLine}
+use Rattle.gd_round_lines.specs.declared.work.Works.{Works}
+use Rattle.gd_round_lines.specs.Fresh.{IsFreshFrom}
+use Rattle.gd_caller.specs.Served.{LeftAreFresh}
+use Rattle.gd_round_lines.specs.Works.{write_of, AreWithin, AreRead}
 use Rattle.gd_caller.specs.Writes.{WritesLeft}
 use Rattle.gd_caller.proofs.JoinedLines.{lock_left_fresh}
-use Rattle.gd_caller.proofs.Lines.{lines_within}
+use Rattle.gd_round_lines.proofs.Lines.{lines_within}
 use Rattle.gd_crew.specs.Joined.{begun_by}
 use Rattle.gd_threads.specs.Working.{ShowsMore, KeepsNow, Joins, RunsWrites}
-use Rattle.gd_threads.proofs.Locked.{lock_starts}
 
 -- ---- what is shown
 

@@ -11,10 +11,12 @@ use Rattle.gd_core_laws.specs.Round.{StandsAt, begun_at, write_lines}
 use Rattle.gd_core_laws.specs.Writes.{CallerWrites}
 use Rattle.gd_core_laws.proofs.LockRun.{history_begins, lock_begins}
 use Rattle.gd_core_laws.proofs.Threads.{are_new}
-use Rattle.gd_caller.specs.Some.{IsSomeOf}
+use Rattle.gd_core_laws.proofs.Prefix.{callers_pass}
+use Rattle.gd_round_lines.specs.Some.{IsSomeOf}
 use Rattle.gd_caller.specs.Told.{Forgets, reply_or}
 use Rattle.gd_caller.specs.Served.{printed, AreOf, StandsForState, StandsServed}
-use Rattle.gd_caller.proofs.Callers.{some_all, callers_pass, callers_some, callers_among}
+use Rattle.gd_round_lines.proofs.Some.{some_all}
+use Rattle.gd_caller.proofs.Callers.{callers_some, callers_among}
 use Rattle.gd_caller.proofs.Forgotten.{forget_nothing}
 use Rattle.gd_caller.proofs.JoinedLines.{CameAs, first_line, joined_round_served}
 

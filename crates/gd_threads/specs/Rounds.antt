@@ -8,7 +8,7 @@ use Rattle.gd_runs.specs.Explained.{Numbered, Run, fault_count}
 use Rattle.gd_core_laws.specs.Round.{StandsAt}
 use Rattle.gd_core_laws.specs.Threads.{RoundServed}
 use Rattle.gd_writer.specs.Parts.{Tells}
-use Rattle.gd_writers.specs.Round.{LeavesSince}
+use Rattle.gd_crew.specs.Round.{LeavesSince}
 use Rattle.gd_caller.specs.Served.{printed, StandsServed}
 use Rattle.gd_caller.specs.Writes.{RoseBy}
 use Rattle.gd_threads.specs.Served.{RoundsValue, state_at}

@@ -5,7 +5,7 @@ use Rattle.std.specs.List.{All}
 use Rattle.gd_runs.specs.Core.{State, opened}
 use Rattle.gd_seats.specs.Session.{SessionValue}
 use Rattle.gd_writer.specs.Side.{SideValue, state_of}
-use Rattle.gd_caller.specs.Served.{IsFreshFrom}
+use Rattle.gd_round_lines.specs.Fresh.{IsFreshFrom}
 use Rattle.gd_crew.specs.Ready.{IsIdle}
 
 -- the write side, and the number of the next line

@@ -4,7 +4,7 @@ use Rattle.gd_input.specs.declared.line.RoundLine.{RoundLine}
 use Rattle.gd_input.specs.Rounds.{AreKept}
 use Rattle.gd_threads.specs.Served.{RoundsValue, state_at}
 use Rattle.gd_threads.specs.Rounds.{AnswersRound}
-use Rattle.gd_top.specs.Serves.{Answered}
+use Rattle.gd_top.specs.Answered.{Answered}
 use Rattle.gd_top.proofs.Served.{same_count}
 
 pub answered : {D C : Type 0} (content : D → Option (List ℕ)) (moment : D → ℕ) (images : D → List ℕ → Type 0) (images_since : D → ℕ → List ℕ → Type 0) (faults : D → ℕ) (may : C → ℕ → Bool) (lines : List RoundLine) (old new : RoundsValue D C) (replies : List (List ℕ)) → AnswersRound content moment images images_since faults may lines old new replies

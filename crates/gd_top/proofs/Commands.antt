@@ -1,18 +1,24 @@
--- Which words replay a run of events.
-use Rattle.std.proofs.Common.{◌≡◌, ℕ, List, true, false, Option, Some, None, ap}
-use Rattle.std.specs.Option.{option_map_or}
+-- What is known of a run by the words that name its verb.
+use Rattle.std.proofs.Common.{◌≡◌, ℕ, List, Bool, Option, Some, None, ap, sym, subst, ◌∙◌, option_map, option_and_then}
+use Rattle.gd_runs.proofs.Rounds.{some_same, no_some}
 use Rattle.gd_words.specs.declared.verbs.Command.{Command}
-use Rattle.gd_words.specs.declared.verbs.Command.TheVariants as command
-use Rattle.gd_words.specs.declared.verbs.Serve.{Serve}
-use Rattle.gd_words.specs.declared.verbs.Replay.{Replay}
 use Rattle.gd_words.specs.Words.{command_of}
-use Rattle.gd_top.specs.Words.{is_replay, replays}
+use Rattle.gd_words.specs.Verbs.{Verb, verb_in, file_of, verb_of, path_of}
+use Rattle.gd_top.specs.declared.status.Status.{Status}
+use Rattle.gd_top.specs.Verbs.{PrintsAt}
 
-pub serves_words : (words : List (List ℕ)) (s : Serve) → command_of words ≡ Some (command.Serve s) → replays words ≡ true → ⊥
-serves_words words s is replay = let e : replays words ≡ false = ap (λ (o : Option Command). option_map_or is_replay o false) is in cc
+-- the words name the file that their command names
+pub path_known : (words : List (List ℕ)) (c : Command) → command_of words ≡ Some c → path_of words ≡ file_of c
+path_known words c is = ap (λ (o : Option Command). option_and_then file_of o) is
 
-pub replays_words : (words : List (List ℕ)) (r : Replay) → command_of words ≡ Some (command.Replay r) → replays words ≡ false → ⊥
-replays_words words r is serve = let e : replays words ≡ true = ap (λ (o : Option Command). option_map_or is_replay o false) is in cc
+-- words out of the grammar have no verb
+pub none_known : (v : Verb) (words : List (List ℕ)) → command_of words ≡ None → verb_of words ≡ Some v → ⊥
+none_known v words is named = no_some (sym (ap (λ (o : Option Command). option_map verb_in o) is) ∙ named)
 
-pub no_words : (words : List (List ℕ)) → command_of words ≡ None → replays words ≡ true → ⊥
-no_words words is replay = let e : replays words ≡ false = ap (λ (o : Option Command). option_map_or is_replay o false) is in cc
+module _ (v : Verb) (s : Status) (may : ℕ → Bool) (content : List ℕ → Option (List ℕ)) (images : List ℕ → List ℕ → Type 0) (rises : ℕ → Type 0) (idle : Type 0) (left old new : Option (List ℕ)) where
+  -- what the verb of a command printed over the file that it names
+  pub verb_known : (words : List (List ℕ)) (c : Command) → command_of words ≡ Some c → verb_of words ≡ Some v → PrintsAt (verb_in c) s may content images (file_of c) rises idle left old new → PrintsAt v s may content images (path_of words) rises idle left old new
+  verb_known words c is named printed =
+      let same : verb_in c ≡ v = some_same (sym (ap (λ (o : Option Command). option_map verb_in o) is) ∙ named) in
+      subst (λ (path : Option (List ℕ)). PrintsAt v s may content images path rises idle left old new) (sym (path_known words c is))
+      (subst (λ (w : Verb). PrintsAt w s may content images (file_of c) rises idle left old new) same printed)

@@ -2,6 +2,7 @@
 use Rattle.std.proofs.Common.{◌≡◌, ℕ, ◌+◌, ◌*◌, ◌<◌, ◌≤◌, Bool, true, List, [], length, Option, Some, None, IfSome, refl, sym, subst, ap, ◌∙◌, arith, length-append, Result, Ok, Err, IsErrAnd}
 use Rattle.std.specs.Io.KnownBytes.{prepend_known}
 use Rattle.std.proofs.KnownBytes.{Consumes-nil}
+use Rattle.gd_base.specs.Counts.{RoseBy}
 use Rattle.gd_prim.specs.declared.Batch.{Batch}
 use Rattle.gd_input.specs.declared.line.RoundLine.{RoundLine}
 use Rattle.gd_input.specs.declared.round.Round.{Round}
@@ -17,8 +18,9 @@ use Rattle.gd_input.specs.declared.fault.InputFault.TheVariants as input
 use Rattle.gd_top.specs.declared.stop.Stop.{Stop}
 use Rattle.gd_top.specs.declared.stop.Stop.TheVariants as stop
 use Rattle.gd_top.specs.Stops.{stop_of}
-use Rattle.gd_top.specs.Held.{HoldsAs, IsAtStart, RoseBy}
-use Rattle.gd_top.specs.Serves.{Serves, ServesFront, ServesRounds, Answers, AnswersFront, ServedUpto}
+use Rattle.gd_top.specs.Opened.{HoldsAs, IsAtStart}
+use Rattle.gd_top.specs.Answered.{Answers, AnswersFront, ServedUpto}
+use Rattle.gd_top.specs.Serves.{Serves, ServesFront, ServesRounds}
 use Rattle.gd_top.proofs.Served.{served_none, served_more, served_all, served_rounds, front_of_rounds, front_in_round}
 
 module _ (loaded : List Batch) (may now : ℕ → Bool) (same : now ≡ may) (old mid new : Option (List ℕ)) (a b c : ℕ) (s : State) (k : ℕ) (t : State) (n : ℕ) where

@@ -9,4 +9,5 @@ pub mod Complete
 pub mod Plain
 pub mod Split
 pub mod Replayed
+pub mod Framed
 pub mod Commands

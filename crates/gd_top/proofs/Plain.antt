@@ -4,7 +4,7 @@ use Rattle.gd_defs.specs.Lines.{refusal, count_json}
 use Rattle.gd_runs.specs.Request.{change_refusal}
 use Rattle.gd_runs.specs.Legal.{History, batches}
 use Rattle.gd_runs.specs.Explained.{Outcome, no_request, no_memory, stored, refused, late, in_doubt, not_tried, answered, Prints}
-use Rattle.gd_replay_laws.proofs.Shapes.{read_each}
+use Rattle.gd_core_laws.proofs.Shapes.{read_each}
 use Rattle.gd_replay_laws.proofs.Plain.{plain_ok, plain_cursor, plain_err, plain_refusal}
 use Rattle.gd_replay_laws.proofs.Faults.{plain_fault, plain_memory, plain_disk}
 pub use Rattle.gd_replay_laws.proofs.Plain.{Plain}

@@ -1,38 +1,17 @@
 -- Fronts of what is printed.
 use Rattle.std.proofs.Common.{◌≡◌, ℕ, zero, suc, ◌+◌, ◌<◌, ◌≤◌, List, [], ◌∷◌, ◌++◌, length, map, take, drop, slice_get, get_or, Option, Some, option_map, Result, Ok, Err, OnErr, refl, sym, ap, subst, ◌∙◌, arith, append_assoc, append-nil, take_all, codes, decimal}
-use Rattle.std.proofs.lemmas.List.{take-append-drop}
 use Rattle.std.proofs.lemmas.Grind.{flat_map-append}
 use Rattle.std.proofs.lemmas.Option.{slice_get-get_or}
 use Rattle.std.proofs.KnownBytes.{Appends-trans}
 use Rattle.std.specs.Io.KnownBytes.{Appends}
 use Rattle.gd_runs.specs.Explained.{memory_line, late_line}
 use Rattle.gd_runs.proofs.Rounds.{some_same, no_some}
-use Rattle.gd_caller.specs.declared.replies.RoundReply.{RoundReply}
-use Rattle.gd_caller.specs.Replies.{round_text, no_memory}
+use Rattle.gd_round_lines.specs.declared.replies.RoundReply.{RoundReply}
+use Rattle.gd_round_lines.specs.Replies.{round_text, no_memory}
 use Rattle.gd_caller.specs.Served.{printed}
 use Rattle.gd_top.specs.Late.{late_front}
-use Rattle.gd_top.specs.Serves.{GainsFront}
-
-pub at_err : {T E P : Type 0} (r : Result T E) → P → OnErr r P
-at_err (Ok x) p = tt
-at_err (Err e) p = p
-
--- the first so many bytes
-pub front_of : (old new : Option (List ℕ)) (bytes : List ℕ) (n : ℕ) → Appends old new (take n bytes) → GainsFront old new bytes
-front_of old new bytes n gained = record { piece = take n bytes; rest = drop n bytes; parts = take-append-drop n bytes; gained = gained }
-
--- a front of the first part
-pub front_first : (old new : Option (List ℕ)) (xs ys : List ℕ) → GainsFront old new xs → GainsFront old new (xs ++ ys)
-front_first old new xs ys front = record { piece = front.piece; rest = front.rest ++ ys; parts = sym (append_assoc front.piece front.rest ys) ∙ ap (λ (zs : List ℕ). zs ++ ys) front.parts; gained = front.gained }
-
--- the first part and a front of the second
-pub front_second : (old mid new : Option (List ℕ)) (xs ys : List ℕ) → Appends old mid xs → GainsFront mid new ys → GainsFront old new (xs ++ ys)
-front_second old mid new xs ys first front = record {
-  piece = xs ++ front.piece;
-  rest = front.rest;
-  parts = append_assoc xs front.piece front.rest ∙ ap (λ (zs : List ℕ). xs ++ zs) front.parts;
-  gained = Appends-trans old mid new xs front.piece first front.gained;
-}
+use Rattle.gd_outside.specs.Gains.{GainsFront}
+use Rattle.gd_outside.proofs.Fronts.{front_first, front_second}
 
 -- a line in pieces, and its newline
 pub pieces_line : (xs ys line : List ℕ) → xs ++ ys ++ 125 ∷ [] ≡ line → xs ++ (ys ++ 125 ∷ [] ++ 10 ∷ []) ≡ line ++ 10 ∷ []

@@ -1,6 +1,7 @@
 -- A run of events as the status tells it.
 use Rattle.std.proofs.Common.{◌≡◌, ℕ, List, [], ◌++◌, take, Bool, true, false, Option, Some, None, IfSome, Result, Ok, Err, OnOk, refl, sym, subst, ap, ◌∙◌, ◌⊎◌, inl, inr, ⊎_elim, append-nil, arith}
 use Rattle.std.specs.Option.{ForSome}
+use Rattle.gd_base.specs.Counts.{RoseBy}
 use Rattle.gd_prim.specs.declared.Batch.{Batch}
 use Rattle.gd_bytes.specs.File.{Meaning, not_store, damaged, groups, joined, meaning, StandsFor}
 use Rattle.gd_disk.specs.declared.shelf.ShelfFault.{ShelfFault}
@@ -15,15 +16,15 @@ use Rattle.gd_runs.proofs.Rounds.{some_same}
 use Rattle.gd_replay.specs.declared.stop.Stop.{Stop}
 use Rattle.gd_replay.specs.declared.stop.Stop.TheVariants as stop
 use Rattle.gd_replay.specs.Kept.{HasBatches, IsHindrance, KeepsAs}
-use Rattle.gd_replay.specs.Runs.{Accounts, Replays, ReplaysTaken, ReplaysFront, Loads}
+use Rattle.gd_replay.specs.Replays.{Accounts, Replays, ReplaysTaken, ReplaysFront}
 use Rattle.gd_replay.specs.Stops.{EndsAs, EndsBy}
 use Rattle.gd_top.specs.declared.status.Status.{Status}
 use Rattle.gd_top.specs.declared.status.Status.TheVariants as status
-use Rattle.gd_top.specs.Stops.{status_of_store, status_of_shelf}
+use Rattle.gd_top.specs.Stops.{status_of_store, status_of_shelf, status_of_events}
 use Rattle.gd_top.specs.Ends.{IsHindered, IsIdle, Causes}
-use Rattle.gd_top.specs.Held.{MayMean, DoesMean, RoseBy}
+use Rattle.gd_top.specs.Held.{Loads, MayMean, DoesMean}
 use Rattle.gd_top.specs.Kept.{Keeps}
-use Rattle.gd_top.specs.Replays.{status_of_events, PrintsEvents}
+use Rattle.gd_top.specs.Replays.{PrintsEvents}
 use Rattle.gd_top.proofs.Kept.{keeps_refused}
 
 -- ---- a status that is not one of these

@@ -3,6 +3,7 @@ use Rattle.std.proofs.Common.{◌≡◌, ℕ, zero, suc, ◌+◌, Bool, true, Li
 use Rattle.std.proofs.lemmas.List.{length-map}
 use Rattle.std.proofs.KnownBytes.{Appends-trans, Appends-nil, Appends-kept}
 use Rattle.std.specs.Io.KnownBytes.{Appends, Keeps}
+use Rattle.gd_base.specs.Counts.{RoseBy}
 use Rattle.gd_prim.specs.declared.Batch.{Batch}
 use Rattle.gd_prim.specs.Builtin.{builtin}
 use Rattle.gd_prim.specs.WellFormed.{all_follow}
@@ -11,12 +12,14 @@ use Rattle.gd_runs.specs.Explained.{Numbered, pieces, numbered, lines_of, memory
 use Rattle.gd_input.specs.declared.line.RoundLine.{RoundLine}
 use Rattle.gd_input.specs.declared.round.Round.{Round}
 use Rattle.gd_input.specs.Rounds.{AreKept, in_round, TakesRound}
-use Rattle.gd_caller.specs.Replies.{no_memory}
+use Rattle.gd_round_lines.specs.Replies.{no_memory}
 use Rattle.gd_round_laws.specs.Rounds.{ServesRound, RoundsStand, IsAccounted, passed}
 use Rattle.gd_round_laws.proofs.Rounds.{rounds_begin, rounds_go_on, rounds_are_accounted, rest_is_passed, first_rounds_are_within}
 use Rattle.gd_round_laws.proofs.Counts.{fault_count-append}
-use Rattle.gd_top.specs.Held.{HoldsAs, RoseBy}
-use Rattle.gd_top.specs.Serves.{printed, Accounts, Serves, ServesFront, ServesRounds, Answers, AnswersFront, ServedUpto}
+use Rattle.gd_caller.specs.Served.{printed}
+use Rattle.gd_top.specs.Opened.{HoldsAs}
+use Rattle.gd_top.specs.Answered.{Answers, AnswersFront, ServedUpto}
+use Rattle.gd_top.specs.Serves.{Accounts, Serves, ServesFront, ServesRounds}
 use Rattle.gd_top.proofs.Printed.{printed-append, length-passed}
 use Rattle.gd_top.proofs.Split.{told_is}
 

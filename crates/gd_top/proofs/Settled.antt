@@ -8,7 +8,8 @@ use Rattle.gd_runs.specs.Legal.{History}
 use Rattle.gd_runs.specs.Explained.{Run, Holds}
 use Rattle.gd_writer.specs.Parts.{Tells}
 use Rattle.gd_caller.specs.Served.{StandsForState}
-use Rattle.gd_top.specs.Held.{HoldsAs, Leaves, Loads}
+use Rattle.gd_top.specs.Held.{Leaves, Loads}
+use Rattle.gd_top.specs.Opened.{HoldsAs}
 
 -- what holds of files holds of fewer ones
 pub holds_fewer : (may : ℕ → Bool) (h : History) (runs : List Run) (files fewer : List ℕ → Type 0) → ((file : List ℕ) → fewer file → files file) → Holds may h runs files → Holds may h runs fewer

@@ -1,13 +1,13 @@
 -- How a run ended, said of what stands further out.
 use Rattle.std.proofs.Common.{◌≡◌, ◌≤◌, ◌+◌, ◌-◌, ◌^◌, min, ℕ, Bool, List, Option, Some, None, IfSome, subst, inl, inr, ⊎_elim, arith}
-use Rattle.gd_base.specs.Counts.{Rose}
+use Rattle.gd_base.specs.Counts.{Rose, RoseBy}
 use Rattle.gd_prim.specs.declared.Batch.{Batch}
 use Rattle.gd_runs.specs.Legal.{History}
 use Rattle.gd_runs.specs.Explained.{Numbered, Run}
 use Rattle.gd_top.specs.declared.status.Status.{Status}
-use Rattle.gd_top.specs.Held.{RoseBy, Loads, Leaves, MayMean, DoesMean}
-use Rattle.gd_top.specs.Serves.{Accounts, Serves, ServesFront, ServesRounds}
-use Rattle.gd_top.specs.Ends.{Prints, Causes}
+use Rattle.gd_top.specs.Held.{Loads, Leaves, MayMean, DoesMean}
+use Rattle.gd_top.specs.Ends.{Causes}
+use Rattle.gd_top.specs.Serves.{Accounts, Serves, ServesFront, ServesRounds, PrintsLines}
 use Rattle.gd_top.proofs.Settled.{holds_fewer}
 
 -- ---- what was printed
@@ -37,13 +37,12 @@ module _ (may : ℕ → Bool) (begins begins' : List Batch → Type 0) (leaves l
   serves_rounds old new None s = tt
   serves_rounds old new (Some input) s = record { rounds = s.rounds; output = s.output; accounts = accounts _ s.output s.accounts; gained = s.gained }
 
-  pub prints_weaker : (s : Status) (idle idle' : Type 0) (a b c d : Option (List ℕ)) → (idle → idle') → Prints s may begins leaves rises idle a b c d → Prints s may begins' leaves' rises' idle' a b c d
-  prints_weaker s idle idle' a b c d still p = record {
-    done = λ is. serves c d a (p.done is);
-    at_end = p.at_end;
-    rounds = λ is. serves_rounds c d a (p.rounds is);
-    front = λ is. serves_front c d a (p.front is);
-    memory = λ is. ⊎_elim (λ i. inl (still i)) (λ f. inr (serves_front c d a f)) (p.memory is);
+  pub prints_weaker : (s : Status) (idle idle' : Type 0) (known old new : Option (List ℕ)) → (idle → idle') → PrintsLines s may begins leaves rises idle known old new → PrintsLines s may begins' leaves' rises' idle' known old new
+  prints_weaker s idle idle' known old new still p = record {
+    done = λ is. serves old new known (p.done is);
+    rounds = λ is. serves_rounds old new known (p.rounds is);
+    front = λ is. serves_front old new known (p.front is);
+    memory = λ is. ⊎_elim (λ i. inl (still i)) (λ f. inr (serves_front old new known f)) (p.memory is);
     nothing = λ is. still (p.nothing is);
   }
 

@@ -1,13 +1,8 @@
 -- How a run ends, and why.
-use Rattle.std.specs.Prelude.{◌≡◌, ◌⊎◌, ℕ, List, Bool, true, false, Option, IfSome}
-use Rattle.std.specs.Io.KnownBytes.{IsAtEnd}
-use Rattle.gd_prim.specs.declared.Batch.{Batch}
+use Rattle.std.specs.Prelude.{◌≡◌, ◌⊎◌, ℕ, Bool, true, false}
 use Rattle.gd_bytes.specs.File.{Meaning, not_store, damaged}
-use Rattle.gd_runs.specs.Legal.{History}
-use Rattle.gd_runs.specs.Explained.{Run}
 use Rattle.gd_top.specs.declared.status.Status.{Status}
 use Rattle.gd_top.specs.declared.status.Status.TheVariants as status
-use Rattle.gd_top.specs.Serves.{Serves, ServesFront, ServesRounds}
 
 -- A run with this status never began: its words were out of the grammar, or its store was not opened.
 abbrev pub is_refused : Status → Bool
@@ -32,15 +27,6 @@ IsHindered s = (s ≡ status.DiskFault) ⊎ (s ≡ status.Memory)
 pub record IsIdle {S K : Type 0} (source_old source_new : S) (sink_old sink_new : K) : Type 0 where
   pub source : source_new ≡ source_old
   pub sink : sink_new ≡ sink_old
-
--- What a run with this status printed.
-pub record Prints (s : Status) (may : ℕ → Bool) (begins : List Batch → Type 0) (leaves : History → List Run → Type 0) (rises : ℕ → Type 0) (idle : Type 0) (left_old left_new held_old held_new : Option (List ℕ)) : Type 0 where
-  pub done : s ≡ status.Done → IfSome left_old (Serves may begins leaves rises held_old held_new)
-  pub at_end : s ≡ status.Done → IsAtEnd left_new
-  pub rounds : (s ≡ status.ReadFault) ⊎ (s ≡ status.TooMuch) → IfSome left_old (ServesRounds may begins leaves rises held_old held_new)
-  pub front : is_stopped s ≡ true → IfSome left_old (ServesFront may begins leaves rises held_old held_new)
-  pub memory : s ≡ status.Memory → idle ⊎ IfSome left_old (ServesFront may begins leaves rises held_old held_new)
-  pub nothing : is_refused s ≡ true → idle
 
 -- Why a run has this status.
 pub record Causes (s : Status) (read_failed sink_failed disk_failed is_long : Type 0) (may_mean does_mean : Meaning → Type 0) : Type 0 where

@@ -1,17 +1,10 @@
 -- What a run finds in the file of its store, and what it leaves there.
-use Rattle.std.specs.Prelude.{◌≡◌, ℕ, List, [], Bool, true, Option, None, Some, IsSome, IsSomeAnd, option_and_then}
+use Rattle.std.specs.Prelude.{◌≡◌, ℕ, List, [], Bool, Option, None, Some, IsSome, IsSomeAnd, option_and_then}
 use Rattle.std.specs.Option.{ForSome}
 use Rattle.gd_prim.specs.declared.Batch.{Batch}
 use Rattle.gd_bytes.specs.File.{Meaning, meaning, StandsFor}
-use Rattle.gd_prim.specs.Builtin.{builtin}
-use Rattle.gd_prim.specs.WellFormed.{all_follow}
-use Rattle.gd_runs.specs.Core as core
-use Rattle.gd_runs.specs.Core.{State}
 use Rattle.gd_runs.specs.Legal.{History}
 use Rattle.gd_runs.specs.Explained.{Run, Holds}
-use Rattle.gd_caller.specs.Served.{StandsForState}
-pub use Rattle.gd_caller.specs.Writes.{RoseBy}
-use Rattle.gd_threads.specs.Served.{RoundsValue, state_at}
 
 -- ---- one file, whose content is told or not
 
@@ -56,15 +49,3 @@ MayMeanAt content (Some path) m = MayMean (content path) m
 abbrev pub IsSoundAt : (List ℕ → Option (List ℕ)) → Option (List ℕ) → Type 0
 IsSoundAt content None = Unit {0}
 IsSoundAt content (Some path) = IsSomeAnd (content path) (λ file. (bs : List Batch) × StandsFor file bs)
-
--- ---- on the way
-
--- what stands for a state of the core stands for this history, with or without the one write that is in doubt
-abbrev pub HoldsAs : (ℕ → Bool) → State → History → List Run → Type 0
-HoldsAs may s h runs = Holds may h runs (StandsForState s)
-
--- the run is before its first line, over a store that was just opened, whose batches may follow one another
-pub record IsAtStart {D C : Type 0} (r : RoundsValue D C) : Type 0 where
-  pub none : r.lines ≡ 0
-  pub opened : state_at r.side ≡ core.opened r.side.history.loaded
-  pub follow : all_follow builtin 0 r.side.history.loaded ≡ true

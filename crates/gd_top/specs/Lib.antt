@@ -1,9 +1,11 @@
+pub mod Answered
 pub mod Ends
 pub mod Held
 pub mod Kept
 pub mod Late
 pub mod Lines
+pub mod Opened
+pub mod Replays
 pub mod Serves
 pub mod Stops
-pub mod Words
-pub mod Replays
+pub mod Verbs

@@ -6,7 +6,7 @@ use Rattle.gd_input.specs.declared.line.RoundLine.{RoundLine}
 use Rattle.gd_input.specs.Rounds.{AreKept}
 use Rattle.gd_outside.specs.declared.Failed.{Failed}
 use Rattle.gd_threads.specs.Served.{RoundsValue, state_at}
-use Rattle.gd_top.specs.Serves.{Answers, AnswersFront}
+use Rattle.gd_top.specs.Answered.{Answers, AnswersFront}
 
 -- Lines of a round were answered over a run, and printed to a sink: all of them, or, where it stopped, a front of what they come to. It stops where the sink fails.
 pub record AnswersLines {D C : Type 0} (content : D → Option (List ℕ)) (faults : D → ℕ) (may : C → ℕ → Bool) (lines : List RoundLine) (old new : RoundsValue D C) (held_old held_new : Option (List ℕ)) (sink_old sink_new : ℕ) (result : Result (Unit {0}) Failed) : Type 0 where

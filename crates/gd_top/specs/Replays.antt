@@ -1,37 +1,26 @@
 -- What a run of events prints for its input, for each status, and what it leaves.
-use Rattle.std.specs.Prelude.{◌≡◌, ◌⊎◌, ℕ, List, Bool, true, Option, None, Some, Result, Ok, Err, IfSome}
+use Rattle.std.specs.Prelude.{◌≡◌, ◌⊎◌, ℕ, List, Bool, true, Option, None, Some, IfSome, IsTrue}
+use Rattle.std.specs.Option.{is_some}
 use Rattle.gd_prim.specs.declared.Batch.{Batch}
+use Rattle.gd_bytes.specs.File.{MayStandFor}
+use Rattle.gd_runs.specs.Legal.{batches}
+use Rattle.gd_runs.specs.Side.{doubt_groups}
 use Rattle.gd_runs.specs.Core.{State}
 use Rattle.gd_runs.specs.Owed.{MembersOf}
-use Rattle.gd_writer.specs.Parts.{Tells}
-use Rattle.gd_replay.specs.declared.stop.Stop.{Stop}
-use Rattle.gd_replay.specs.declared.stop.Stop.TheVariants as stop
-use Rattle.gd_replay.specs.Runs.{Replays, ReplaysTaken, ReplaysFront}
-use Rattle.gd_replay.specs.Stops.{Leaves}
+use Rattle.gd_replay.specs.Replays.{Replays, ReplaysTaken, ReplaysFront}
 use Rattle.gd_top.specs.declared.status.Status.{Status}
 use Rattle.gd_top.specs.declared.status.Status.TheVariants as status
-use Rattle.gd_top.specs.Stops.{status_of_store}
 use Rattle.gd_top.specs.Ends.{is_refused}
-
--- the status of a run of events that ended so
-abbrev pub status_of_events : Result (Unit {0}) Stop → Status
-status_of_events (Ok u) = status.Done
-status_of_events (Err stop.ReadFault) = status.ReadFault
-status_of_events (Err stop.SinkFault) = status.SinkFault
-status_of_events (Err stop.Memory) = status.Memory
-status_of_events (Err stop.TooMuch) = status.TooMuch
-status_of_events (Err (stop.Unopened f)) = status_of_store f
-status_of_events (Err (stop.Lost f)) = status_of_store f
 
 -- the store is in memory, or the shelf tells its file
 abbrev pub IsToldAt : (List ℕ → Option (List ℕ)) → Option (List ℕ) → Type 0
 IsToldAt content None = Unit {0}
-IsToldAt content (Some path) = Tells (content path)
+IsToldAt content (Some path) = IsTrue (is_some (content path))
 
--- where there is a file, all that a stop leaves of it stands for a state of the core
+-- where there is a file, all that a stop leaves of it stands for the history of a state of the core, with all or none of the group in doubt
 abbrev pub LeavesAt : (List ℕ → List ℕ → Type 0) → Option (List ℕ) → State → Type 0
 LeavesAt images None s = Unit {0}
-LeavesAt images (Some path) s = Leaves (images path) s
+LeavesAt images (Some path) s = (file : List ℕ) → images path file → MayStandFor (batches s.history) (doubt_groups s.doubt) file
 
 -- What a run of events with this status printed: the replies of the core to all lines of the input, or to those before which it stopped, or a front of those up to a line at which it stopped; and the count of faults rose by the lines that tell one. With a status of a store that is not opened it did not begin, or it stopped where the store was not opened again.
 pub record PrintsEvents (s : Status) (members : MembersOf) (may : ℕ → Bool) (begins : List Batch → Type 0) (leaves : State → Type 0) (rises : ℕ → Type 0) (idle : Type 0) (left held_old held_new : Option (List ℕ)) : Type 0 where

@@ -1,10 +1,13 @@
--- Why a run stops, and why it does not begin.
+-- Why a run stops, and why it does not begin, on the way.
+use Rattle.std.specs.Prelude.{Result, Ok, Err}
 use Rattle.gd_input.specs.declared.fault.InputFault.{InputFault}
 use Rattle.gd_input.specs.declared.fault.InputFault.TheVariants as input
 use Rattle.gd_disk.specs.declared.shelf.ShelfFault.{ShelfFault}
 use Rattle.gd_disk.specs.declared.shelf.ShelfFault.TheVariants as shelf
 use Rattle.gd_journal.specs.declared.fault.JournalFault.{JournalFault}
 use Rattle.gd_journal.specs.declared.fault.JournalFault.TheVariants as journal
+use Rattle.gd_replay.specs.declared.stop.Stop.{Stop as EventStop}
+use Rattle.gd_replay.specs.declared.stop.Stop.TheVariants as events
 use Rattle.gd_top.specs.declared.stop.Stop.{Stop}
 use Rattle.gd_top.specs.declared.stop.Stop.TheVariants as stop
 use Rattle.gd_top.specs.declared.status.Status.{Status}
@@ -34,3 +37,13 @@ status_of_store journal.DiskFault = status.DiskFault
 status_of_store journal.NotStore = status.NotStore
 status_of_store (journal.Damaged offset) = status.Damaged offset
 status_of_store journal.Memory = status.Memory
+
+-- the status of a run of events that ended so
+abbrev pub status_of_events : Result (Unit {0}) EventStop → Status
+status_of_events (Ok u) = status.Done
+status_of_events (Err events.ReadFault) = status.ReadFault
+status_of_events (Err events.SinkFault) = status.SinkFault
+status_of_events (Err events.Memory) = status.Memory
+status_of_events (Err events.TooMuch) = status.TooMuch
+status_of_events (Err (events.Unopened f)) = status_of_store f
+status_of_events (Err (events.Lost f)) = status_of_store f

@@ -4,9 +4,9 @@
 pub mod opening;
 pub mod pace;
 pub mod printing;
+pub mod program;
 pub mod replay;
 pub mod rounds;
 pub mod serve;
 pub mod status;
-pub mod steady;
 pub mod stop;

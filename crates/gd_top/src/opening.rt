@@ -1,66 +1,33 @@
-//! The store is opened, and a run is served over it.
-ghost use Rattle.std.specs.Prelude.{◌≡◌, ◌≢◌, ◌≤◌, ◌^◌, ℕ, List, false, [], length, IfSome};
-ghost use Rattle.std.specs.Option.{is_some};
-ghost use Rattle.gd_base.specs.Counts.{Rose};
+//! The frame of every verb: the store that a command names is opened, the verb runs over its disk, and the disk is put back.
+ghost use Rattle.std.specs.Prelude.{◌≡◌, ◌≢◌, ◌≤◌, ◌^◌, ℕ, List, false, [], length, None, Some, IfSome};
+ghost use Rattle.std.specs.Io.KnownBytes.{IsAtEnd};
+ghost use Rattle.gd_base.specs.Counts.{Rose, RoseBy};
 ghost use Rattle.gd_bytes.specs.Disk.{HoldsSame};
-ghost use Rattle.gd_top.specs.Ends.{IsIdle, Prints, Causes};
-ghost use Rattle.gd_threads.specs.Served.{state_at};
+ghost use Rattle.gd_words.specs.Verbs.{verb_in, file_of};
+ghost use Rattle.gd_top.specs.Ends.{IsIdle, Causes};
+ghost use Rattle.gd_top.specs.Held.{MayMean, MayMeanAt, DoesMean, told_at};
 ghost use Rattle.gd_top.specs.Kept.{Keeps};
-ghost use Rattle.gd_top.specs.Held.{Loads, Leaves, MayMean, DoesMean, RoseBy, HoldsAs, IsAtStart};
+ghost use Rattle.gd_top.specs.Verbs.{PrintsOver, PrintsAt};
 
 use crate::pace::Pace;
-use crate::rounds::serve_rounds;
+use crate::replay::replay_over;
+use crate::serve::serve_over;
 use crate::status::Status;
-use crate::steady::SteadyDisk;
 use gd_base::text::Text;
 use gd_disk::disk::Disk;
 use gd_disk::shelf::Shelf;
+use gd_disk::steady_disk::SteadyDisk;
 use gd_outside::clock::Clock;
 use gd_outside::gate::Gate;
 use gd_outside::sink::Sink;
 use gd_outside::source::Source;
-use gd_threads::rounds::Rounds;
+use gd_words::verbs::Command;
 use std::alloc::Global;
 use std::sync::Wait;
 use std::thread::Threads;
 
-/// Serves the whole input, and says how that ended.
-fn serve_all<
-    R: Threads + Wait + Sync,
-    D: Disk + Send,
-    S: Source,
-    K: Sink,
-    C: Clock + Send,
-    G: Gate,
->(
-    rt: &R,
-    alloc: Global,
-    gate: &G,
-    rounds: &mut Rounds<D, C>,
-    source: &mut S,
-    sink: &mut K,
-) -> Status
-    requires { IsAtStart rounds.old }
-    ensures prints { Prints result (C.may rounds.old.side.clock) (λ loaded. loaded ≡ rounds.old.side.history.loaded)
-        (HoldsAs (C.may rounds.old.side.clock) (state_at rounds.new.side)) (RoseBy (D.faults rounds.old.side.log.disk) (D.faults rounds.new.side.log.disk)) ⊥
-        (S.left source.old) (S.left source.new) (K.held sink.old) (K.held sink.new) }
-    ensures causes { Causes result (Rose (S.faults source.old) (S.faults source.new))
-        (Rose (K.faults sink.old) (K.faults sink.new)) ⊥
-        (IfSome (S.left source.old) (λ input. 2 ^ 40 ≤ length input)) (λ _. ⊥) (λ _. ⊥) }
-    ensures used { result ≢ Status.Usage }
-    ensures loaded { rounds.new.side.history.loaded ≡ rounds.old.side.history.loaded }
-    ensures told { is_some (D.content rounds.new.side.log.disk) ≡ is_some (D.content rounds.old.side.log.disk) }
-    ensures later { D.faults rounds.old.side.log.disk ≤ D.faults rounds.new.side.log.disk }
-{
-    match serve_rounds(rt, alloc, gate, rounds, source, sink) {
-        Ok(()) => Status::Done,
-        Err(stop) => Status::of_stop(stop),
-    }
-}
-
-/// Opens the store that a disk holds, before the first line is read, and serves the whole input over it at a pace. The
-/// disk is handed back, however it ends.
-fn serve_over<
+/// Runs the verb of a command over the store that a disk holds. The disk is handed back, however it ends.
+fn run_over<
     R: Threads + Wait + Sync,
     D: Disk + Send,
     S: Source,
@@ -70,35 +37,39 @@ fn serve_over<
 >(
     rt: &R,
     alloc: Global,
+    command: &Command,
     disk: D,
-    pace: Pace,
     source: &mut S,
     sink: &mut K,
     clock: C,
     gate: &G,
 ) -> (Status, D)
-    ensures prints { Prints result.0 (C.may clock) (Loads (D.content disk)) (Leaves (C.may clock) (D.content disk) (D.images result.1))
-        (RoseBy (D.faults disk) (D.faults result.1)) (IsIdle source.old source.new sink.old sink.new)
-        (S.left source.old) (S.left source.new) (K.held sink.old) (K.held sink.new) }
+    ensures prints { PrintsOver (verb_in command.now) result.0 (C.may clock)
+        (D.content disk) (D.images result.1) (RoseBy (D.faults disk) (D.faults result.1))
+        (IsIdle source.old source.new sink.old sink.new)
+        (S.left source.old) (K.held sink.old) (K.held sink.new) }
+    ensures at_end { result.0 ≡ Status.Done → IsAtEnd (S.left source.new) }
     ensures causes { Causes result.0 (Rose (S.faults source.old) (S.faults source.new))
-        (Rose (K.faults sink.old) (K.faults sink.new)) (Rose (D.faults disk) (D.faults result.1))
-        (IfSome (S.left source.old) (λ input. 2 ^ 40 ≤ length input)) (MayMean (D.content disk)) (DoesMean (D.content disk)) }
+        (Rose (K.faults sink.old) (K.faults sink.new))
+        (Rose (D.faults disk) (D.faults result.1))
+        (IfSome (S.left source.old) (λ input. 2 ^ 40 ≤ length input))
+        (MayMean (D.content disk)) (DoesMean (D.content disk)) }
     ensures used { result.0 ≢ Status.Usage }
-    ensures kept { Keeps (D.content disk) (D.content result.1) (D.images disk) (D.images result.1) }
-    ensures later { D.faults disk ≤ D.faults result.1 }
+    ensures kept { Keeps (D.content disk) (D.content result.1)
+        (D.images disk) (D.images result.1) }
 {
-    match Rounds::start(rt, alloc, disk, clock, pace.budget, pace.workers) {
-        Ok(mut rounds) => {
-            let status = serve_all(rt, alloc, gate, &mut rounds, source, sink);
-            let (disk, _clock) = rounds.close(rt);
-            (status, disk)
+    match command {
+        Command::Serve(settings) => {
+            let pace = Pace::new(settings.workers, settings.budget);
+            serve_over(rt, alloc, disk, pace, source, sink, clock, gate)
         }
-        Err((fault, disk, _clock)) => (Status::of_store(fault), disk),
+        Command::Replay(_) => replay_over(rt, alloc, disk, source, sink, clock),
     }
 }
 
-/// Serves the whole input over the store that a path of a shelf holds. The device is put back, however it ends.
-pub fn serve_in_file<
+/// Runs the verb of a command over the store that a path of a shelf holds. The device is put back,
+/// however it ends.
+fn run_in_file<
     R: Threads + Wait + Sync,
     S: Source,
     K: Sink,
@@ -108,8 +79,8 @@ pub fn serve_in_file<
 >(
     rt: &R,
     alloc: Global,
+    command: &Command,
     path: &Text,
-    pace: Pace,
     source: &mut S,
     sink: &mut K,
     shelf: &mut F,
@@ -118,23 +89,27 @@ pub fn serve_in_file<
 ) -> Status
     requires { (other : List ℕ) → F.is_out shelf.old other ≡ false }
     ensures back { (other : List ℕ) → F.is_out shelf.new other ≡ false }
-    ensures prints { Prints result (C.may clock) (Loads (F.content shelf.old path.now))
-        (Leaves (C.may clock) (F.content shelf.old path.now) (F.images shelf.new path.now))
-        (RoseBy (F.faults shelf.old) (F.faults shelf.new)) (IsIdle source.old source.new sink.old sink.new)
-        (S.left source.old) (S.left source.new) (K.held sink.old) (K.held sink.new) }
+    ensures prints { PrintsAt (verb_in command.now) result (C.may clock)
+        (F.content shelf.old) (F.images shelf.new) (Some path.now)
+        (RoseBy (F.faults shelf.old) (F.faults shelf.new))
+        (IsIdle source.old source.new sink.old sink.new)
+        (S.left source.old) (K.held sink.old) (K.held sink.new) }
+    ensures at_end { result ≡ Status.Done → IsAtEnd (S.left source.new) }
     ensures causes { Causes result (Rose (S.faults source.old) (S.faults source.new))
-        (Rose (K.faults sink.old) (K.faults sink.new)) (Rose (F.faults shelf.old) (F.faults shelf.new))
+        (Rose (K.faults sink.old) (K.faults sink.new))
+        (Rose (F.faults shelf.old) (F.faults shelf.new))
         (IfSome (S.left source.old) (λ input. 2 ^ 40 ≤ length input))
         (MayMean (F.content shelf.old path.now)) (DoesMean (F.content shelf.old path.now)) }
     ensures used { result ≢ Status.Usage }
     ensures kept { Keeps (F.content shelf.old path.now) (F.content shelf.new path.now)
         (F.images shelf.old path.now) (F.images shelf.new path.now) }
-    ensures others { (other : List ℕ) → other ≢ path.now → HoldsSame (F.content shelf.old other) (F.content shelf.new other)
+    ensures others { (other : List ℕ) → other ≢ path.now
+        → HoldsSame (F.content shelf.old other) (F.content shelf.new other)
         (F.images shelf.old other) (F.images shelf.new other) }
 {
     match shelf.open_at(path) {
         Ok(device) => {
-            let (status, device) = serve_over(rt, alloc, device, pace, source, sink, clock, gate);
+            let (status, device) = run_over(rt, alloc, command, device, source, sink, clock, gate);
             shelf.put_back(path, device);
             status
         }
@@ -142,17 +117,22 @@ pub fn serve_in_file<
     }
 }
 
-/// Serves the whole input over an empty store that is kept in memory alone.
-pub fn serve_in_memory<
-    R: Threads + Wait + Sync,
-    S: Source,
-    K: Sink,
-    C: Clock + Send + Drop,
-    G: Gate,
->(rt: &R, alloc: Global, pace: Pace, source: &mut S, sink: &mut K, clock: C, gate: &G) -> Status
-    ensures prints { Prints result (C.may clock) (λ loaded. loaded ≡ []) (λ _ _. Unit {0}) (RoseBy 0 0)
+/// Runs the verb of a command over an empty store that is kept in memory alone, whatever a shelf
+/// may hold.
+fn run_in_memory<R: Threads + Wait + Sync, S: Source, K: Sink, C: Clock + Send + Drop, G: Gate>(
+    rt: &R,
+    alloc: Global,
+    command: &Command,
+    source: &mut S,
+    sink: &mut K,
+    clock: C,
+    gate: &G,
+) -> Status
+    ensures prints { PrintsOver (verb_in command.now) result (C.may clock)
+        (Some []) (λ _. ⊥) (RoseBy 0 0)
         (IsIdle source.old source.new sink.old sink.new)
-        (S.left source.old) (S.left source.new) (K.held sink.old) (K.held sink.new) }
+        (S.left source.old) (K.held sink.old) (K.held sink.new) }
+    ensures at_end { result ≡ Status.Done → IsAtEnd (S.left source.new) }
     ensures causes { Causes result (Rose (S.faults source.old) (S.faults source.new))
         (Rose (K.faults sink.old) (K.faults sink.new)) ⊥
         (IfSome (S.left source.old) (λ input. 2 ^ 40 ≤ length input)) (λ _. ⊥) (λ _. ⊥) }
@@ -160,9 +140,55 @@ pub fn serve_in_memory<
 {
     match SteadyDisk::new(alloc) {
         Ok(disk) => {
-            let (status, _disk) = serve_over(rt, alloc, disk, pace, source, sink, clock, gate);
+            let (status, _disk) = run_over(rt, alloc, command, disk, source, sink, clock, gate);
             status
         }
         Err(_refused) => Status::Memory,
+    }
+}
+
+/// Runs the verb of a command over the store of the file that it names, or, where it names none,
+/// over an empty one in memory. The device of the file is put back, however it ends.
+pub fn run<R: Threads + Wait + Sync, S: Source, K: Sink, F: Shelf, C: Clock + Send + Drop, G: Gate>(
+    rt: &R,
+    alloc: Global,
+    command: &Command,
+    source: &mut S,
+    sink: &mut K,
+    shelf: &mut F,
+    clock: C,
+    gate: &G,
+) -> Status
+    requires { (path : List ℕ) → F.is_out shelf.old path ≡ false }
+    ensures back { (path : List ℕ) → F.is_out shelf.new path ≡ false }
+
+    // What the verb prints, as its clause of the top call has it.
+    ensures prints { PrintsAt (verb_in command.now) result (C.may clock)
+        (F.content shelf.old) (F.images shelf.new) (file_of command.now)
+        (RoseBy (F.faults shelf.old) (F.faults shelf.new))
+        (IsIdle source.old source.new sink.old sink.new)
+        (S.left source.old) (K.held sink.old) (K.held sink.new) }
+    ensures at_end { result ≡ Status.Done → IsAtEnd (S.left source.new) }
+
+    // Each status has its cause, and what is said of the file is so.
+    ensures causes { Causes result (Rose (S.faults source.old) (S.faults source.new))
+        (Rose (K.faults sink.old) (K.faults sink.new))
+        (Rose (F.faults shelf.old) (F.faults shelf.new))
+        (IfSome (S.left source.old) (λ input. 2 ^ 40 ≤ length input))
+        (MayMeanAt (F.content shelf.old) (file_of command.now))
+        (DoesMean (told_at (F.content shelf.old) (file_of command.now))) }
+    ensures used { result ≢ Status.Usage }
+
+    // The file keeps what it stood for, and the shelf every other path.
+    ensures kept { (path : List ℕ) → file_of command.now ≡ Some path
+        → Keeps (F.content shelf.old path) (F.content shelf.new path)
+        (F.images shelf.old path) (F.images shelf.new path) }
+    ensures others { (other : List ℕ) → file_of command.now ≢ Some other
+        → HoldsSame (F.content shelf.old other) (F.content shelf.new other)
+        (F.images shelf.old other) (F.images shelf.new other) }
+{
+    match command.file() {
+        Some(path) => { run_in_file(rt, alloc, command, path, source, sink, shelf, clock, gate) }
+        None => run_in_memory(rt, alloc, command, source, sink, clock, gate),
     }
 }

@@ -1,49 +1,20 @@
-//! Whole writes, and replies as they are printed.
-ghost use Rattle.std.specs.Prelude.{◌≡◌, ◌≤◌, ◌-◌, ◌∷◌, ◌++◌, [], ℕ, take, map, codes, decimal, OnOk, OnErr};
+//! Replies as they are printed.
+ghost use Rattle.std.specs.Prelude.{◌≡◌, ◌≤◌, ◌-◌, ◌∷◌, ◌++◌, [], map, codes, decimal, OnOk, OnErr};
 ghost use Rattle.std.specs.Io.KnownBytes.{Appends};
 ghost use Rattle.gd_base.specs.Counts.{Rose};
+ghost use Rattle.gd_outside.specs.Gains.{GainsFront};
 ghost use Rattle.gd_reply.specs.Replies.{failure_line};
 ghost use Rattle.gd_runs.specs.Explained.{late_line};
-ghost use Rattle.gd_caller.specs.Replies.{round_text, no_memory, reply_texts};
+ghost use Rattle.gd_round_lines.specs.Replies.{round_text, no_memory, reply_texts};
 ghost use Rattle.gd_caller.specs.Served.{printed};
 ghost use Rattle.gd_top.specs.Late.{late_front};
-ghost use Rattle.gd_top.specs.Serves.{GainsFront};
 
-use gd_caller::replies::{Replies, RoundReply};
 use gd_outside::Failed;
+use gd_outside::printing::{write_all, write_line};
 use gd_outside::sink::Sink;
 use gd_reply::reply::Failure;
+use gd_round_lines::replies::{Replies, RoundReply};
 use itoa::Buffer;
-
-/// Writes all bytes.
-fn write_all<K: Sink>(sink: &mut K, bytes: &[u8]) -> Result<(), Failed>
-    ensures all { OnOk result (Appends (K.held sink.old) (K.held sink.new) bytes.now) }
-    ensures front { OnErr result ((n : ℕ) × Appends (K.held sink.old) (K.held sink.new) (take n bytes.now)) }
-    ensures failed { OnErr result (Rose (K.faults sink.old) (K.faults sink.new)) }
-    ensures later { K.faults sink.old ≤ K.faults sink.new }
-{
-    let mut written = 0;
-    while written < bytes.len() {
-        let count = sink.write(&bytes[written..])?;
-        if count == 0 {
-            return Err(Failed);
-        }
-        written += count;
-    }
-    Ok(())
-}
-
-/// Prints a line and its newline.
-fn print_line<K: Sink>(sink: &mut K, line: &[u8]) -> Result<(), Failed>
-    ensures all { OnOk result (Appends (K.held sink.old) (K.held sink.new) (line.now ++ 10 ∷ [])) }
-    ensures front { OnErr result (GainsFront (K.held sink.old) (K.held sink.new) (line.now ++ 10 ∷ [])) }
-    ensures failed { OnErr result (Rose (K.faults sink.old) (K.faults sink.new)) }
-    ensures later { K.faults sink.old ≤ K.faults sink.new }
-{
-    write_all(sink, line)?;
-    write_all(sink, b"\n")?;
-    Ok(())
-}
 
 /// Prints a number in decimal digits, and behind it the end of an object and its newline.
 fn print_last_number<K: Sink>(sink: &mut K, n: u64) -> Result<(), Failed>
@@ -53,7 +24,7 @@ fn print_last_number<K: Sink>(sink: &mut K, n: u64) -> Result<(), Failed>
     ensures later { K.faults sink.old ≤ K.faults sink.new }
 {
     write_all(sink, Buffer::new().format(n).as_bytes())?;
-    print_line(sink, b"}")?;
+    write_line(sink, b"}")?;
     Ok(())
 }
 
@@ -116,7 +87,7 @@ fn print_reply<K: Sink>(sink: &mut K, reply: &RoundReply) -> Result<(), Failed>
     ensures later { K.faults sink.old ≤ K.faults sink.new }
 {
     match reply {
-        RoundReply::Line(line) => print_line(sink, line),
+        RoundReply::Line(line) => write_line(sink, line),
         RoundReply::Failed { failure, line } => print_failure(sink, *failure, *line),
         RoundReply::Late { line, entry } => print_late(sink, *line, *entry),
     }

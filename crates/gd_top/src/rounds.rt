@@ -3,11 +3,11 @@ ghost use Rattle.std.specs.Prelude.{◌≡◌, ◌≤◌, ◌<◌, ◌+◌, ◌^
 ghost use Rattle.std.specs.List.{All};
 ghost use Rattle.std.specs.Option.{is_some};
 ghost use Rattle.std.specs.Io.KnownBytes.{IsAtEnd};
-ghost use Rattle.gd_base.specs.Counts.{Rose};
+ghost use Rattle.gd_base.specs.Counts.{Rose, RoseBy};
 ghost use Rattle.gd_input.specs.Line.{IsShort};
 ghost use Rattle.gd_threads.specs.Served.{state_at};
-ghost use Rattle.gd_top.specs.Held.{HoldsAs, IsAtStart, RoseBy};
 ghost use Rattle.gd_top.specs.Lines.{AnswersLines};
+ghost use Rattle.gd_top.specs.Opened.{HoldsAs, IsAtStart};
 ghost use Rattle.gd_top.specs.Serves.{Serves, ServesFront, ServesRounds};
 
 use crate::printing::print_replies;

@@ -1,198 +1,98 @@
-//! The top call.
-ghost use Rattle.std.specs.Prelude.{◌≡◌, ◌≢◌, ◌↔◌, ◌≤◌, ◌<◌, ◌⊎◌, ◌^◌, ℕ, List, length, option_map, true, false, None, Some, IfSome, IsSomeAnd};
+//! The verb `serve`: lines are answered, round by round, over the store of a disk.
+ghost use Rattle.std.specs.Prelude.{◌≡◌, ◌≢◌, ◌≤◌, ◌^◌, length, IfSome};
+ghost use Rattle.std.specs.Option.{is_some};
 ghost use Rattle.std.specs.Io.KnownBytes.{IsAtEnd};
-ghost use Rattle.gd_base.specs.Counts.{Rose};
-ghost use Rattle.gd_bytes.specs.Disk.{HoldsSame};
-ghost use Rattle.gd_bytes.specs.File.{not_store, damaged};
-ghost use Rattle.gd_words.specs.Words.{command_of};
-ghost use Rattle.gd_top.specs.Ends.{IsHindered, IsIdle, Prints, Causes, is_refused, is_stopped};
-ghost use Rattle.gd_top.specs.Held.{BeginsWith, EndsWith, MayMeanAt, DoesMean, IsSoundAt, RoseBy, told_at};
+ghost use Rattle.gd_base.specs.Counts.{Rose, RoseBy};
+ghost use Rattle.gd_threads.specs.Served.{state_at};
+ghost use Rattle.gd_top.specs.Ends.{IsIdle, Causes};
+ghost use Rattle.gd_top.specs.Held.{Loads, Leaves, MayMean, DoesMean};
 ghost use Rattle.gd_top.specs.Kept.{Keeps};
-ghost use Rattle.gd_top.specs.Serves.{Serves, ServesFront, ServesRounds};
-ghost use Rattle.gd_runs.specs.Owed.{MembersOf};
-ghost use Rattle.gd_top.specs.Replays.{IsToldAt, LeavesAt, PrintsEvents};
-ghost use Rattle.gd_top.specs.Words.{path_of, replays};
+ghost use Rattle.gd_top.specs.Opened.{HoldsAs, IsAtStart};
+ghost use Rattle.gd_top.specs.Serves.{PrintsLines};
 
-use crate::opening::{serve_in_file, serve_in_memory};
 use crate::pace::Pace;
-use crate::replay::replay;
+use crate::rounds::serve_rounds;
 use crate::status::Status;
-use gd_base::text::Text;
-use gd_disk::shelf::Shelf;
+use gd_disk::disk::Disk;
 use gd_outside::clock::Clock;
 use gd_outside::gate::Gate;
 use gd_outside::sink::Sink;
 use gd_outside::source::Source;
-use gd_words::reader::command;
-use gd_words::verbs::Command;
+use gd_threads::rounds::Rounds;
 use std::alloc::Global;
 use std::sync::Wait;
 use std::thread::Threads;
 
-/// Serves the whole input over the store of a file, or, without one, over an empty store in memory, at a pace.
-fn serve<R: Threads + Wait + Sync, S: Source, K: Sink, F: Shelf, C: Clock + Send + Drop, G: Gate>(
+/// Serves the whole input, and says how that ended.
+fn serve_all<
+    R: Threads + Wait + Sync,
+    D: Disk + Send,
+    S: Source,
+    K: Sink,
+    C: Clock + Send,
+    G: Gate,
+>(
     rt: &R,
     alloc: Global,
-    file: Option<&Text>,
-    pace: Pace,
+    gate: &G,
+    rounds: &mut Rounds<D, C>,
     source: &mut S,
     sink: &mut K,
-    shelf: &mut F,
-    clock: C,
-    gate: &G,
 ) -> Status
-    requires { (path : List ℕ) → F.is_out shelf.old path ≡ false }
-    ensures back { (path : List ℕ) → F.is_out shelf.new path ≡ false }
-    ensures prints { let path = option_map (λ t. t.now) file.entry in
-        Prints result (C.may clock) (BeginsWith (F.content shelf.old) path)
-        (EndsWith (C.may clock) (F.content shelf.old) (F.images shelf.new) path)
-        (RoseBy (F.faults shelf.old) (F.faults shelf.new)) (IsIdle source.old source.new sink.old sink.new)
-        (S.left source.old) (S.left source.new) (K.held sink.old) (K.held sink.new) }
-    ensures causes { let path = option_map (λ t. t.now) file.entry in
-        Causes result (Rose (S.faults source.old) (S.faults source.new))
-        (Rose (K.faults sink.old) (K.faults sink.new)) (Rose (F.faults shelf.old) (F.faults shelf.new))
-        (IfSome (S.left source.old) (λ input. 2 ^ 40 ≤ length input))
-        (MayMeanAt (F.content shelf.old) path) (DoesMean (told_at (F.content shelf.old) path)) }
+    requires { IsAtStart rounds.old }
+    ensures prints { PrintsLines result (C.may rounds.old.side.clock) (λ loaded. loaded ≡ rounds.old.side.history.loaded)
+        (HoldsAs (C.may rounds.old.side.clock) (state_at rounds.new.side)) (RoseBy (D.faults rounds.old.side.log.disk) (D.faults rounds.new.side.log.disk)) ⊥
+        (S.left source.old) (K.held sink.old) (K.held sink.new) }
+    ensures at_end { result ≡ Status.Done → IsAtEnd (S.left source.new) }
+    ensures causes { Causes result (Rose (S.faults source.old) (S.faults source.new))
+        (Rose (K.faults sink.old) (K.faults sink.new)) ⊥
+        (IfSome (S.left source.old) (λ input. 2 ^ 40 ≤ length input)) (λ _. ⊥) (λ _. ⊥) }
     ensures used { result ≢ Status.Usage }
-    ensures kept { (path : List ℕ) → option_map (λ t. t.now) file.entry ≡ Some path
-        → Keeps (F.content shelf.old path) (F.content shelf.new path) (F.images shelf.old path) (F.images shelf.new path) }
-    ensures others { (other : List ℕ) → option_map (λ t. t.now) file.entry ≢ Some other
-        → HoldsSame (F.content shelf.old other) (F.content shelf.new other)
-        (F.images shelf.old other) (F.images shelf.new other) }
+    ensures loaded { rounds.new.side.history.loaded ≡ rounds.old.side.history.loaded }
+    ensures told { is_some (D.content rounds.new.side.log.disk) ≡ is_some (D.content rounds.old.side.log.disk) }
+    ensures later { D.faults rounds.old.side.log.disk ≤ D.faults rounds.new.side.log.disk }
 {
-    match file {
-        Some(path) => serve_in_file(rt, alloc, path, pace, source, sink, shelf, clock, gate),
-        None => serve_in_memory(rt, alloc, pace, source, sink, clock, gate),
+    match serve_rounds(rt, alloc, gate, rounds, source, sink) {
+        Ok(()) => Status::Done,
+        Err(stop) => Status::of_stop(stop),
     }
 }
 
-/// Runs the program. With the words `serve` and its options it opens the store in the file that they name, or an empty
-/// one in memory, reads the input to its end, round by round, and prints one reply line for each line that is not
-/// blank, in the order of the lines: to a read at a dateline of the store, to a write at the moment of the clock, to any
-/// other line its refusal. The sessions of a round are run by as many workers as the words say, each on a thread of its
-/// own where one can be made, and held where the gate holds them. Where no memory is left for a reply, the reply line
-/// that says so is printed in its place; where the disk fails at a write, the line that says so. The sink is flushed at
-/// the end of each round. The status says how the run ended. With the words `replay` and its option it opens the store so
-/// too, reads the input to its end, line by line, carries each line out as an event of the core, on one thread, and prints
-/// its reply line; the sink is flushed at the end. The device of the file is put back on the shelf, however it ended.
-pub fn graphd<
+/// Opens the store that a disk holds, before the first line is read, and serves the whole input over it at a pace. The
+/// disk is handed back, however it ends.
+pub(crate) fn serve_over<
     R: Threads + Wait + Sync,
+    D: Disk + Send,
     S: Source,
     K: Sink,
-    F: Shelf,
     C: Clock + Send + Drop,
     G: Gate,
 >(
     rt: &R,
     alloc: Global,
-    words: &[Text],
+    disk: D,
+    pace: Pace,
     source: &mut S,
     sink: &mut K,
-    shelf: &mut F,
     clock: C,
     gate: &G,
-) -> Status
-    requires { (path : List ℕ) → F.is_out shelf.old path ≡ false }
-    ensures back { (path : List ℕ) → F.is_out shelf.new path ≡ false }
-
-    // The words are out of the grammar.
-    ensures usage { (result ≡ Status.Usage) → command_of words.now ≡ None }
-    ensures usage_found { command_of words.now ≡ None → (result ≡ Status.Usage) ⊎ (result ≡ Status.Memory) }
-
-    // Where lines are served: where the run did not begin, nothing was read and nothing printed.
-    ensures nothing { replays words.now ≡ false → is_refused result ≡ true → IsIdle source.old source.new sink.old sink.new }
-
-    // Where lines are served, and the input was read to its end, one legal history explains the whole output for it. It begins with what the
-    // file stood for; the file is left so that it stands for this history, with or without the write that is in doubt;
-    // and the shelf counted at least as many faults as lines tell.
-    ensures done { replays words.now ≡ false → result ≡ Status.Done → IfSome (S.left source.old) (Serves (C.may clock)
-        (BeginsWith (F.content shelf.old) (path_of words.now))
-        (EndsWith (C.may clock) (F.content shelf.old) (F.images shelf.new) (path_of words.now))
-        (RoseBy (F.faults shelf.old) (F.faults shelf.new)) (K.held sink.old) (K.held sink.new)) }
-    ensures at_end { result ≡ Status.Done → IsAtEnd (S.left source.new) }
-
-    // Where the input could not be read further, the lines of whole rounds were answered so, and no other.
-    ensures rounds { replays words.now ≡ false → (result ≡ Status.ReadFault) ⊎ (result ≡ Status.TooMuch) → IfSome (S.left source.old)
-        (ServesRounds (C.may clock) (BeginsWith (F.content shelf.old) (path_of words.now))
-        (EndsWith (C.may clock) (F.content shelf.old) (F.images shelf.new) (path_of words.now))
-        (RoseBy (F.faults shelf.old) (F.faults shelf.new)) (K.held sink.old) (K.held sink.new)) }
-
-    // At any stop what was printed is a front of an output that is explained so. Without memory the run may also not
-    // have begun.
-    ensures front { replays words.now ≡ false → is_stopped result ≡ true → IfSome (S.left source.old)
-        (ServesFront (C.may clock) (BeginsWith (F.content shelf.old) (path_of words.now))
-        (EndsWith (C.may clock) (F.content shelf.old) (F.images shelf.new) (path_of words.now))
-        (RoseBy (F.faults shelf.old) (F.faults shelf.new)) (K.held sink.old) (K.held sink.new)) }
-    ensures memory { replays words.now ≡ false → result ≡ Status.Memory → IsIdle source.old source.new sink.old sink.new
-        ⊎ IfSome (S.left source.old)
-        (ServesFront (C.may clock) (BeginsWith (F.content shelf.old) (path_of words.now))
-        (EndsWith (C.may clock) (F.content shelf.old) (F.images shelf.new) (path_of words.now))
-        (RoseBy (F.faults shelf.old) (F.faults shelf.new)) (K.held sink.old) (K.held sink.new)) }
-
-    // Where events are replayed, over a file that the shelf tells or without one, what was printed is what the definitions' core
-    // replies to the lines, from the batches on for which the file stood, and the file is left so that it stands for the state
-    // that they make, with or without the write that is in doubt; and the shelf counted at least as many faults as lines tell.
-    ensures events { replays words.now ≡ true → IsToldAt (F.content shelf.old) (path_of words.now) → (members : MembersOf)
-        → PrintsEvents result members (C.may clock) (BeginsWith (F.content shelf.old) (path_of words.now)) (LeavesAt (F.images shelf.new) (path_of words.now))
-        (RoseBy (F.faults shelf.old) (F.faults shelf.new)) (IsIdle source.old source.new sink.old sink.new) (S.left source.old) (K.held sink.old) (K.held sink.new) }
-
-    // Each fault has its cause.
-    ensures read_fault { result ≡ Status.ReadFault → Rose (S.faults source.old) (S.faults source.new) }
-    ensures sink_fault { result ≡ Status.SinkFault → Rose (K.faults sink.old) (K.faults sink.new) }
-    ensures disk_fault { result ≡ Status.DiskFault → Rose (F.faults shelf.old) (F.faults shelf.new) }
-    ensures too_much { result ≡ Status.TooMuch → IfSome (S.left source.old) (λ input. 2 ^ 40 ≤ length input) }
-
-    // What is said of the file is so, and is said where it is so, but for a failure of the disk or want of memory.
-    ensures not_store { result ≡ Status.NotStore → MayMeanAt (F.content shelf.old) (path_of words.now) not_store }
-    ensures damaged { (offset : ℕ) → result ≡ Status.Damaged offset
-        → MayMeanAt (F.content shelf.old) (path_of words.now) (damaged offset) }
-    ensures not_store_found { DoesMean (told_at (F.content shelf.old) (path_of words.now)) not_store
-        → (result ≡ Status.NotStore) ⊎ IsHindered result }
-    ensures damaged_found { (offset : ℕ) → DoesMean (told_at (F.content shelf.old) (path_of words.now)) (damaged offset)
-        → (result ≡ Status.Damaged offset) ⊎ IsHindered result }
-
-    // Whatever the status, the file keeps what it stood for, and one that stands for no batches is left alone.
-    ensures kept { (path : List ℕ) → path_of words.now ≡ Some path
-        → Keeps (F.content shelf.old path) (F.content shelf.new path) (F.images shelf.old path) (F.images shelf.new path) }
-
-    // The shelf keeps every other path.
-    ensures others { (other : List ℕ) → path_of words.now ≢ Some other
-        → HoldsSame (F.content shelf.old other) (F.content shelf.new other)
-        (F.images shelf.old other) (F.images shelf.new other) }
-
-    // With words of the grammar, no fault, a file that is told and stands for some batches or none at all, and input of
-    // a known length below 2^40, all is done but for want of memory.
-    ensures complete { command_of words.now ≢ None → ¬ Rose (S.faults source.old) (S.faults source.new)
-        → ¬ Rose (K.faults sink.old) (K.faults sink.new)
-        → ¬ Rose (F.faults shelf.old) (F.faults shelf.new)
-        → IsSoundAt (F.content shelf.old) (path_of words.now)
-        → IsSomeAnd (S.left source.old) (λ input. length input < 2 ^ 40)
-        → (result ≡ Status.Done) ⊎ (result ≡ Status.Memory) }
+) -> (Status, D)
+    ensures prints { PrintsLines result.0 (C.may clock) (Loads (D.content disk)) (Leaves (C.may clock) (D.content disk) (D.images result.1))
+        (RoseBy (D.faults disk) (D.faults result.1)) (IsIdle source.old source.new sink.old sink.new)
+        (S.left source.old) (K.held sink.old) (K.held sink.new) }
+    ensures at_end { result.0 ≡ Status.Done → IsAtEnd (S.left source.new) }
+    ensures causes { Causes result.0 (Rose (S.faults source.old) (S.faults source.new))
+        (Rose (K.faults sink.old) (K.faults sink.new)) (Rose (D.faults disk) (D.faults result.1))
+        (IfSome (S.left source.old) (λ input. 2 ^ 40 ≤ length input)) (MayMean (D.content disk)) (DoesMean (D.content disk)) }
+    ensures used { result.0 ≢ Status.Usage }
+    ensures kept { Keeps (D.content disk) (D.content result.1) (D.images disk) (D.images result.1) }
 {
-    match command(alloc, words) {
-        Ok(Some(Command::Serve(settings))) => serve(
-            rt,
-            alloc,
-            settings.file.as_ref(),
-            Pace::new(settings.workers, settings.budget),
-            source,
-            sink,
-            shelf,
-            clock,
-            gate,
-        ),
-        Ok(Some(Command::Replay(settings))) => {
-            replay(
-                rt,
-                alloc,
-                settings.file.as_ref(),
-                source,
-                sink,
-                shelf,
-                clock,
-            )
+    match Rounds::start(rt, alloc, disk, clock, pace.budget, pace.workers) {
+        Ok(mut rounds) => {
+            let status = serve_all(rt, alloc, gate, &mut rounds, source, sink);
+            let (disk, _clock) = rounds.close(rt);
+            (status, disk)
         }
-        Ok(None) => Status::Usage,
-        Err(_refused) => Status::Memory,
+        Err((fault, disk, _clock)) => (Status::of_store(fault), disk),
     }
 }

@@ -5,7 +5,7 @@ use gd_disk::file_shelf::FileShelf;
 use gd_outside::clock::FixedClock;
 use gd_outside::gate::Gate;
 use gd_outside::memory::{MemorySink, MemorySource};
-use gd_top::serve::graphd;
+use gd_top::program::graphd;
 use gd_top::status::Status;
 use std::alloc::Global;
 use std::fs::File;

@@ -13,7 +13,7 @@ use Rattle.gd_defs.specs.Reply.{Mark, mark_row, fitted}
 use Rattle.gd_order_laws.specs.Window.{Each, Apart}
 use Rattle.gd_order_laws.proofs.Rows.{meeting, of_objects, apart_rows}
 use Rattle.gd_order_laws.proofs.Sorted.{sorted_permutes}
-use Rattle.gd_window.specs.Laws.{places, defined, CarriesKeys, Carries, keys_at, with_values, IsMarkRow, AreRowsOf, ObjectsGivePages, RowsBehindAreAsDefined, behind_mark}
+use Rattle.gd_window.specs.Laws.{places, defined, CarriesKeys, Carries, keys_at, with_values, IsMarkRow, AreRowsOf, ObjectsGivePages, RowsBehindAreAsDefined, behind_mark, IsTold, ObjectsAreTold, MarksAreTold, RowsToldAreAsDefined}
 use Rattle.gd_window.proofs.Pages.{behind_defined, pages_given}
 
 keys_carry : (prims : List Primitive) (sort : List SortKey) (ps : List (Option ℕ)) → CarriesKeys prims sort (keys_at prims sort ps)
@@ -71,3 +71,24 @@ pub objects_behind : RowsBehindAreAsDefined
 objects_behind prims q mark os =
     behind_defined prims q.sort mark (option_map (λ m. with_values prims q.sort (mark_row prims q.sort m)) mark) (map (λ o. with_values prims q.sort (row_of prims q.sort 0 o)) os) (mark_is prims q.sort mark) (all_carry prims q os)
     ∙ ap (λ l. sorted_onto (defs.row_cmp prims q.sort) [] (behind_mark prims q.sort mark l)) (all_defined prims q os)
+
+-- ---- rows that are told
+
+pub objects_told : ObjectsAreTold
+objects_told prims sort o = object_defined prims sort o
+
+pub marks_told : MarksAreTold
+marks_told prims sort m = (mark_is prims sort (Some m)).1
+
+told_defined : (prims : List Primitive) (sort : List SortKey) (rows : List defs.Row) → Each (IsTold prims sort) rows → map defined (map (with_values prims sort) rows) ≡ rows
+told_defined prims sort [] all = refl
+told_defined prims sort (r ∷ rows) all = ap (λ s. s ∷ map defined (map (with_values prims sort) rows)) all.0 ∙ ap (λ l. r ∷ l) (told_defined prims sort rows all.1)
+
+told_carry : (prims : List Primitive) (sort : List SortKey) (rows : List defs.Row) → Each (Carries prims sort) (map (with_values prims sort) rows)
+told_carry prims sort [] = tt
+told_carry prims sort (r ∷ rows) = (keys_carry prims sort r.keys, told_carry prims sort rows)
+
+pub told_behind : RowsToldAreAsDefined
+told_behind prims q mark rows told =
+    behind_defined prims q.sort mark (option_map (λ m. with_values prims q.sort (mark_row prims q.sort m)) mark) (map (with_values prims q.sort) rows) (mark_is prims q.sort mark) (told_carry prims q.sort rows)
+    ∙ ap (λ l. sorted_onto (defs.row_cmp prims q.sort) [] (behind_mark prims q.sort mark l)) (told_defined prims q.sort rows told)

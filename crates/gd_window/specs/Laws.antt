@@ -87,3 +87,21 @@ abbrev pub RowsBehindAreAsDefined : Type 0
 RowsBehindAreAsDefined = (prims : List Primitive) (q : Asked) (mark : Option Mark) (os : List ℕ)
     → map defined (rows_behind (directions q.sort) (option_map (λ m. with_values prims q.sort (mark_row prims q.sort m)) mark) (map (λ o. with_values prims q.sort (row_of prims q.sort 0 o)) os))
     ≡ sorted_onto (defs.row_cmp prims q.sort) [] (behind_mark prims q.sort mark (map (row_of prims q.sort 0) os))
+
+-- a row is told by its keys with their values: it has a key for each sort key, and no link leads to it
+abbrev pub IsTold : List Primitive → List SortKey → defs.Row → Type 0
+IsTold prims sort r = defined (with_values prims sort r) ≡ r
+
+-- The row of an object is.
+abbrev pub ObjectsAreTold : Type 0
+ObjectsAreTold = (prims : List Primitive) (sort : List SortKey) (o : ℕ) → IsTold prims sort (row_of prims sort 0 o)
+
+-- So is that of a mark.
+abbrev pub MarksAreTold : Type 0
+MarksAreTold = (prims : List Primitive) (sort : List SortKey) (m : Mark) → IsTold prims sort (mark_row prims sort m)
+
+-- Of any rows that are told, those that come behind the row of a mark are, in their order, those that the definitions put in order behind the mark.
+abbrev pub RowsToldAreAsDefined : Type 0
+RowsToldAreAsDefined = (prims : List Primitive) (q : Asked) (mark : Option Mark) (rows : List defs.Row) → Each (IsTold prims q.sort) rows
+    → map defined (rows_behind (directions q.sort) (option_map (λ m. with_values prims q.sort (mark_row prims q.sort m)) mark) (map (with_values prims q.sort) rows))
+    ≡ sorted_onto (defs.row_cmp prims q.sort) [] (behind_mark prims q.sort mark rows)

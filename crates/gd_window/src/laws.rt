@@ -1,5 +1,5 @@
 //! Laws: each is the contract of a function that does nothing.
-ghost use Rattle.gd_window.specs.Laws.{ObjectsGivePages, RowsAreAsDefined, RowsBehindAreAsDefined, WindowsGivePages};
+ghost use Rattle.gd_window.specs.Laws.{MarksAreTold, ObjectsAreTold, ObjectsGivePages, RowsAreAsDefined, RowsBehindAreAsDefined, RowsToldAreAsDefined, WindowsGivePages};
 
 /// Rows that carry the values at the places of their keys are ordered as the definitions order rows.
 pub fn rows_are_as_defined()
@@ -19,4 +19,12 @@ pub fn objects_give_pages()
 /// The rows of objects that come behind the row of a mark, with their values, are those that the definitions put in order.
 pub fn rows_behind_are_as_defined()
     ensures { RowsBehindAreAsDefined }
+{}
+
+/// The rows of objects and of marks are told by their keys, and any such rows that come behind the row of a mark are those
+/// that the definitions put in order.
+pub fn rows_told_are_as_defined()
+    ensures objects { ObjectsAreTold }
+    ensures marks { MarksAreTold }
+    ensures behind { RowsToldAreAsDefined }
 {}

@@ -2,3 +2,4 @@ pub mod Options
 pub mod Parser
 pub mod Spelling
 pub mod Words
+pub mod Verbs

@@ -1,4 +1,7 @@
 //! What a command line can ask for.
+ghost use Rattle.std.specs.Prelude.{◌≡◌, option_map};
+ghost use Rattle.gd_words.specs.Verbs.{file_of};
+
 use gd_base::text::Text;
 
 /// Serve lines and rounds.
@@ -24,4 +27,16 @@ pub struct Replay {
 pub enum Command {
     Serve(Serve),
     Replay(Replay),
+}
+
+impl Command {
+    /// The path of the file that it names.
+    pub fn file(&self) -> Option<&Text>
+        ensures { option_map (λ t. t.now) result ≡ file_of self.now }
+    {
+        match self {
+            Command::Serve(serve) => serve.file.as_ref(),
+            Command::Replay(replay) => replay.file.as_ref(),
+        }
+    }
 }

@@ -13,7 +13,7 @@ use Rattle.gd_defs.specs.Asked.{place_named, context_of, member_property}
 use Rattle.gd_defs.specs.Change.{Change, Setting, create_word, connect_word, guid_member, target_in, setting_of, write_name, create_in, is_connect_form, is_fact_form, is_form, by_name, members_of, item_of, items_of, object_item, list_item, change_of}
 use Rattle.gd_defs.specs.Change as spelled
 use Rattle.gd_defs.specs.Write.{WriteRequest, unknown, scope_of, resolved_root, root_subject, carried_root, fitting, exec}
-use Rattle.gd_defs.specs.Write.Parts.{to_object, Item, as_spelled, its_id, its_guid, fact, connect, nested, several, ManyItems, no_more, and_then, Members, no_members, member, created, literal_target, new_target, target_of, has_fact, type_text, fact_item, identity_item, resolved, resolved_item, resolved_items}
+use Rattle.gd_defs.specs.Write.Parts.{to_object, Item, as_spelled, its_id, its_guid, fact, connect, nested, several, ManyItems, no_more, and_then, Members, no_members, member, created, literal_target, new_target, target_of, in_language_of, has_fact, type_text, fact_item, identity_item, resolved, resolved_item, resolved_items}
 use Rattle.gd_defs.specs.Write.Links.{Stamp, inserted, connected}
 use Rattle.gd_defs.specs.Write.Carried.{answered, Made, Subject, subject_of, created_text, carried, carried_item, carried_items}
 use Rattle.gd_tree.specs.Bounds.{json_depth, items_depth, members_depth}
@@ -183,9 +183,11 @@ mutual
   resolved_item-depth prims on path p spelled.blank i is = omega (arith, ap printed_item (ok_same (as_spelled null) i is))
   resolved_item-depth prims on path p (spelled.plain j) i is = fact-depth prims path on p j i is
   resolved_item-depth prims on path p (spelled.fact t ms) i is =
-      let r = steps (target_of prims path (expects_of p.expected) t) (λ r. Ok (fact p r (object ms))) i is in omega (arith, ap printed_item (ok_same (fact p r.value (object ms)) i r.then_gave))
+      let q = steps (in_language_of prims path p t) (λ q. target_of prims path (expects_of p.expected) t >>= λ r. Ok (fact q r (object ms))) i is in
+      let r = steps (target_of prims path (expects_of p.expected) t) (λ r. Ok (fact q.value r (object ms))) i q.then_gave in omega (arith, ap printed_item (ok_same (fact q.value r.value (object ms)) i r.then_gave))
   resolved_item-depth prims on path p (spelled.connect w t previous ms) i is =
-      let r = steps (target_of prims path (expects_of p.expected) t) (λ r. Ok (connect p w r previous ms)) i is in omega (arith, ap printed_item (ok_same (connect p w r.value previous ms) i r.then_gave))
+      let q = steps (in_language_of prims path p t) (λ q. target_of prims path (expects_of p.expected) t >>= λ r. Ok (connect q w r previous ms)) i is in
+      let r = steps (target_of prims path (expects_of p.expected) t) (λ r. Ok (connect q.value w r previous ms)) i q.then_gave in omega (arith, ap printed_item (ok_same (connect q.value w r.value previous ms) i r.then_gave))
   resolved_item-depth prims on path p (spelled.nested w c) i is =
       either (holds_values (expects_of p.expected)) _ (context_of prims p.expected (type_text c) >>= λ x. resolved prims None x path c >>= λ r. Ok (nested p w r)) (Ok i)
       (λ b err. not_ok _ i err)

@@ -10,7 +10,7 @@ use Rattle.gd_prim.specs.declared.Batch.{Batch}
 use Rattle.gd_prim.specs.Builtin.{builtin}
 use Rattle.gd_prim.specs.History.{prims_of, is_history}
 use Rattle.gd_prim.specs.Limits.{max_prims, max_batch}
-use Rattle.gd_prim.specs.WellFormed.{max_moment, refers_below, refers_back, may_hold, is_well_placed, first_bad, bad_place, may_follow, all_follow, succeeds_current}
+use Rattle.gd_prim.specs.WellFormed.{max_moment, refers_below, refers_back, may_hold, may_name_language, is_well_placed, first_bad, bad_place, may_follow, all_follow, succeeds_current}
 use Rattle.gd_write_laws.specs.Sound.{Below, RefersBack, IsSound}
 use Rattle.gd_write_laws.specs.Values.{MayHold, IsTyped, is_typed}
 use Rattle.gd_grammar.proofs.Steps.{not_some, either}
@@ -29,25 +29,27 @@ back-is n p is =
     let c = and_parts (refers_below n p.typ) _ b.1 in
     let d = and_parts (refers_below n p.scope) _ c.1 in
     let e = and_parts (refers_below n p.previous) _ d.1 in
-    record { left = below-is n p.left a.0; right = below-is n p.right b.0; typ = below-is n p.typ c.0; scope = below-is n p.scope d.0; previous = below-is n p.previous e.0 }
+    let f = and_parts (refers_below n p.lang) _ e.1 in
+    record { left = below-is n p.left a.0; right = below-is n p.right b.0; typ = below-is n p.typ c.0; scope = below-is n p.scope d.0; previous = below-is n p.previous e.0; lang = below-is n p.lang f.0 }
 
--- a primitive that keeps the rules refers back, and may hold its value
-kept_rules : (before : List Primitive) (moment i : ℕ) (p : Primitive) → is_well_placed before moment i p ≡ true → RefersBack (length before) p × MayHold p.value
+-- a primitive that keeps the rules refers back, and may hold its value and name its language
+kept_rules : (before : List Primitive) (moment i : ℕ) (p : Primitive) → is_well_placed before moment i p ≡ true → RefersBack (length before) p × (MayHold p.value × (may_name_language p ≡ true))
 kept_rules before moment i p is =
     let a = and_parts _ (succeeds_current before p.previous) is in
     let b = and_parts _ (nat_lt i max_batch) a.0 in
     let c = and_parts _ (nat_lt (length before) max_prims) b.0 in
     let d = and_parts _ (nat_le moment max_moment) c.0 in
     let e = and_parts _ (nat_eq p.moment moment) d.0 in
-    let f = and_parts _ (may_hold p.value) e.0 in
+    let l = and_parts _ (may_name_language p) e.0 in
+    let f = and_parts _ (may_hold p.value) l.0 in
     let g = and_parts (refers_back (length before) p) (p.live || is_some p.previous) f.0 in
-    (back-is (length before) p g.0, f.1)
+    (back-is (length before) p g.0, (f.1, l.1))
 
 none_bad : (before : List Primitive) (moment i : ℕ) (ps : List Primitive) → IsSound MayHold before → first_bad before moment i ps ≡ None → IsSound MayHold (before ++ ps)
 none_bad before moment i [] sound none = subst (IsSound MayHold) (sym (append-nil before)) sound
 none_bad before moment i (p ∷ ps) sound none = either (is_well_placed before moment i p) (first_bad (before ++ p ∷ []) moment (i + 1) ps) (Some (length before)) None
     (λ well rest. let kept = kept_rules before moment i p well in
-    subst (IsSound MayHold) (append_assoc before (p ∷ []) ps) (none_bad (before ++ p ∷ []) moment (i + 1) ps (sound_push MayHold before p sound kept.0 kept.1) rest))
+    subst (IsSound MayHold) (append_assoc before (p ∷ []) ps) (none_bad (before ++ p ∷ []) moment (i + 1) ps (sound_push MayHold before p sound kept.0 kept.1.0 kept.1.1) rest))
     (λ bad some. not_some (length before) (sym some)) none
 
 is_none : {A : Type 0} (o : Option A) → not (is_some o) ≡ true → o ≡ None
@@ -62,28 +64,29 @@ sound_more prims requests b sound follows =
 
 -- ---- the built-in list
 
--- each primitive from a place on refers back, and its value passes
+-- each primitive from a place on refers back, its value passes, and it may name its language
 abbrev are_sound : (Datum → Bool) → ℕ → List Primitive → Bool
 are_sound v i [] = true
-are_sound v i (p ∷ ps) = (refers_back i p && v p.value) && are_sound v (i + 1) ps
+are_sound v i (p ∷ ps) = (refers_back i p && (v p.value && may_name_language p)) && are_sound v (i + 1) ps
 
-sound_at : (v : Datum → Bool) (i : ℕ) (prims : List Primitive) → are_sound v i prims ≡ true → (k : ℕ) (p : Primitive) → slice_get prims k ≡ Some p → RefersBack (i + k) p × (v p.value ≡ true)
+sound_at : (v : Datum → Bool) (i : ℕ) (prims : List Primitive) → are_sound v i prims ≡ true → (k : ℕ) (p : Primitive) → slice_get prims k ≡ Some p → RefersBack (i + k) p × ((v p.value ≡ true) × (may_name_language p ≡ true))
 sound_at v i [] are k p at = not_some p at
 sound_at v i (q ∷ ps) are zero p at =
-    let both = and_parts (refers_back i q && v q.value) (are_sound v (i + 1) ps) are in
-    let here = and_parts (refers_back i q) (v q.value) both.0 in
+    let both = and_parts (refers_back i q && (v q.value && may_name_language q)) (are_sound v (i + 1) ps) are in
+    let here = and_parts (refers_back i q) (v q.value && may_name_language q) both.0 in
     let e : i ≡ i + 0 = omega arith in
     let same : q ≡ p = cc in
-    subst (λ (p : Primitive). RefersBack (i + 0) p × (v p.value ≡ true)) same (subst (λ n. RefersBack n q) e (back-is i q here.0), here.1)
+    subst (λ (p : Primitive). RefersBack (i + 0) p × ((v p.value ≡ true) × (may_name_language p ≡ true))) same (subst (λ n. RefersBack n q) e (back-is i q here.0), and_parts (v q.value) (may_name_language q) here.1)
 sound_at v i (q ∷ ps) are (suc k) p at =
-    let both = and_parts (refers_back i q && v q.value) (are_sound v (i + 1) ps) are in
+    let both = and_parts (refers_back i q && (v q.value && may_name_language q)) (are_sound v (i + 1) ps) are in
     let e : i + 1 + k ≡ i + suc k = omega arith in
-    subst (λ n. RefersBack n p × (v p.value ≡ true)) e (sound_at v (i + 1) ps both.1 k p at)
+    subst (λ n. RefersBack n p × ((v p.value ≡ true) × (may_name_language p ≡ true))) e (sound_at v (i + 1) ps both.1 k p at)
 
 sound_by_test : (v : Datum → Bool) (prims : List Primitive) → are_sound v 0 prims ≡ true → IsSound (λ d. v d ≡ true) prims
 sound_by_test v prims are = record {
   back = λ k p at. let e : 0 + k ≡ k = omega arith in subst (λ n. RefersBack n p) e (sound_at v 0 prims are k p at).0;
-  values = λ k p at. (sound_at v 0 prims are k p at).1;
+  values = λ k p at. (sound_at v 0 prims are k p at).1.0;
+  langs = λ k p at. (sound_at v 0 prims are k p at).1.1;
 }
 
 pub builtin-sound : IsSound MayHold builtin

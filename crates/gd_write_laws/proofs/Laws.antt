@@ -9,7 +9,7 @@ use Rattle.gd_base.specs.declared.datum.Datum.{Datum}
 use Rattle.gd_prim.specs.declared.Primitive.{Primitive}
 use Rattle.gd_prim.specs.Live.{refers, passes_at, is_current, is_object}
 use Rattle.gd_prim.specs.History.{prims_of}
-use Rattle.gd_defs.specs.Property.{Property, near_of, answers, expects_of, holds_expected, leads_to_object}
+use Rattle.gd_defs.specs.Property.{Property, is_of, in_language, near_of, answers, expects_of, holds_expected, leads_to_object}
 use Rattle.gd_write_laws.specs.Sound.{Below, IsSound, EndsLink, ArePlaced}
 use Rattle.gd_write_laws.specs.Values.{MayHold, IsTyped}
 use Rattle.gd_write_laws.specs.Laws.{WritesFollow, HistoriesAreSound, HistoriesHaveFronts, HistoriesGrow, ListsStayTyped, PlainIsTyped, BatchesAreTyped, ObjectsStay, ResultsAreFlat, IsAnswer, AnswersStandAbove, LinksStandAbove, NewAnswersAreNew}
@@ -102,22 +102,26 @@ answer-is : (prims : List Primitive) (p : Property) (o k : ℕ) → IsSound MayH
 unfolding answer_test
 answer-is prims p o k sound found = by p.reversed refl found.passes
   where
-    by : (b : Bool) → p.reversed ≡ b → (if b then refers found.prim.typ p.stored && refers found.prim.right o && leads_to_object prims found.prim.left
-        else refers found.prim.typ p.stored && refers found.prim.left o && holds_expected prims (expects_of p.expected) found.prim) ≡ true → IsAnswer prims p o k
+    by : (b : Bool) → p.reversed ≡ b → (if b then is_of p found.prim && refers found.prim.right o && leads_to_object prims found.prim.left
+        else is_of p found.prim && refers found.prim.left o && holds_expected prims (expects_of p.expected) found.prim) ≡ true → IsAnswer prims p o k
     by true turned passes =
-        let both = and_parts (refers found.prim.typ p.stored && refers found.prim.right o) (leads_to_object prims found.prim.left) passes in
-        let near = (and_parts (refers found.prim.typ p.stored) (refers found.prim.right o) both.0).1 in
+        let both = and_parts (is_of p found.prim && refers found.prim.right o) (leads_to_object prims found.prim.left) passes in
+        let link = and_parts (is_of p found.prim) (refers found.prim.right o) both.0 in
+        let near = link.1 in
+        let typ = (and_parts (refers found.prim.typ p.stored) (in_language p found.prim) link.0).0 in
         record {
           link = ap (λ (q : Option Primitive). option_map_or (λ (q : Primitive). refers q.typ p.stored && refers (near_of p q) o) q false) found.at
-              ∙ ap (λ b. refers found.prim.typ p.stored && refers (if b then found.prim.right else found.prim.left) o) turned ∙ both.0;
+              ∙ ap (λ b. refers found.prim.typ p.stored && refers (if b then found.prim.right else found.prim.left) o) turned ∙ and_from _ _ typ near;
           above = names_above k o found.prim.right (sound.back k found.prim found.at).right near;
         }
     by false turned passes =
-        let both = and_parts (refers found.prim.typ p.stored && refers found.prim.left o) (holds_expected prims (expects_of p.expected) found.prim) passes in
-        let near = (and_parts (refers found.prim.typ p.stored) (refers found.prim.left o) both.0).1 in
+        let both = and_parts (is_of p found.prim && refers found.prim.left o) (holds_expected prims (expects_of p.expected) found.prim) passes in
+        let link = and_parts (is_of p found.prim) (refers found.prim.left o) both.0 in
+        let near = link.1 in
+        let typ = (and_parts (refers found.prim.typ p.stored) (in_language p found.prim) link.0).0 in
         record {
           link = ap (λ (q : Option Primitive). option_map_or (λ (q : Primitive). refers q.typ p.stored && refers (near_of p q) o) q false) found.at
-              ∙ ap (λ b. refers found.prim.typ p.stored && refers (if b then found.prim.right else found.prim.left) o) turned ∙ both.0;
+              ∙ ap (λ b. refers found.prim.typ p.stored && refers (if b then found.prim.right else found.prim.left) o) turned ∙ and_from _ _ typ near;
           above = names_above k o found.prim.left (sound.back k found.prim found.at).left near;
         }
 

@@ -1,5 +1,5 @@
 -- A write with its words looked up names places of the list alone, and its values are as V asks where those are that it spells.
-use Rattle.std.proofs.Common.{◌≡◌, ◌<◌, ℕ, List, [], ◌∷◌, ◌++◌, length, Bool, true, false, Option, Some, None, Ok, codes, sym, subst}
+use Rattle.std.proofs.Common.{◌≡◌, ◌<◌, ℕ, List, [], ◌∷◌, ◌++◌, length, Bool, true, false, Option, Some, None, not, Ok, codes, sym, subst, inl}
 use Rattle.std.specs.Prelude.{option_map, if◌then◌else◌, nat_le}
 use Rattle.std.specs.Option.{ok_or}
 use Rattle.gd_base.specs.declared.datum.Datum.{Datum}
@@ -11,13 +11,13 @@ use Rattle.gd_prim.specs.WellFormed.{is_number}
 use Rattle.gd_defs.specs.Ids.{is_id}
 use Rattle.gd_defs.specs.Moment.{moment_of}
 use Rattle.gd_defs.specs.Data.{Kind, of_text, of_int, of_boolean, of_datetime, datum_from, key_from}
-use Rattle.gd_defs.specs.Query.{Name, bad_value, is_word, is_computed}
-use Rattle.gd_defs.specs.Property.{Property, Expects, a_value, a_key, an_object_of_system, a_plain_object, expects_of, holds_values}
-use Rattle.gd_defs.specs.Asked.{bad_query, place_named, operand_datum, context_of, member_property}
+use Rattle.gd_defs.specs.Query.{Name, bad_value, bad_lang, is_word, is_computed}
+use Rattle.gd_defs.specs.Property.{Property, Expects, a_value, a_key, an_object_of_system, a_plain_object, expects_of, holds_values, is_language}
+use Rattle.gd_defs.specs.Asked.{bad_query, bad, place_named, operand_datum, context_of, member_property, has_lang}
 use Rattle.gd_defs.specs.Change as change
-use Rattle.gd_defs.specs.Write.Parts.{Target, to_object, to_key, Item, as_spelled, its_id, its_guid, fact, connect, nested, several, ManyItems, no_more, and_then, Members, no_members, member, created, datum_target, literal_target, new_target, target_of, has_fact, type_text, fact_item, identity_item, resolved, resolved_item, resolved_items}
+use Rattle.gd_defs.specs.Write.Parts.{Target, to_object, to_key, Item, as_spelled, its_id, its_guid, fact, connect, nested, several, ManyItems, no_more, and_then, Members, no_members, member, created, datum_target, literal_target, new_target, target_of, in_language_of, has_fact, type_text, fact_item, identity_item, resolved, resolved_item, resolved_items}
 use Rattle.gd_write_laws.specs.Sound.{IsSound}
-use Rattle.gd_write_laws.specs.Fits.{Spells, TargetSpells, MembersSpell, ItemSpells, ItemsSpell, TargetFits, MembersFit, ItemFits, ItemsFit}
+use Rattle.gd_write_laws.specs.Fits.{Spells, TargetSpells, MembersSpell, ItemSpells, ItemsSpell, PropertyFits, TargetFits, MembersFit, ItemFits, ItemsFit}
 use Rattle.gd_grammar.proofs.Steps.{steps, ok_same, not_ok, some_given, some_same, not_some, mapped, either}
 use Rattle.gd_write_laws.proofs.Named.{named-within, member_property-within}
 
@@ -91,12 +91,27 @@ target-fits V prims path (a_value k) (change.to_key namespace j) t some spells i
 target-fits V prims path an_object_of_system (change.to_key namespace j) t some spells is = not_ok _ t is
 target-fits V prims path a_plain_object (change.to_key namespace j) t some spells is = not_ok _ t is
 target-fits V prims path e (change.to_literal j) t some spells is = new-fits V prims (path ++ codes "value" ∷ []) e j t some spells is
+target-fits V prims path e (change.to_text lang j) t some spells is = new-fits V prims (path ++ codes "value" ∷ []) e j t some spells is
 target-fits V prims path e (change.to_id id) t some spells is =
     either (holds_values e) _ (place_named prims id >>= λ o. Ok (to_object o)) (Ok t) (λ b err. not_ok _ t err) (λ b named. named-fits V prims id t some named) is
 
+-- the property in the language of a target
+in_language-fits : (prims : List Primitive) (path : List (List ℕ)) (p : Property) (c : change.Target) (q : Property) → 0 < length prims → PropertyFits (length prims) p
+    → in_language_of prims path p c ≡ Ok q → PropertyFits (length prims) q
+in_language-fits prims path p (change.to_text t j) q some fits is =
+    either (not (has_lang (expects_of p.expected))) _ (place_named prims t >>= λ l. if is_language prims l then Ok (record p { language = Some l }) else bad bad_lang (path ++ codes "lang" ∷ [])) (Ok q)
+    (λ b err. not_ok _ q err)
+    (λ b rest. let l = steps (place_named prims t) (λ l. if is_language prims l then Ok (record p { language = Some l }) else bad bad_lang (path ++ codes "lang" ∷ [])) q rest in
+    either (is_language prims l.value) (Ok (record p { language = Some l.value })) _ (Ok q)
+    (λ b same. subst (PropertyFits (length prims)) (ok_same (record p { language = Some l.value }) q same) (fits.0, inl (named-within prims t l.value some l.gave)))
+    (λ b err. not_ok _ q err) l.then_gave) is
+in_language-fits prims path p (change.to_id t) q some fits is = subst (PropertyFits (length prims)) (ok_same p q is) fits
+in_language-fits prims path p (change.to_literal j) q some fits is = subst (PropertyFits (length prims)) (ok_same p q is) fits
+in_language-fits prims path p (change.to_key t j) q some fits is = subst (PropertyFits (length prims)) (ok_same p q is) fits
+
 -- ---- members
 
-fact-fits : (V : Datum → Type 0) (prims : List Primitive) (path : List (List ℕ)) (on : Option ℕ) (p : Property) (j : Json) (i : Item) → 0 < length prims → Spells V j → p.stored < length prims
+fact-fits : (V : Datum → Type 0) (prims : List Primitive) (path : List (List ℕ)) (on : Option ℕ) (p : Property) (j : Json) (i : Item) → 0 < length prims → Spells V j → PropertyFits (length prims) p
     → fact_item prims path on p j ≡ Ok i → ItemFits V (length prims) i
 fact-fits V prims path None p j i some spells stored is =
     let t = steps (new_target prims path (expects_of p.expected) j) (λ t. Ok (fact p t j)) i is in
@@ -135,15 +150,17 @@ mutual
       (first, members-fit V prims on context path c rest.value sound some spells.1 rest.gave)
 
   item-fits : (V : Datum → Type 0) (prims : List Primitive) (on : Option ℕ) (path : List (List ℕ)) (p : Property) (c : change.Item) (i : Item)
-      → IsSound V prims → 0 < length prims → ItemSpells V c → p.stored < length prims → resolved_item prims on path p c ≡ Ok i → ItemFits V (length prims) i
+      → IsSound V prims → 0 < length prims → ItemSpells V c → PropertyFits (length prims) p → resolved_item prims on path p c ≡ Ok i → ItemFits V (length prims) i
   item-fits V prims on path p change.blank i sound some spells stored is = subst (ItemFits V (length prims)) (ok_same (as_spelled null) i is) tt
   item-fits V prims on path p (change.plain j) i sound some spells stored is = fact-fits V prims path on p j i some spells stored is
   item-fits V prims on path p (change.fact t ms) i sound some spells stored is =
-      let r = steps (target_of prims path (expects_of p.expected) t) (λ r. Ok (fact p r (object ms))) i is in
-      subst (ItemFits V (length prims)) (ok_same (fact p r.value (object ms)) i r.then_gave) (stored, target-fits V prims path (expects_of p.expected) t r.value some spells r.gave)
+      let q = steps (in_language_of prims path p t) (λ q. target_of prims path (expects_of p.expected) t >>= λ r. Ok (fact q r (object ms))) i is in
+      let r = steps (target_of prims path (expects_of p.expected) t) (λ r. Ok (fact q.value r (object ms))) i q.then_gave in
+      subst (ItemFits V (length prims)) (ok_same (fact q.value r.value (object ms)) i r.then_gave) (in_language-fits prims path p t q.value some stored q.gave, target-fits V prims path (expects_of p.expected) t r.value some spells r.gave)
   item-fits V prims on path p (change.connect w t previous ms) i sound some spells stored is =
-      let r = steps (target_of prims path (expects_of p.expected) t) (λ r. Ok (connect p w r previous ms)) i is in
-      subst (ItemFits V (length prims)) (ok_same (connect p w r.value previous ms) i r.then_gave) (stored, target-fits V prims path (expects_of p.expected) t r.value some spells r.gave)
+      let q = steps (in_language_of prims path p t) (λ q. target_of prims path (expects_of p.expected) t >>= λ r. Ok (connect q w r previous ms)) i is in
+      let r = steps (target_of prims path (expects_of p.expected) t) (λ r. Ok (connect q.value w r previous ms)) i q.then_gave in
+      subst (ItemFits V (length prims)) (ok_same (connect q.value w r.value previous ms) i r.then_gave) (in_language-fits prims path p t q.value some stored q.gave, target-fits V prims path (expects_of p.expected) t r.value some spells r.gave)
   item-fits V prims on path p (change.nested w c) i sound some spells stored is =
       either (holds_values (expects_of p.expected)) _ (context_of prims p.expected (type_text c) >>= λ x. resolved prims None x path c >>= λ r. Ok (nested p w r)) (Ok i)
       (λ b err. not_ok _ i err)
@@ -155,7 +172,7 @@ mutual
       subst (ItemFits V (length prims)) (ok_same (several r.value) i r.then_gave) (items-fit V prims on path p c r.value sound some spells stored r.gave)
 
   items-fit : (V : Datum → Type 0) (prims : List Primitive) (on : Option ℕ) (path : List (List ℕ)) (p : Property) (c : change.ManyItems) (is : ManyItems)
-      → IsSound V prims → 0 < length prims → ItemsSpell V c → p.stored < length prims → resolved_items prims on path p c ≡ Ok is → ItemsFit V (length prims) is
+      → IsSound V prims → 0 < length prims → ItemsSpell V c → PropertyFits (length prims) p → resolved_items prims on path p c ≡ Ok is → ItemsFit V (length prims) is
   items-fit V prims on path p change.no_more xs sound some spells stored is = subst (ItemsFit V (length prims)) (ok_same no_more xs is) tt
   items-fit V prims on path p (change.and_then c cs) xs sound some spells stored is =
       let one = steps (resolved_item prims on path p c) (λ r. resolved_items prims on path p cs >>= λ rs. Ok (and_then r rs)) xs is in

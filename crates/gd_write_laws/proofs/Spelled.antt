@@ -8,7 +8,7 @@ use Rattle.gd_tree.specs.Look.{get}
 use Rattle.gd_tree.specs.Json.{Json, null, boolean, number, text, list, object, Items, no_items, item, Members as JsonMembers, no_members as no_json_members, member as json_member}
 use Rattle.gd_defs.specs.Query.{Name, Fault, bad_create, bad_connect, within, or_fault, is_identity, is_word, is_literal, is_id_text, all_items}
 use Rattle.gd_defs.specs.Change as change
-use Rattle.gd_defs.specs.Change.{CreateWord, ConnectWord, Setting, Change, blank, plain, fact, connect, nested, several, no_more, and_then, no_members, member, created, to_id, to_literal, to_key, create_word, connect_word, text_member, guid_member, first_code, part_code, target_of, target_in, setting_of, write_name, create_in, identity_item, is_connect_form, is_fact_form, object_item, is_form, list_item, by_name, members_of, item_of, items_of, change_of}
+use Rattle.gd_defs.specs.Change.{CreateWord, ConnectWord, Setting, Change, blank, plain, fact, connect, nested, several, no_more, and_then, no_members, member, created, to_id, to_literal, to_text, to_key, create_word, connect_word, text_member, guid_member, first_code, part_code, target_of, target_in, setting_of, write_name, create_in, identity_item, is_connect_form, is_fact_form, object_item, is_form, list_item, by_name, members_of, item_of, items_of, change_of}
 use Rattle.gd_write_laws.specs.Fits.{Spells, TargetSpells, MembersSpell, ItemSpells, ItemsSpell}
 use Rattle.gd_tree.specs.Bounds.{IsPlain, ArePlain, MembersPlain}
 use Rattle.gd_write_laws.specs.Values.{MayHold, IsTyped}
@@ -20,6 +20,7 @@ use Rattle.gd_write_laws.proofs.Values.{Spells-held, Spells-typed}
 target-spells : (V : Datum → Type 0) → ((j : Json) → Spells V j) → (t : change.Target) → TargetSpells V t
 target-spells V spells (to_id t) = tt
 target-spells V spells (to_literal j) = spells j
+target-spells V spells (to_text t j) = spells j
 target-spells V spells (to_key t j) = spells j
 
 mutual
@@ -52,16 +53,19 @@ get-plain T k (json_member l x ms) j are is = either (bytes_eq k l) (Some x) (ge
     (λ b same. subst (IsPlain T) (some_same x j same) are.0) (λ b later. get-plain T k ms j are.1 later) is
 
 target-plain : (T : List ℕ → Bool) (ms : JsonMembers) (t : change.Target) → MembersPlain T ms → target_of ms ≡ Some t → TargetSpells (IsTyped T) t
-target-plain T ms t are is = by (text_member (codes "id") ms) (text_member (codes "namespace") ms) (get (codes "value") ms) refl refl refl
+target-plain T ms t are is = by (text_member (codes "id") ms) (text_member (codes "namespace") ms) (text_member (codes "lang") ms) (get (codes "value") ms) refl refl refl refl
   where
-    by : (a b : Option (List ℕ)) (c : Option Json) → text_member (codes "id") ms ≡ a → text_member (codes "namespace") ms ≡ b → get (codes "value") ms ≡ c → TargetSpells (IsTyped T) t
-    by (Some i) b c a_is b_is c_is = let given = rw a_is at is in subst (TargetSpells (IsTyped T)) (some_same (to_id i) t given) tt
-    by None (Some n) (Some j) a_is b_is c_is = let given = rw (a_is, b_is, c_is) at is in
+    by : (a b l : Option (List ℕ)) (c : Option Json) → text_member (codes "id") ms ≡ a → text_member (codes "namespace") ms ≡ b → text_member (codes "lang") ms ≡ l → get (codes "value") ms ≡ c → TargetSpells (IsTyped T) t
+    by (Some i) b l c a_is b_is l_is c_is = let given = rw a_is at is in subst (TargetSpells (IsTyped T)) (some_same (to_id i) t given) tt
+    by None (Some n) l (Some j) a_is b_is l_is c_is = let given = rw (a_is, b_is, c_is) at is in
         subst (TargetSpells (IsTyped T)) (some_same (to_key n j) t given) (Spells-typed T j (get-plain T (codes "value") ms j are c_is))
-    by None None (Some j) a_is b_is c_is = let given = rw (a_is, b_is, c_is) at is in
+    by None None (Some n) (Some j) a_is b_is l_is c_is = let given = rw (a_is, b_is, l_is, c_is) at is in
+        subst (TargetSpells (IsTyped T)) (some_same (to_text n j) t given) (Spells-typed T j (get-plain T (codes "value") ms j are c_is))
+    by None None None (Some j) a_is b_is l_is c_is = let given = rw (a_is, b_is, l_is, c_is) at is in
         subst (TargetSpells (IsTyped T)) (some_same (to_literal j) t given) (Spells-typed T j (get-plain T (codes "value") ms j are c_is))
-    by None (Some n) None a_is b_is c_is = let given = rw (a_is, b_is, c_is) at is in not_some t given
-    by None None None a_is b_is c_is = let given = rw (a_is, b_is, c_is) at is in not_some t given
+    by None (Some n) l None a_is b_is l_is c_is = let given = rw (a_is, b_is, c_is) at is in not_some t given
+    by None None (Some n) None a_is b_is l_is c_is = let given = rw (a_is, b_is, l_is, c_is) at is in not_some t given
+    by None None None None a_is b_is l_is c_is = let given = rw (a_is, b_is, l_is, c_is) at is in not_some t given
 
 pub within_ok : {A : Type 0} (name : List ℕ) (r : Result A Fault) (x : A) → within name r ≡ Ok x → r ≡ Ok x
 within_ok name (Ok y) x is = ap Ok (ok_same y x is)

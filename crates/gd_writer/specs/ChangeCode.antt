@@ -5,7 +5,7 @@ use Rattle.std.proofs.Common.{◌∙◌, ap}
 use Rattle.gd_tree.specs.Json.{Json, null, object, Members as JsonMembers, no_members as no_json_members}
 use Rattle.gd_tree.specs.JsonCode.{json_code}
 use Rattle.gd_defs.specs.Query.Names.{Operator, no_operator, one_of, differs, below, at_most, above, at_least, words, Name}
-use Rattle.gd_defs.specs.Change.{ConnectWord, insert, delete, update, CreateWord, unless_exists, unconditional, Target, to_id, to_literal, to_key, Item, blank, plain, fact, connect, nested, several, ManyItems, no_more, and_then, Members, no_members, member, created}
+use Rattle.gd_defs.specs.Change.{ConnectWord, insert, delete, update, CreateWord, unless_exists, unconditional, Target, to_id, to_literal, to_text, to_key, Item, blank, plain, fact, connect, nested, several, ManyItems, no_more, and_then, Members, no_members, member, created}
 
 -- ---- codes of the parts
 
@@ -59,14 +59,16 @@ operator_back words = refl
 abbrev target_parts : Target → ℕ × (List ℕ × Json)
 target_parts (to_id t) = (0, (t, null))
 target_parts (to_literal j) = (1, ([], j))
-target_parts (to_key t j) = (2, (t, j))
+target_parts (to_text t j) = (2, (t, j))
+target_parts (to_key t j) = (3, (t, j))
 
 abbrev target_from : ℕ × (List ℕ × Json) → Target
-target_from p = if p.0 == 0 then to_id p.1.0 else if p.0 == 1 then to_literal p.1.1 else to_key p.1.0 p.1.1
+target_from p = if p.0 == 0 then to_id p.1.0 else if p.0 == 1 then to_literal p.1.1 else if p.0 == 2 then to_text p.1.0 p.1.1 else to_key p.1.0 p.1.1
 
 pub target_back : (t : Target) → target_from (target_parts t) ≡ t
 target_back (to_id t) = refl
 target_back (to_literal j) = refl
+target_back (to_text t j) = refl
 target_back (to_key t j) = refl
 
 abbrev members_in : Json → JsonMembers

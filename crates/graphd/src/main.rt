@@ -7,7 +7,7 @@ use gd_disk::file_shelf::FileShelf;
 use gd_outside::clock::StdClock;
 use gd_outside::gate::OpenGate;
 use gd_outside::stream::{StdSink, StdSource};
-use gd_top::serve::graphd;
+use gd_top::program::graphd;
 use gd_top::status::Status;
 use gd_words::help::help_text;
 use std::alloc::Global;

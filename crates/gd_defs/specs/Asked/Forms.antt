@@ -1,16 +1,16 @@
 -- What each form of a member asks of its property.
-use Rattle.std.specs.Prelude.{ℕ, List, [], Bool, true, false, not, ◌||◌, ◌==◌, Some, unwrap_or, codes}
+use Rattle.std.specs.Prelude.{ℕ, List, [], Bool, true, false, not, ◌||◌, ◌==◌, Some, None, unwrap_or, if◌then◌else◌, codes}
 use Rattle.std.specs.Option.{option_map_or}
-use Rattle.gd_prim.specs.Builtin.{name_place, text_place}
+use Rattle.gd_prim.specs.Builtin.{name_place, text_place, english_place}
 use Rattle.gd_tree.specs.Json.{Json}
 use Rattle.gd_defs.specs.Data.{Test, anything}
 use Rattle.gd_defs.specs.Query.{Mode, required, optional, Directives}
 use Rattle.gd_defs.specs.Property.{Property, Expects, a_value, a_key, an_object_of_system, a_plain_object, expects_of, holds_values}
-use Rattle.gd_defs.specs.Asked.Parts.{Style, as_operand, as_value, as_name, as_id, as_clause, Asking, Members, no_members, asks, Clause}
+use Rattle.gd_defs.specs.Asked.Parts.{its_lang, Style, as_operand, as_value, as_name, as_id, as_clause, Asking, Members, no_members, own, asks, Clause}
 
--- the property `name`
+-- the property `name`, in English
 abbrev pub name_property : Property
-name_property = record { stored = name_place; reversed = false; expected = Some text_place; unique = true }
+name_property = record { stored = name_place; reversed = false; expected = Some text_place; unique = true; language = Some english_place }
 
 -- what a member asks of a property where nothing else is said: its answers as they stand, up to 100
 abbrev pub bare_asking : Property → Style → Asking
@@ -64,10 +64,21 @@ mode_of d = unwrap_or d.mode required
 abbrev pub asks_single : Bool → Directives → Bool
 asks_single listed d = not (listed || option_map_or (λ n. n == 1) d.limit false)
 
+-- a form asks for the language of its texts
+abbrev pub asks_language : Members → Bool
+asks_language no_members = false
+asks_language (own name its_lang t j ms) = true
+asks_language (own name w t j ms) = asks_language ms
+asks_language (asks name a c ms) = asks_language ms
+
+-- the property that a form asks: of texts in every language, where it asks for their language
+abbrev pub spoken : Property → Members → Property
+spoken p c = record p { language = if asks_language c then None else p.language }
+
 -- the member that {..} asks, or [{..}] where a list is asked for
 abbrev pub clause_form : List ℕ → Property → Directives → Bool → Clause → Members → Members
 clause_form name p d listed c rest = asks name
-    (record (bare_asking p as_clause) {
+    (record (bare_asking (spoken p c.0) as_clause) {
       mode = mode_of d;
       counted = holds_values (expects_of p.expected);
       listed = listed;

@@ -5,9 +5,9 @@ use Rattle.gd_defs.specs.Data.{Test}
 use Rattle.gd_defs.specs.Query.{Mode}
 use Rattle.gd_defs.specs.Property.{Property}
 
--- what a computed member tells: of its object the id, the guid or the timestamp; of the link that led there the guid, the value or the namespace
+-- what a computed member tells: of its object the id, the guid or the timestamp; of the link that led there the guid, the value, the namespace or the language
 pub data Own : Type 0 where
-  its_id its_guid its_timestamp its_link its_value its_namespace : Own
+  its_id its_guid its_timestamp its_link its_value its_namespace its_lang : Own
 
 -- what rows are sorted by: the guid, the timestamp, or the first value of a property
 pub data Key : Type 0 where

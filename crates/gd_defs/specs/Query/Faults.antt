@@ -6,7 +6,7 @@ use Rattle.gd_grammar.specs.Chain.{map_err}
 -- the codes of form, and then those of meaning; `bad_connect` is one of both
 pub data Code : Type 0 where
   envelope list_form bad_word left_out bad_directive bad_operand bad_write bad_create bad_connect : Code
-  bad_value bad_operator value_reversed object_form bad_sort not_met bad_previous : Code
+  bad_value bad_operator value_reversed object_form bad_sort not_met bad_previous bad_lang : Code
 
 -- a code with the names of the members that lead to its place, from the root down
 pub record Fault : Type 0 where

@@ -1,10 +1,12 @@
 -- What inserting, deleting and updating links makes, over the state with the batch so far.
 use Rattle.std.specs.Prelude.{ℕ, List, [], ◌∷◌, ◌++◌, Bool, true, false, not, ◌&&◌, ◌==◌, nat_lt, Option, Some, None, option_and_then, slice_get, if◌then◌else◌, map, length, codes, Result, Ok, Err}
+use Rattle.std.specs.Option.{option_eq}
 use Rattle.gd_base.specs.declared.datum.Datum.{Datum}
 use Rattle.gd_base.specs.declared.datum.Datum.TheVariants as datum
 use Rattle.gd_prim.specs.declared.Primitive.{Primitive}
 use Rattle.gd_prim.specs.declared.What.{What}
-use Rattle.gd_prim.specs.Live.{refers, successor, passes_at}
+use Rattle.gd_prim.specs.Builtin.{english_place}
+use Rattle.gd_prim.specs.Live.{refers, successor, passes_at, language_of}
 use Rattle.gd_defs.specs.Ids.{key_leads}
 use Rattle.gd_defs.specs.Query.{Code, bad_connect, bad_previous}
 use Rattle.gd_defs.specs.Property.{Property, answers, near_of}
@@ -27,18 +29,23 @@ pub record Stamp : Type 0 where
 
 -- a new object
 abbrev pub new_object : Stamp → Primitive
-new_object s = record { left = None; right = None; typ = None; scope = s.scope; value = datum.Empty; name = None; previous = None; live = true; moment = s.moment }
+new_object s = record { left = None; right = None; typ = None; scope = s.scope; value = datum.Empty; name = None; previous = None; live = true; moment = s.moment; lang = None }
 
 -- a primitive between a near end and a far end, turned where the property is reversed
 abbrev pub between : Bool → ℕ → Option ℕ → Primitive → Primitive
 between reversed near far p = if reversed then record p { left = far; right = Some near } else record p { left = Some near; right = far }
+
+-- the language that a link of a value names: of a text that of its property, unless it is English
+abbrev pub named_language : Datum → Option ℕ → Option ℕ
+named_language (datum.Text t) (Some l) = if l == english_place then None else Some l
+named_language _ _ = None
 
 -- a link from an object to a target, as the successor of a previous one or a new one
 abbrev pub new_link : Stamp → Property → ℕ → Target → Option ℕ → Primitive
 new_link s p o t previous = by t
   where
     base : Datum → Primitive
-    base v = record { left = None; right = None; typ = Some p.stored; scope = s.scope; value = v; name = None; previous = previous; live = true; moment = s.moment }
+    base v = record { left = None; right = None; typ = Some p.stored; scope = s.scope; value = v; name = None; previous = previous; live = true; moment = s.moment; lang = named_language v p.language }
 
     by : Target → Primitive
     by (to_object x) = between p.reversed o (Some x) (base datum.Empty)
@@ -92,14 +99,19 @@ updated s path prims p o t = if not p.unique then refused bad_connect (path ++ c
     by (k ∷ []) = Ok (prims ++ new_link s p o t (Some k) ∷ [], codes "updated")
     by _ = Err (not_unique path)
 
--- a place has a link of this object and property that is marked live
-abbrev pub is_link_of : List Primitive → Property → ℕ → ℕ → Bool
-is_link_of prims p o k = passes_at (λ q. q.live && refers q.typ p.stored && refers (near_of p q) o) prims k
+-- the language of a target: of a text that of its property; nothing else has one
+abbrev pub target_language : Property → Target → Option ℕ
+target_language p (to_value (datum.Text t)) = p.language
+target_language p _ = None
+
+-- a place has a link of this object, property and language that is marked live
+abbrev pub is_link_of : List Primitive → Property → ℕ → Option ℕ → ℕ → Bool
+is_link_of prims p o language k = passes_at (λ q. q.live && refers q.typ p.stored && refers (near_of p q) o && option_eq ◌==◌ (language_of q) language) prims k
 
 -- updating a link that is named: it gives way to the target, if it has no successor yet
 abbrev pub updated_from : Stamp → List (List ℕ) → List Primitive → Property → ℕ → Target → ℕ → Result Done ChangeFault
 updated_from s path prims p o t k =
-    if not (is_link_of prims p o k) then refused bad_previous (path ++ codes "previous" ∷ []) else by (successor prims k)
+    if not (is_link_of prims p o (target_language p t) k) then refused bad_previous (path ++ codes "previous" ∷ []) else by (successor prims k)
   where
     by : Option ℕ → Result Done ChangeFault
     by (Some n) = Err (stale_version k n)

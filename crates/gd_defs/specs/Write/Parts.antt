@@ -1,5 +1,5 @@
 -- What each member of a write does, once its words are looked up at the state before.
-use Rattle.std.specs.Prelude.{ℕ, List, [], ◌∷◌, ◌++◌, Bool, ◌&&◌, nat_lt, Option, Some, None, option_map, if◌then◌else◌, filter, length, codes, Result, Ok, bytes_eq}
+use Rattle.std.specs.Prelude.{ℕ, List, [], ◌∷◌, ◌++◌, Bool, not, ◌&&◌, nat_lt, Option, Some, None, option_map, if◌then◌else◌, filter, length, codes, Result, Ok, bytes_eq}
 use Rattle.std.specs.Option.{ok_or}
 use Rattle.gd_base.specs.declared.datum.Datum.{Datum}
 use Rattle.gd_base.specs.declared.datum.Datum.TheVariants as datum
@@ -10,9 +10,9 @@ use Rattle.gd_base.specs.Order.{datum_eq}
 use Rattle.gd_tree.specs.Json.{Json, null, text, object, Members as JsonMembers}
 use Rattle.gd_defs.specs.Ids.{is_id}
 use Rattle.gd_defs.specs.Data.{key_from}
-use Rattle.gd_defs.specs.Query.{Name, bad_value, not_met, is_word, is_computed}
-use Rattle.gd_defs.specs.Property.{Property, Expects, a_key, a_plain_object, an_object_of_system, expects_of, holds_values, answers, answer_datum}
-use Rattle.gd_defs.specs.Asked.{Unknown, bad_query, bad, place_named, operand_datum, context_of, member_property}
+use Rattle.gd_defs.specs.Query.{Name, bad_value, bad_lang, not_met, is_word, is_computed}
+use Rattle.gd_defs.specs.Property.{Property, Expects, a_key, a_plain_object, an_object_of_system, expects_of, holds_values, is_language, answers, answer_datum}
+use Rattle.gd_defs.specs.Asked.{Unknown, bad_query, bad, place_named, operand_datum, context_of, member_property, has_lang}
 use Rattle.gd_defs.specs.Change as change
 use Rattle.gd_defs.specs.Change.{ConnectWord, CreateWord}
 
@@ -65,7 +65,14 @@ target_of prims path a_key (change.to_key namespace j) = place_named prims names
     ok_or (option_map (to_key o) (key_from j)) (bad_query bad_value (path ++ codes "value" ∷ []))
 target_of prims path e (change.to_key namespace j) = bad bad_value (path ++ codes "namespace" ∷ [])
 target_of prims path e (change.to_literal j) = new_target prims (path ++ codes "value" ∷ []) e j
+target_of prims path e (change.to_text lang j) = new_target prims (path ++ codes "value" ∷ []) e j
 target_of prims path e (change.to_id t) = if holds_values e then bad bad_value (path ++ codes "id" ∷ []) else (place_named prims t >>= λ o. Ok (to_object o))
+
+-- the property in the language that a target names, if it names one, which texts alone have
+abbrev pub in_language_of : List Primitive → List (List ℕ) → Property → change.Target → Result Property Unknown
+in_language_of prims path p (change.to_text t j) = if not (has_lang (expects_of p.expected)) then bad bad_value (path ++ codes "lang" ∷ [])
+    else (place_named prims t >>= λ l. if is_language prims l then Ok (record p { language = Some l }) else bad bad_lang (path ++ codes "lang" ∷ []))
+in_language_of prims path p t = Ok p
 
 -- a link leads to a target
 abbrev pub is_target : List Primitive → Property → Target → ℕ → Bool
@@ -112,8 +119,8 @@ abbrev mutual
   pub resolved_item : List Primitive → Option ℕ → List (List ℕ) → Property → change.Item → Result Item Unknown
   resolved_item prims on path p change.blank = Ok (as_spelled null)
   resolved_item prims on path p (change.plain j) = fact_item prims path on p j
-  resolved_item prims on path p (change.fact t ms) = target_of prims path (expects_of p.expected) t >>= λ r. Ok (fact p r (object ms))
-  resolved_item prims on path p (change.connect w t previous ms) = target_of prims path (expects_of p.expected) t >>= λ r. Ok (connect p w r previous ms)
+  resolved_item prims on path p (change.fact t ms) = in_language_of prims path p t >>= λ q. target_of prims path (expects_of p.expected) t >>= λ r. Ok (fact q r (object ms))
+  resolved_item prims on path p (change.connect w t previous ms) = in_language_of prims path p t >>= λ q. target_of prims path (expects_of p.expected) t >>= λ r. Ok (connect q w r previous ms)
   resolved_item prims on path p (change.nested w ms) = if holds_values (expects_of p.expected) then bad bad_value path
       else (context_of prims p.expected (type_text ms) >>= λ c. resolved prims None c path ms >>= λ r. Ok (nested p w r))
   resolved_item prims on path p (change.several is) = resolved_items prims on path p is >>= λ rs. Ok (several rs)

@@ -6,7 +6,7 @@ use Rattle.gd_prim.specs.declared.Primitive.{Primitive}
 use Rattle.gd_tree.specs.Json.{Json}
 use Rattle.gd_tree.specs.Trees.{Tree, TreeLists, place_of, lists_of, rest_lists}
 use Rattle.gd_defs.specs.Property.{answer_datum}
-use Rattle.gd_defs.specs.Asked.{Own, its_id, its_namespace, Style, as_id, Asking, Members, no_members, own, asks, Asked}
+use Rattle.gd_defs.specs.Asked.{Own, its_id, its_namespace, its_lang, Style, as_id, Asking, Members, no_members, own, asks, Asked}
 use Rattle.gd_defs.specs.Rows.{own_datum}
 use Rattle.gd_defs.specs.Reply.{is_clause}
 use Rattle.gd_runs.specs.Shape.Answers.{cut}
@@ -20,6 +20,7 @@ id_count d = 0
 abbrev pub own_ids : List Primitive → Own → Option Json → ℕ → ℕ → ℕ
 own_ids prims its_id None link o = id_count (own_datum prims its_id link o)
 own_ids prims its_namespace None link o = id_count (own_datum prims its_namespace link o)
+own_ids prims its_lang None link o = id_count (own_datum prims its_lang link o)
 own_ids prims _ _ link o = 0
 
 -- how many ids an answer prints that no clause of its own prints

@@ -5,12 +5,12 @@ use Rattle.gd_prim.specs.declared.Batch.{Batch}
 use Rattle.gd_runs.specs.Legal.{batches}
 use Rattle.gd_runs.specs.Side.{Told}
 use Rattle.gd_writer.specs.Outcomes.{told_view}
-use Rattle.gd_caller.specs.declared.work.LineNumber.{LineNumber}
-use Rattle.gd_caller.specs.declared.work.WriteLine.{WriteLine}
-use Rattle.gd_caller.specs.Replies.{round_text}
+use Rattle.gd_round_lines.specs.declared.work.LineNumber.{LineNumber}
+use Rattle.gd_round_lines.specs.declared.work.WriteLine.{WriteLine}
+use Rattle.gd_round_lines.specs.Replies.{round_text}
 use Rattle.gd_caller.specs.Told.{Forgets, AreNumbers}
-use Rattle.gd_caller.specs.Works.{IsWriteWithin, IsReadWithin, AreApart}
-use Rattle.gd_caller.specs.Worked.{AreWorked}
+use Rattle.gd_round_lines.specs.Works.{IsWriteWithin, IsReadWithin, AreApart}
+use Rattle.gd_round_lines.specs.Worked.{AreWorked}
 use Rattle.gd_caller.specs.Joined.{IsOfWrites, JoinedReply, AnswersReads}
 use Rattle.gd_caller.proofs.Left.{still_shown, still_batches}
 use Rattle.gd_caller.proofs.Lines.{short_take}

@@ -1,7 +1,7 @@
 use Rattle.std.proofs.Common.{◌-◌, ℕ, List, inr, map, set, ap, ◌∙◌}
 use Rattle.std.proofs.lemmas.List.{map-set}
-use Rattle.gd_caller.specs.declared.replies.RoundReply.TheVariants.{Line}
-use Rattle.gd_caller.specs.Replies.{round_text}
+use Rattle.gd_round_lines.specs.declared.replies.RoundReply.TheVariants.{Line}
+use Rattle.gd_round_lines.specs.Replies.{round_text}
 use Rattle.gd_caller.proofs.reads.answer_at.Goals as goal
 
 pub returns-in-Ok-clause-replies : goal.returns-in-Ok-clause-replies

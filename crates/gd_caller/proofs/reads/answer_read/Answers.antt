@@ -3,8 +3,8 @@ use Rattle.std.proofs.lemmas.List.{map-set}
 use Rattle.std.proofs.lemmas.Option.{slice_get-get_or}
 use Rattle.gd_runs.specs.Request.{reply_of}
 use Rattle.gd_mql.specs.Requests.{read_view}
-use Rattle.gd_caller.specs.declared.replies.RoundReply.TheVariants.{Line}
-use Rattle.gd_caller.specs.Replies.{round_text}
+use Rattle.gd_round_lines.specs.declared.replies.RoundReply.TheVariants.{Line}
+use Rattle.gd_round_lines.specs.Replies.{round_text}
 use Rattle.gd_caller.proofs.reads.answer_read.Goals as goal
 
 pub returns-in-Some-clause-answers : goal.returns-in-Some-clause-answers

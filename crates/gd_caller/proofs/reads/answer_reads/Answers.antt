@@ -1,10 +1,10 @@
 use Rattle.std.proofs.Common.{◌≡◌, ◌+◌, ◌-◌, ℕ, List, [], ◌∷◌, ◌++◌, Some, slice_get, length, map, replicate, reverse, sym, subst, ap, ◌∙◌, arith, length-append}
 use Rattle.std.proofs.lemmas.List.{reverse-reverse}
-use Rattle.gd_caller.specs.Replies.{round_text}
-use Rattle.gd_caller.specs.Works.{IsReadWithin}
+use Rattle.gd_round_lines.specs.Replies.{round_text}
+use Rattle.gd_round_lines.specs.Works.{IsReadWithin}
 use Rattle.gd_caller.proofs.Joins.{Joining, joining_none, joining_more, next_read, taken_worked, taken_shown, left_worked}
-use Rattle.gd_caller.proofs.Read.{all_at}
-use Rattle.gd_caller.proofs.Sets.{replicate_all}
+use Rattle.gd_round_lines.proofs.Read.{all_at}
+use Rattle.gd_round_lines.proofs.Sets.{replicate_all}
 use Rattle.gd_caller.proofs.reads.answer_reads.Goals as goal
 
 pub loop-read-init : goal.loop-read-init

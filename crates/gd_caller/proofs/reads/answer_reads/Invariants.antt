@@ -1,9 +1,9 @@
 use Rattle.std.proofs.Common.{◌≡◌, ℕ, List, ◌++◌, Some, length, map, reverse, slice_get, vec_len}
 use Rattle.std.specs.List.{AllByRecursion}
 use Rattle.gd_runs.specs.Side.{Told}
-use Rattle.gd_caller.specs.declared.work.ReadLine.{ReadLine}
-use Rattle.gd_caller.specs.declared.worked.Worked.{Worked}
-use Rattle.gd_caller.specs.Replies.{round_text}
+use Rattle.gd_round_lines.specs.declared.work.ReadLine.{ReadLine}
+use Rattle.gd_round_lines.specs.declared.worked.Worked.{Worked}
+use Rattle.gd_round_lines.specs.Replies.{round_text}
 use Rattle.gd_caller.specs.Told.{AreNumbers}
 use Rattle.gd_caller.specs.Joined.{IsOfWrites}
 use Rattle.gd_caller.proofs.Joins.{Joining}

@@ -3,9 +3,9 @@ use Rattle.std.proofs.lemmas.Grind.{common_steps}
 use Rattle.std.specs.List.{AllByRecursion}
 use Rattle.gd_writer.specs.declared.outcome.WriteOf.{WriteOf}
 use Rattle.gd_writer.specs.Outcomes.{told_view, IsTold}
-use Rattle.gd_caller.specs.Replies.{round_text}
+use Rattle.gd_round_lines.specs.Replies.{round_text}
 use Rattle.gd_caller.specs.Tells.{IsOutcomeWithin}
-use Rattle.gd_caller.proofs.Read.{all_front}
+use Rattle.gd_round_lines.proofs.Read.{all_front}
 use Rattle.gd_caller.proofs.Tells.{tells_more, left_and_told, told_many, told_count, tells_end}
 use Rattle.gd_caller.proofs.told.tell_all.Goals as goal
 

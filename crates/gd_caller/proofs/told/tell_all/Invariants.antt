@@ -2,7 +2,7 @@ use Rattle.std.proofs.Common.{◌≡◌, ◌+◌, List, ◌++◌, length, map, v
 use Rattle.std.specs.List.{AllByRecursion}
 use Rattle.gd_writer.specs.declared.outcome.WriteOf.{WriteOf}
 use Rattle.gd_writer.specs.Outcomes.{told_view, IsTold}
-use Rattle.gd_caller.specs.Replies.{round_text}
+use Rattle.gd_round_lines.specs.Replies.{round_text}
 use Rattle.gd_caller.specs.Tells.{TellsAll, IsOutcomeWithin}
 use Rattle.gd_caller.proofs.told.tell_all.Given as goal
 

@@ -1,10 +1,10 @@
 use Rattle.std.proofs.Common.{◌∷◌, [], List, map, take, subst}
 use Rattle.gd_runs.specs.Side as side
-use Rattle.gd_caller.specs.Works.{write_of}
-use Rattle.gd_caller.specs.Writes.{MayBeWritten, WritesLeft}
+use Rattle.gd_round_lines.specs.Works.{write_of, MayBeWritten}
+use Rattle.gd_caller.specs.Writes.{WritesLeft}
 use Rattle.gd_caller.proofs.Left.{left_none, left_then, left_fresh, written_more, written_all, written_at}
-use Rattle.gd_caller.proofs.Sets.{item_there}
-use Rattle.gd_caller.proofs.Read.{all_at}
+use Rattle.gd_round_lines.proofs.Sets.{item_there}
+use Rattle.gd_round_lines.proofs.Read.{all_at}
 use Rattle.gd_caller.proofs.writes.write_left.Goals as goal
 
 pub loop-write-init : goal.loop-write-init

@@ -1,5 +1,5 @@
 use Rattle.std.proofs.Common.{map, take}
-use Rattle.gd_caller.specs.Works.{write_of}
+use Rattle.gd_round_lines.specs.Works.{write_of}
 use Rattle.gd_caller.specs.Writes.{WritesLeft}
 use Rattle.gd_caller.proofs.writes.write_left.Given as goal
 

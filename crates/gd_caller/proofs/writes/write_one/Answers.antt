@@ -1,5 +1,5 @@
 use Rattle.std.proofs.Common.{◌∷◌, []}
-use Rattle.gd_caller.specs.Works.{write_of}
+use Rattle.gd_round_lines.specs.Works.{write_of}
 use Rattle.gd_caller.proofs.Left.{left_none, left_tried, not_kept}
 use Rattle.gd_caller.proofs.writes.write_one.Goals as goal
 

@@ -8,5 +8,5 @@ abbrev pub invariant-loop-batch : goal.invariant-loop-batch
 invariant-loop-batch l = record {
   fits : AllByRecursion BatchMay (drop l.batch-index l.batches);
   so_far : l.total + length (flat_map batch_bytes (drop l.batch-index l.batches)) ≡ 2 + length (flat_map batch_bytes l.batches);
-  bound : l.total ≤ 2 + 33660938 * l.batch-index;
+  bound : l.total ≤ 2 + 33677322 * l.batch-index;
 }

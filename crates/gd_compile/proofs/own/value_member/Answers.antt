@@ -3,7 +3,7 @@ use Rattle.gd_prim.specs.History.{prims_of}
 use Rattle.gd_mql.specs.Names.{name_view}
 use Rattle.gd_mql.specs.Clauses.{form_view}
 use Rattle.gd_plan.specs.Seen.{expects_view}
-use Rattle.gd_compile.proofs.Walks.{link_leads, value_leads, namespace_leads}
+use Rattle.gd_compile.proofs.Walks.{link_leads, value_leads, namespace_leads, lang_leads}
 use Rattle.gd_compile.proofs.own.value_member.Goals as goal
 
 pub returns-then-is_link-clause-member : goal.returns-then-is_link-clause-member
@@ -20,3 +20,8 @@ pub returns-then-is_namespace-clause-member : goal.returns-then-is_namespace-cla
 returns-then-is_namespace-clause-member g c =
     namespace_leads (prims_of c.args.view.now) (expects_view c.args.expects) (map (λ (n : Bor (List ℕ)). n.now) c.args.path.now) (name_view c.args.name.now) (form_view c.args.form.now) c.own_member-then-is_namespace.result
     (sym c.if-is_link.ensures) (sym c.if-is_value.ensures) (sym c.if-is_namespace.ensures) c.own_member-then-is_namespace.ensures.member
+
+pub returns-then-is_lang-clause-member : goal.returns-then-is_lang-clause-member
+returns-then-is_lang-clause-member g c =
+    lang_leads (prims_of c.args.view.now) (expects_view c.args.expects) (map (λ (n : Bor (List ℕ)). n.now) c.args.path.now) (name_view c.args.name.now) (form_view c.args.form.now) c.own_member-then-is_lang.result
+    (sym c.if-is_link.ensures) (sym c.if-is_value.ensures) (sym c.if-is_namespace.ensures) (sym c.if-is_lang.ensures) c.own_member-then-is_lang.ensures.member

@@ -1,7 +1,7 @@
 use Rattle.std.proofs.Common.{sym, subst}
 use Rattle.std.specs.List.{All}
 use Rattle.gd_shared.specs.History.{FrontValue}
-use Rattle.gd_workers.specs.declared.worker.Worker.{Worker}
+use Rattle.gd_crew.specs.declared.worker.Worker.{Worker}
 use Rattle.gd_crew.specs.Collected.{IsOfTable}
 use Rattle.gd_crew.proofs.Taken.{manned_of_table}
 use Rattle.gd_crew.proofs.assign.assign.Goals as goal

@@ -1,6 +1,6 @@
 use Rattle.std.proofs.Common.{arith, subst, sym, ap, length}
 use Rattle.std.specs.List.{All}
-use Rattle.gd_workers.specs.declared.worker.Worker.{Worker}
+use Rattle.gd_crew.specs.declared.worker.Worker.{Worker}
 use Rattle.gd_crew.specs.Ready.{IsReady}
 use Rattle.gd_crew.proofs.Hired.{hired_lent, hired_manned, seated_manned, lent_set}
 use Rattle.gd_crew.proofs.assign.seat.Goals as goal

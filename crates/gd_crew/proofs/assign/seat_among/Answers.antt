@@ -1,7 +1,7 @@
 use Rattle.std.proofs.Common.{sym, subst, ap, ◌∙◌, ◌∷◌, [], ◌++◌, List}
 use Rattle.std.specs.List.{All}
 use Rattle.std.proofs.lemmas.List.Elements.{All-push}
-use Rattle.gd_workers.specs.declared.seated.Seated.{Seated}
+use Rattle.gd_crew.specs.declared.seated.Seated.{Seated}
 use Rattle.gd_crew.specs.Ready.{IsReady}
 use Rattle.gd_crew.proofs.assign.seat_among.Goals as goal
 

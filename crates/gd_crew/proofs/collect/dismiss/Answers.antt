@@ -1,6 +1,6 @@
 use Rattle.std.proofs.Common.{arith, ap, ◌∙◌}
 use Rattle.std.specs.List.{All}
-use Rattle.gd_workers.specs.declared.worker.Worker.{Worker}
+use Rattle.gd_crew.specs.declared.worker.Worker.{Worker}
 use Rattle.gd_crew.specs.Ready.{lent}
 use Rattle.gd_crew.specs.Joined.{HasWorked}
 use Rattle.gd_crew.specs.Collected.{IsOfTable}

@@ -1,7 +1,7 @@
 use Rattle.std.proofs.Common.{◌≡◌, ◌+◌, List, length, vec_len, vec_capacity}
 use Rattle.std.specs.List.{All}
-use Rattle.gd_caller.specs.declared.work.ReadLine.{ReadLine}
-use Rattle.gd_workers.specs.declared.worker.Worker.{Worker}
+use Rattle.gd_round_lines.specs.declared.work.ReadLine.{ReadLine}
+use Rattle.gd_crew.specs.declared.worker.Worker.{Worker}
 use Rattle.gd_crew.specs.Ready.{IsIdle, lent}
 use Rattle.gd_crew.specs.Joined.{HasWorked}
 use Rattle.gd_crew.specs.Collected.{IsOfTable, TakesWorkers}

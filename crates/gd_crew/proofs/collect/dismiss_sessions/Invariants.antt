@@ -1,6 +1,6 @@
 use Rattle.std.proofs.Common.{◌≡◌, ◌+◌, List, length, vec_len, vec_capacity}
 use Rattle.std.specs.List.{All}
-use Rattle.gd_caller.specs.declared.work.ReadLine.{ReadLine}
+use Rattle.gd_round_lines.specs.declared.work.ReadLine.{ReadLine}
 use Rattle.gd_crew.specs.Ready.{IsIdle}
 use Rattle.gd_crew.specs.Joined.{HasRead}
 use Rattle.gd_crew.specs.Collected.{IsOfTable, TakesSessions}

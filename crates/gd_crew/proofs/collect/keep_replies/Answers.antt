@@ -1,5 +1,5 @@
 use Rattle.std.proofs.Common.{map}
-use Rattle.gd_workers.specs.Seated.{reply_view}
+use Rattle.gd_crew.specs.Seated.{reply_view}
 use Rattle.gd_crew.proofs.Taken.{replies_more, replies_left}
 use Rattle.gd_crew.proofs.collect.keep_replies.Goals as goal
 

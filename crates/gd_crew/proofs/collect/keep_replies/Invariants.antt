@@ -1,8 +1,8 @@
 use Rattle.std.proofs.Common.{List, map, vec_len}
 use Rattle.std.specs.List.{AllByRecursion}
 use Rattle.gd_prim.specs.declared.Batch.{Batch}
-use Rattle.gd_caller.specs.declared.work.ReadLine.{ReadLine}
-use Rattle.gd_workers.specs.Seated.{reply_view}
+use Rattle.gd_round_lines.specs.declared.work.ReadLine.{ReadLine}
+use Rattle.gd_crew.specs.Seated.{reply_view}
 use Rattle.gd_crew.specs.Joined.{IsReplyOver}
 use Rattle.gd_crew.specs.Collected.{TakesReplies}
 use Rattle.gd_crew.proofs.collect.keep_replies.Given as goal

@@ -1,10 +1,10 @@
 use Rattle.std.proofs.Common.{◌≡◌, ◌≤◌, [], ◌∷◌, map, length, slice_get, Some, subst, sym, List}
 use Rattle.std.specs.List.{AllByRecursion}
-use Rattle.gd_workers.specs.Seated.{job_view}
-use Rattle.gd_caller.specs.declared.work.ReadLine.{ReadLine}
-use Rattle.gd_caller.specs.declared.work.WriteLine.{WriteLine}
-use Rattle.gd_caller.specs.Writes.{MayBeWritten}
-use Rattle.gd_caller.proofs.Read.{all_at}
+use Rattle.gd_crew.specs.Seated.{job_view}
+use Rattle.gd_round_lines.specs.declared.work.ReadLine.{ReadLine}
+use Rattle.gd_round_lines.specs.declared.work.WriteLine.{WriteLine}
+use Rattle.gd_round_lines.specs.Works.{MayBeWritten}
+use Rattle.gd_round_lines.proofs.Read.{all_at}
 use Rattle.gd_crew.specs.Jobs.{Adds, MayBeRead}
 use Rattle.gd_crew.proofs.Added.{own, may_be_read, may_be_written, adds_none, adds_next, jobs_all, write_at, all_taken}
 use Rattle.gd_crew.proofs.jobs.jobs_of.Goals as goal

@@ -1,9 +1,8 @@
 use Rattle.std.proofs.Common.{map}
-use Rattle.gd_workers.specs.Seated.{job_view}
-use Rattle.gd_caller.proofs.Read.{all_at}
-use Rattle.gd_crew.specs.Jobs.{MayBeRead}
+use Rattle.gd_crew.specs.Seated.{job_view}
+use Rattle.gd_round_lines.proofs.Read.{all_at}
+use Rattle.gd_crew.specs.Jobs.{MayBeRead, job_of_read}
 use Rattle.gd_crew.proofs.Added.{adds_read, read_at, one_more_job}
-use Rattle.gd_crew.specs.Jobs.{job_of_read}
 use Rattle.gd_crew.proofs.jobs.push_read.Goals as goal
 
 pub returns-in_ok-push : goal.returns-in_ok-push

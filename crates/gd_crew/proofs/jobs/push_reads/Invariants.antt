@@ -1,5 +1,5 @@
 use Rattle.std.proofs.Common.{[], map}
-use Rattle.gd_workers.specs.Seated.{job_view}
+use Rattle.gd_crew.specs.Seated.{job_view}
 use Rattle.gd_crew.specs.Jobs.{Adds}
 use Rattle.gd_crew.proofs.jobs.push_reads.Given as goal
 

@@ -1,5 +1,5 @@
 use Rattle.std.proofs.Common.{map}
-use Rattle.gd_workers.specs.Seated.{job_view}
+use Rattle.gd_crew.specs.Seated.{job_view}
 use Rattle.gd_crew.specs.Jobs.{job_of_write}
 use Rattle.gd_crew.proofs.Added.{passes_other, takes_own, one_more_job, same_session, other_session}
 use Rattle.gd_crew.proofs.jobs.push_write.Goals as goal

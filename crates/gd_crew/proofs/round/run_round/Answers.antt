@@ -1,5 +1,5 @@
 use Rattle.std.proofs.Common.{rules, sym}
-use Rattle.gd_writers.specs.Round.{begun}
+use Rattle.gd_crew.specs.Round.{begun}
 use Rattle.gd_crew.specs.Texts.{kept_lines}
 use Rattle.gd_crew.proofs.Joined.{kept, named, begins_round, is_joined, all_may_run, all_worked, lent_same}
 use Rattle.gd_crew.proofs.round.run_round.Goals as goal

@@ -32,3 +32,6 @@ returns-clause-opened g c = λ f is.
     let u = c.in_ok-opening.ensures.untouched in
     let j = c.in_ok-journal.journal in
     opened_then j.damaged f _ _ _ (untouched_then u) (c.in_ok-journal.ensures.opened f (u.same ∙ is))
+
+pub returns-clause-created : goal.returns-clause-created
+returns-clause-created g c = λ f is short. c.in_ok-journal.ensures.created f (c.in_ok-opening.ensures.untouched.same ∙ is) short

@@ -2,8 +2,9 @@ use Rattle.std.proofs.Common.{List, sym, ◌∙◌, subst}
 use Rattle.std.proofs.lemmas.Result.{err_from_is_err_and}
 use Rattle.gd_disk.specs.Runs.{untouched_then}
 use Rattle.gd_prim.specs.declared.Batch.{Batch}
-use Rattle.gd_bytes.specs.File.{meaning, StandsFor}
+use Rattle.gd_bytes.specs.File.{Version, meaning, StandsFor}
 use Rattle.gd_log.specs.State.{IsHeld}
+use Rattle.gd_log.specs.Opening.{Loads}
 use Rattle.gd_log.proofs.Opens.{journal_refuses, reason_refuses, loads_stands, untouched_means, kept_untouched, finished_means, kept_finished}
 use Rattle.gd_log.proofs.opening.open_log.Goals as goal
 
@@ -75,12 +76,12 @@ returns-in_err-opened-in-Ok-clause-kept g c =
     let mid = c.load.new.opening.disk in
     let u = untouched_then c.in_ok-opening.ensures.untouched c.load.ensures.untouched in
     rw (p.1, p.2) (λ f is.
-    let stands = loads_stands f c.in-Ok.store (c.in-Ok.ensures.all f (c.in_ok-opening.ensures.untouched.same ∙ is)) in
+    let stands = loads_stands c.in_ok-opening.opening.version f c.in-Ok.store (c.in-Ok.ensures.all f (c.in_ok-opening.ensures.untouched.same ∙ is)) in
     kept_finished c.args.disk mid e.field-0.0.1 f c.in-Ok.store (g.met.D.Disk.reads_one e.field-0.0.1) (g.met.D.Disk.reads_one c.args.disk f is) is u stands (e.ensures.moments f (u.same ∙ is)) e.ensures.told)
 
 pub returns-in_ok-opened-in-Ok-clause-means : goal.returns-in_ok-opened-in-Ok-clause-means
 returns-in_ok-opened-in-Ok-clause-means g c = λ f is.
-    let stands = loads_stands f c.in-Ok.store (c.in-Ok.ensures.all f (c.in_ok-opening.ensures.untouched.same ∙ is)) in
+    let stands = loads_stands c.in_ok-opening.opening.version f c.in-Ok.store (c.in-Ok.ensures.all f (c.in_ok-opening.ensures.untouched.same ∙ is)) in
     subst (λ (bs : List Batch). StandsFor f bs) (sym c.in_ok-opened-in-Ok.ensures.store) stands
 
 pub returns-in_ok-opened-in-Ok-clause-moments : goal.returns-in_ok-opened-in-Ok-clause-moments
@@ -97,7 +98,7 @@ returns-in_ok-opened-in-Ok-clause-kept g c = λ f is.
     let e = c.in_ok-opened-in-Ok in
     let mid = c.load.new.opening.disk in
     let u = untouched_then c.in_ok-opening.ensures.untouched c.load.ensures.untouched in
-    let stands = loads_stands f c.in-Ok.store (c.in-Ok.ensures.all f (c.in_ok-opening.ensures.untouched.same ∙ is)) in
+    let stands = loads_stands c.in_ok-opening.opening.version f c.in-Ok.store (c.in-Ok.ensures.all f (c.in_ok-opening.ensures.untouched.same ∙ is)) in
     kept_finished c.args.disk mid e.opened.0.disk f c.in-Ok.store (g.met.D.Disk.reads_one e.opened.0.disk) (g.met.D.Disk.reads_one c.args.disk f is) is u stands (e.ensures.moments f (u.same ∙ is)) e.ensures.told
 
 pub returns-in_ok-opened-in-Ok-clause-held : goal.returns-in_ok-opened-in-Ok-clause-held
@@ -106,4 +107,4 @@ returns-in_ok-opened-in-Ok-clause-held g c = λ f is.
     let e = c.in_ok-opened-in-Ok in
     let u = untouched_then c.in_ok-opening.ensures.untouched c.load.ensures.untouched in
     subst (IsHeld (d.content e.opened.0.disk) (d.images e.opened.0.disk) e.opened.0.gate) (sym e.ensures.store)
-    (e.ensures.held f (u.same ∙ is) (c.in-Ok.ensures.all f (c.in_ok-opening.ensures.untouched.same ∙ is)))
+    (e.ensures.held f (u.same ∙ is) (subst (λ (v : Version). Loads v f c.in-Ok.store) (sym c.load.ensures.version) (c.in-Ok.ensures.all f (c.in_ok-opening.ensures.untouched.same ∙ is))))

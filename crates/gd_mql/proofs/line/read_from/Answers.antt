@@ -1,5 +1,4 @@
 use Rattle.gd_json.specs.View.{view}
-use Rattle.gd_mql.specs.Line.{fault_view}
 use Rattle.std.proofs.lemmas.Result.{err_from_is_err_and}
 use Rattle.gd_mql.specs.Requests.{read_view}
 use Rattle.gd_mql.proofs.Envelopes.{read_line_failed, read_line_made}

@@ -1,5 +1,4 @@
 use Rattle.gd_json.specs.View.{view}
-use Rattle.gd_mql.specs.Line.{fault_view}
 use Rattle.std.proofs.lemmas.Result.{err_from_is_err_and}
 use Rattle.gd_mql.specs.Requests.{write_view}
 use Rattle.gd_mql.proofs.Envelopes.{write_line_failed, write_line_made}

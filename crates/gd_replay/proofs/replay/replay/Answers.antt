@@ -1,14 +1,13 @@
 use Rattle.std.proofs.Common.{◌≡◌, ◌∙◌, ℕ, List, Bool, Option, IfSome, refl, sym, ap, subst, arith, append-nil, IsTrue}
-use Rattle.gd_base.specs.Counts.{Rose}
+use Rattle.gd_base.specs.Counts.{Rose, RoseBy}
 use Rattle.gd_prim.specs.declared.Batch.{Batch}
 use Rattle.gd_runs.specs.Legal.{batches}
 use Rattle.gd_runs.specs.Core.{State}
 use Rattle.gd_writer.specs.Parts.{Tells}
-use Rattle.gd_replay_laws.specs.Faults.{RoseBy}
 use Rattle.gd_replay_laws.proofs.Faults.{rose_within}
 use Rattle.gd_replay.specs.Kept.{HasBatches}
 use Rattle.gd_replay.specs.Stops.{Leaves, EndsAs}
-use Rattle.gd_replay.specs.Runs.{Loads, Replays, ReplaysTaken, ReplaysFront}
+use Rattle.gd_replay.specs.Replays.{Loads, Replays, ReplaysTaken, ReplaysFront}
 use Rattle.gd_replay.proofs.Known.{sent_ends, sent_at_end, sent_causes, wider_ends, unopened_ends}
 use Rattle.gd_replay.proofs.Kept.{keeps_more, sent_keeps}
 use Rattle.gd_replay.proofs.Outcomes.{on_err_more}

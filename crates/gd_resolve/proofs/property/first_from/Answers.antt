@@ -8,7 +8,7 @@ use Rattle.gd_resolve.proofs.Lefts.{find_next}
 use Rattle.gd_resolve.proofs.property.first_from.Goals as goal
 
 pub loop-k-init : goal.loop-k-init
-loop-k-init g c = record { left = refl; later = omega arith }
+loop-k-init g c = record { left = refl; work = omega arith; later = omega arith }
 
 pub returns-then-is_found-clause-first : goal.returns-then-is_found-clause-first
 returns-then-is_found-clause-first g c =
@@ -24,5 +24,6 @@ loop-k-preserved g c =
     record {
       left = c.loop-k.invariant.left ∙ find_next test places c.loop-k.k c.list_at-place.result c.list_at-place.ensures.place
           ∙ ap (λ b. cond b (Some c.list_at-place.result) (find test (drop (c.loop-k.k + 1) places))) (sym c.is_found.ensures.found ∙ c.if-is_found.false);
+      work = omega arith;
       later = omega arith;
     }

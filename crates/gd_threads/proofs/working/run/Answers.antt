@@ -1,10 +1,9 @@
 use Rattle.std.proofs.Common.{◌+◌, List, length, map, sym, subst, arith}
 use Rattle.std.specs.List.{AllByRecursion}
-use Rattle.gd_caller.specs.declared.work.WriteLine.{WriteLine}
-use Rattle.gd_caller.specs.Works.{write_of}
-use Rattle.gd_caller.specs.Writes.{MayBeWritten}
+use Rattle.gd_round_lines.specs.declared.work.WriteLine.{WriteLine}
+use Rattle.gd_round_lines.specs.Works.{write_of, MayBeWritten}
 use Rattle.gd_caller.specs.Served.{LeftAreFresh}
-use Rattle.gd_caller.proofs.Lines.{may_be_written}
+use Rattle.gd_round_lines.proofs.Lines.{may_be_written}
 use Rattle.gd_threads.proofs.Sides.{left_are_fresh, writes_run}
 use Rattle.gd_threads.proofs.working.run.Goals as goal
 

@@ -1,8 +1,9 @@
-use Rattle.std.proofs.Common.{[], ◌∷◌, ◌++◌, List, ℕ, take, decimal, subst}
+use Rattle.std.proofs.Common.{[], ◌∷◌, ◌++◌, decimal, subst}
 use Rattle.std.specs.Io.KnownBytes.{Appends}
 use Rattle.gd_reply.specs.Replies.{failure_line}
-use Rattle.gd_top.specs.Serves.{GainsFront}
-use Rattle.gd_top.proofs.Printed.{at_err, front_of, front_first, front_second, pieces_line}
+use Rattle.gd_outside.specs.Gains.{GainsFront}
+use Rattle.gd_outside.proofs.Fronts.{at_err, front_first, front_second}
+use Rattle.gd_top.proofs.Printed.{pieces_line}
 use Rattle.gd_top.proofs.printing.print_failure.Goals as goal
 
 pub returns-in_err-write_all-clause-front : goal.returns-in_err-write_all-clause-front
@@ -10,10 +11,8 @@ returns-in_err-write_all-clause-front g c =
     let old = g.K.Sink.held c.args.sink.now in
     let new = g.K.Sink.held c.write_all.new.sink in
     let begun = c.front.result.now in
-    let front = c.in_err-write_all.ensures.front in
     at_err c.from_residual.result (subst (GainsFront old new) (pieces_line begun (decimal c.args.line) (failure_line c.args.failure c.args.line) (c.front.ensures c.args.line))
-    (front_first old new begun (decimal c.args.line ++ 125 ∷ [] ++ 10 ∷ [])
-    (front_of old new begun front.0 (subst (λ (bytes : List ℕ). Appends old new (take front.0 bytes)) c.as_bytes.ensures.value front.1))))
+    (front_first old new begun (decimal c.args.line ++ 125 ∷ [] ++ 10 ∷ []) (subst (GainsFront old new) c.as_bytes.ensures.value c.in_err-write_all.ensures.front)))
 
 pub returns-in_err-print_last_number-clause-front : goal.returns-in_err-print_last_number-clause-front
 returns-in_err-print_last_number-clause-front g c =

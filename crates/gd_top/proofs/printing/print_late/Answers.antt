@@ -2,8 +2,9 @@ use Rattle.std.proofs.Common.{[], ◌∷◌, ◌++◌, decimal, codes, subst}
 use Rattle.std.specs.Io.KnownBytes.{Appends}
 use Rattle.std.proofs.KnownBytes.{Appends-trans}
 use Rattle.gd_top.specs.Late.{late_front}
-use Rattle.gd_top.specs.Serves.{GainsFront}
-use Rattle.gd_top.proofs.Printed.{at_err, front_first, front_second, late_text}
+use Rattle.gd_outside.specs.Gains.{GainsFront}
+use Rattle.gd_outside.proofs.Fronts.{at_err, front_first, front_second}
+use Rattle.gd_top.proofs.Printed.{late_text}
 use Rattle.gd_top.proofs.printing.print_late.Goals as goal
 
 pub returns-in_err-print_late_front-clause-front : goal.returns-in_err-print_late_front-clause-front

@@ -1,6 +1,6 @@
 use Rattle.std.proofs.Common.{◌++◌, decimal, codes}
 use Rattle.std.proofs.KnownBytes.{Appends-trans}
-use Rattle.gd_top.proofs.Printed.{at_err, front_of, front_first, front_second}
+use Rattle.gd_outside.proofs.Fronts.{at_err, front_first, front_second}
 use Rattle.gd_top.proofs.printing.print_late_front.Goals as goal
 
 pub returns-in_err-write_all-clause-front : goal.returns-in_err-write_all-clause-front
@@ -8,8 +8,7 @@ returns-in_err-write_all-clause-front g c =
     let old = g.K.Sink.held c.args.sink.now in
     let new = g.K.Sink.held c.write_all.new.sink in
     let begun = codes "{\"code\":\"/api/status/error\",\"error\":\"MemoryLate\",\"info\":{\"entry\":" in
-    let front = c.in_err-write_all.ensures.front in
-    at_err c.from_residual.result (front_first old new begun (decimal c.args.entry ++ codes "},\"line\":") (front_of old new begun front.0 front.1))
+    at_err c.from_residual.result (front_first old new begun (decimal c.args.entry ++ codes "},\"line\":") c.in_err-write_all.ensures.front)
 
 pub returns-in_err-print_entry-clause-front : goal.returns-in_err-print_entry-clause-front
 returns-in_err-print_entry-clause-front g c =

@@ -1,6 +1,6 @@
 use Rattle.std.proofs.Common.{◌≤◌, map, take}
 use Rattle.std.specs.Io.KnownBytes.{Appends}
-use Rattle.gd_caller.specs.Replies.{round_text}
+use Rattle.gd_round_lines.specs.Replies.{round_text}
 use Rattle.gd_caller.specs.Served.{printed}
 use Rattle.gd_top.proofs.printing.print_made.Given as goal
 

@@ -2,9 +2,10 @@ use Rattle.std.proofs.Common.{◌≡◌, ◌+◌, ◌-◌, ℕ, suc, Some, take,
 use Rattle.std.proofs.KnownBytes.{Appends-nil}
 use Rattle.std.specs.Io.KnownBytes.{Appends}
 use Rattle.gd_runs.specs.Explained.{memory_line}
-use Rattle.gd_caller.specs.Replies.{no_memory}
+use Rattle.gd_round_lines.specs.Replies.{no_memory}
 use Rattle.gd_caller.specs.Served.{printed}
-use Rattle.gd_top.proofs.Printed.{at_err, passed_at, length-passed, printed_more, printed_stops, printed_all}
+use Rattle.gd_outside.proofs.Fronts.{at_err}
+use Rattle.gd_top.proofs.Printed.{passed_at, length-passed, printed_more, printed_stops, printed_all}
 use Rattle.gd_top.proofs.printing.print_no_memory.Goals as goal
 
 pub loop-line-init : goal.loop-line-init

@@ -1,6 +1,6 @@
 use Rattle.std.proofs.Common.{◌≤◌, ◌-◌, take}
 use Rattle.std.specs.Io.KnownBytes.{Appends}
-use Rattle.gd_caller.specs.Replies.{no_memory}
+use Rattle.gd_round_lines.specs.Replies.{no_memory}
 use Rattle.gd_caller.specs.Served.{printed}
 use Rattle.gd_top.proofs.printing.print_no_memory.Given as goal
 

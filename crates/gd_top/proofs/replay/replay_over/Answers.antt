@@ -1,10 +1,10 @@
 use Rattle.std.proofs.Common.{◌∙◌, sym}
+use Rattle.gd_base.specs.Counts.{RoseBy}
 use Rattle.gd_log.specs.Opening.{IsKept}
 use Rattle.gd_replay.specs.Kept.{HasBatches}
-use Rattle.gd_replay.specs.Runs.{Loads}
 use Rattle.gd_replay.specs.Stops.{Leaves}
 use Rattle.gd_top.specs.Ends.{IsIdle}
-use Rattle.gd_top.specs.Held.{RoseBy}
+use Rattle.gd_top.specs.Held.{Loads}
 use Rattle.gd_top.proofs.Replayed.{events_print, ends_idle, idle_is, events_at_end, events_used, events_keep, events_causes}
 use Rattle.gd_top.proofs.replay.replay_over.Goals as goal
 

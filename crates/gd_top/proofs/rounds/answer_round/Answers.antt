@@ -1,8 +1,8 @@
 use Rattle.std.proofs.Common.{◌≡◌, ◌+◌, length, rules, arith}
 use Rattle.std.proofs.lemmas.Grind.{common_steps}
 use Rattle.gd_threads.specs.Served.{state_at}
-use Rattle.gd_caller.specs.Replies.{reply_texts}
-use Rattle.gd_top.proofs.Printed.{at_err}
+use Rattle.gd_round_lines.specs.Replies.{reply_texts}
+use Rattle.gd_outside.proofs.Fronts.{at_err}
 use Rattle.gd_top.proofs.Answered.{answered}
 use Rattle.gd_top.proofs.Served.{whole_front, held_on, front_held}
 use Rattle.gd_top.proofs.rounds.answer_round.Goals as goal

@@ -1,7 +1,7 @@
 use Rattle.std.proofs.Common.{◌^◌, ◌∙◌, refl, arith}
 use Rattle.std.specs.Io.KnownBytes.{prepend_known}
 use Rattle.gd_threads.specs.Served.{state_at}
-use Rattle.gd_top.proofs.Printed.{at_err}
+use Rattle.gd_outside.proofs.Fronts.{at_err}
 use Rattle.gd_top.proofs.Known.{more_known, done_known, part_known, rounds_known, front_known, taken_known, counted_on, input_too_much, begun}
 use Rattle.gd_top.proofs.rounds.serve_rounds.Goals as goal
 

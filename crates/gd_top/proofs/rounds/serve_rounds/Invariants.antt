@@ -4,7 +4,7 @@ use Rattle.std.specs.Io.KnownBytes.{prepend_known}
 use Rattle.gd_input.specs.Held.{IsBounded}
 use Rattle.gd_input.specs.Pieces.{Known, Advances}
 use Rattle.gd_threads.specs.Served.{state_at}
-use Rattle.gd_top.specs.Serves.{ServedUpto}
+use Rattle.gd_top.specs.Answered.{ServedUpto}
 use Rattle.gd_top.proofs.rounds.serve_rounds.Given as goal
 
 abbrev pub invariant-loop-round : goal.invariant-loop-round

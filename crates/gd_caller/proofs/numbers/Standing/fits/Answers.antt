@@ -1,9 +1,9 @@
 use Rattle.std.proofs.Common.{◌≤◌, List, map, refl, sym, subst, arith}
 use Rattle.gd_core_laws.specs.Bounds.{least_later}
-use Rattle.gd_caller.specs.declared.work.WriteLine.{WriteLine}
-use Rattle.gd_caller.specs.Works.{write_of}
+use Rattle.gd_round_lines.specs.declared.work.WriteLine.{WriteLine}
+use Rattle.gd_round_lines.specs.Works.{write_of}
 use Rattle.gd_caller.specs.Fits.{FollowsWrites}
-use Rattle.gd_caller.proofs.Sets.{item_there, drop_there}
+use Rattle.gd_round_lines.proofs.Sets.{item_there, drop_there}
 use Rattle.gd_caller.proofs.numbers.Standing.fits.Goals as goal
 
 pub loop-write-preserved : goal.loop-write-preserved

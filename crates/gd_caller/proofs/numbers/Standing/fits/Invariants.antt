@@ -2,7 +2,7 @@ use Rattle.std.proofs.Common.{◌≤◌, List, map, drop}
 use Rattle.gd_runs.specs.Side.{Told}
 use Rattle.gd_core_laws.specs.Bounds.{least_later}
 use Rattle.gd_caller.specs.Told.{AreNumbers}
-use Rattle.gd_caller.specs.Works.{write_of}
+use Rattle.gd_round_lines.specs.Works.{write_of}
 use Rattle.gd_caller.specs.Fits.{FollowsWrites}
 use Rattle.gd_caller.proofs.numbers.Standing.fits.Given as goal
 

@@ -1,5 +1,5 @@
 use Rattle.std.proofs.Common.{map, arith}
-use Rattle.gd_caller.specs.Works.{write_of}
+use Rattle.gd_round_lines.specs.Works.{write_of}
 use Rattle.gd_caller.proofs.Least.{least_shown}
 use Rattle.gd_caller.proofs.numbers.Standing.least_later.Goals as goal
 

@@ -2,7 +2,7 @@ use Rattle.std.proofs.Common.{◌≡◌, ◌≤◌, min, List, map, drop}
 use Rattle.gd_runs.specs.Side.{Told}
 use Rattle.gd_core_laws.specs.Bounds.{least_later}
 use Rattle.gd_caller.specs.Told.{AreNumbers}
-use Rattle.gd_caller.specs.Works.{write_of}
+use Rattle.gd_round_lines.specs.Works.{write_of}
 use Rattle.gd_caller.proofs.numbers.Standing.least_later.Given as goal
 
 abbrev pub invariant-loop-write : goal.invariant-loop-write

@@ -2,6 +2,7 @@ use Rattle.std.proofs.Common.{ℕ, ◌<◌, [], ◌∷◌, ◌++◌, Some, None,
 use Rattle.std.specs.Prelude.{Option}
 use Rattle.gd_journal.specs.Reading.{ComesNext, Moves, IsReady, IsRead}
 use Rattle.gd_journal.specs.State.{HasEnd}
+use Rattle.gd_journal.specs.Versions.{version_seen}
 use Rattle.gd_journal.proofs.Ends.{sees_less}
 use Rattle.gd_journal.proofs.OneByOne.{read_more, read_end, read_short, read_begins}
 use Rattle.gd_journal.proofs.opening.Opening.next_payload.Goals as goal
@@ -18,7 +19,7 @@ returns-in-End-clause-next g c = rw (← c.self.view_is) (λ f is read was.
     let long : 9 < c.self.inside.len = omega (arith, c.if-self-le-UNFINISHED.false) in
     let h = (c.self.invariant.0 f is).1 in
     let comes = subst (ComesNext i.records.at c.next.new.self.at f) c.in-End.is (c.in_ok-next.ensures.comes f is) in
-    let end = read_end read i.records.at i.len i.end.gate i.end.damaged None f long h (c.self.invariant.1.within long) was comes in
+    let end = read_end read i.records.at i.len (version_seen i.end.version) i.end.marked i.end.gate i.end.damaged None f long h (c.self.invariant.1.within long) was comes in
     end.0 ∙ ap (λ (o : Option ℕ). Some (record { list = read; damaged = o })) end.1)
 
 pub invariant_of-self-in-Torn : goal.invariant_of-self-in-Torn
@@ -33,8 +34,8 @@ invariant_of-self-in-Torn g c =
           let s = c.self.invariant.0 f was in
           let r = c.self.invariant.2 f was in
           let comes = subst (ComesNext i.records.at c.next.new.self.at f) c.in-Torn.is (c.in_ok-next.ensures.comes f was) in
-          let end = read_end r.0 i.records.at i.len i.end.gate i.end.damaged (Some c.in-Torn.offset) f long s.1 (c.self.invariant.1.within long) r.1 (moves.1, comes) in
-          (λ b now. s.0 b (u.now b now), subst (λ (o : Option ℕ). HasEnd f i.len i.end.gate o) (sym end.1) s.1),
+          let end = read_end r.0 i.records.at i.len (version_seen i.end.version) i.end.marked i.end.gate i.end.damaged (Some c.in-Torn.offset) f long s.1 (c.self.invariant.1.within long) r.1 (moves.1, comes) in
+          (λ b now. s.0 b (u.now b now), subst (λ (o : Option ℕ). HasEnd f i.len (version_seen i.end.version) i.end.marked i.end.gate o) (sym end.1) s.1),
       subst (λ (n : ℕ). IsReady (d.content c.next.new.disk) n c.next.new.self.at c.next.new.self.window) c.self.invariant.1.size c.next.ensures.ready,
       λ f is.
           let r = c.self.invariant.2 f (sym u.same ∙ is) in
@@ -47,7 +48,7 @@ returns-in-Torn-clause-next g c = rw (← c.self.view_is) (λ f is read was.
     let long : 9 < c.self.inside.len = omega (arith, c.if-self-le-UNFINISHED.false) in
     let moves = subst (Moves i.records.at c.next.new.self.at) c.in-Torn.is c.in_ok-next.ensures.moves in
     let comes = subst (ComesNext i.records.at c.next.new.self.at f) c.in-Torn.is (c.in_ok-next.ensures.comes f is) in
-    (read_end read i.records.at i.len i.end.gate i.end.damaged (Some c.in-Torn.offset) f long (c.self.invariant.0 f is).1 (c.self.invariant.1.within long) was (moves.1, comes)).0)
+    (read_end read i.records.at i.len (version_seen i.end.version) i.end.marked i.end.gate i.end.damaged (Some c.in-Torn.offset) f long (c.self.invariant.0 f is).1 (c.self.invariant.1.within long) was (moves.1, comes)).0)
 
 pub invariant_of-self-in-Record : goal.invariant_of-self-in-Record
 invariant_of-self-in-Record g c =
@@ -57,7 +58,7 @@ invariant_of-self-in-Record g c =
     let p = c.in-Record.payload in
     let long : 9 < c.self.inside.len = omega (arith, c.if-self-le-UNFINISHED.false) in
     let moves = subst (Moves i.records.at c.next.new.self.at) c.in-Record.is c.in_ok-next.ensures.moves in (
-      sees_less (d.content i.disk) (d.content c.next.new.disk) (d.images i.disk) (d.images c.next.new.disk) i.len i.end.gate i.end.damaged u.same u.now c.self.invariant.0,
+      sees_less (d.content i.disk) (d.content c.next.new.disk) (d.images i.disk) (d.images c.next.new.disk) i.len (version_seen i.end.version) i.end.marked i.end.gate i.end.damaged u.same u.now c.self.invariant.0,
       subst (λ (n : ℕ). IsReady (d.content c.next.new.disk) n c.next.new.self.at c.next.new.self.window) c.self.invariant.1.size c.next.ensures.ready,
       λ f is.
           let was = sym u.same ∙ is in

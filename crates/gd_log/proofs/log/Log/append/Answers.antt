@@ -1,9 +1,10 @@
-use Rattle.std.proofs.Common.{◌≡◌, ℕ, List, Some, [], ◌∷◌, ◌++◌, sym, ◌∙◌, ap, subst, arith}
+use Rattle.std.proofs.Common.{true, ◌≡◌, ℕ, List, Some, [], ◌∷◌, ◌++◌, sym, ◌∙◌, ap, subst, arith}
 use Rattle.std.proofs.lemmas.Result.{on_ok_weaker}
 use Rattle.std.proofs.lemmas.Option.{IfSome_then}
 use Rattle.gd_bytes.specs.Group.{IsGroup, group_of}
 use Rattle.gd_journal.specs.State.{Journaled}
 use Rattle.gd_log.proofs.Held.{held_next, hold, doubt, leaves}
+use Rattle.gd_bytes.specs.File.{is_marked}
 use Rattle.gd_log.proofs.Meaning.{push}
 use Rattle.gd_log.proofs.log.Log.append.Goals as goal
 
@@ -24,7 +25,7 @@ returns-clause-added g c = rw (← c.self.view_is) (on_ok_weaker c.append.result
     let next = held_next (d.content j.disk) (d.images j.disk) j.gate bs more p before is meant in
     let h = before.held in
     let after = c.append.new.self in
-    hold (d.content after.disk) (d.images after.disk) after.gate (h.payloads ++ p ∷ []) (bs ++ more) (push [] h.payloads bs p more h.groups next) (run h.payloads h.settled)) c.append.ensures.added)
+    hold (d.content after.disk) (d.images after.disk) after.gate h.version (h.payloads ++ p ∷ []) (bs ++ more) (push (is_marked h.version) [] h.payloads true bs p more h.groups next) (run h.version h.payloads h.settled)) c.append.ensures.added)
 
 pub returns-clause-unsure : goal.returns-clause-unsure
 returns-clause-unsure g c = rw (← c.self.view_is) (IfSome_then c.append.new.self.doubt c.append.ensures.doubtful (λ n run bs before.
@@ -37,7 +38,7 @@ returns-clause-unsure g c = rw (← c.self.view_is) (IfSome_then c.append.new.se
     let next = held_next (d.content j.disk) (d.images j.disk) j.gate bs more p before is meant in
     let h = before.held in
     let after = c.append.new.self in
-    doubt (d.content after.disk) (d.images after.disk) after.gate n h.payloads p bs more h.groups next (run h.payloads h.settled)))
+    doubt (d.content after.disk) (d.images after.disk) after.gate n h.version h.payloads p bs more h.groups next (run h.version h.payloads h.settled)))
 
 pub returns-clause-moments : goal.returns-clause-moments
 returns-clause-moments g c = rw (← c.self.view_is) (λ bs before.
@@ -50,4 +51,4 @@ returns-clause-moments g c = rw (← c.self.view_is) (λ bs before.
     let next = held_next (d.content j.disk) (d.images j.disk) j.gate bs more p before is meant in
     let h = before.held in
     let after = c.append.new.self in
-    leaves j.disk after.disk h.payloads p bs more h.groups next (c.append.ensures.moments h.payloads h.settled))
+    leaves j.disk after.disk h.version h.payloads p bs more h.groups next (c.append.ensures.moments h.version h.payloads h.settled))

@@ -5,5 +5,5 @@ use Rattle.gd_postings.proofs.postings.Postings.len_below.Goals as goal
 
 pub returns-clause-len : goal.returns-clause-len
 returns-clause-len g c =
-    is_count c.as_slice.result.now c.args.end c.search.result c.search.ensures.split
+    is_count c.as_slice.result.now c.args.end c.cut.result c.cut.ensures.split
     ∙ ap (λ (ids : List ℕ). length (ids_below c.args.end ids)) c.as_slice.ensures.ids

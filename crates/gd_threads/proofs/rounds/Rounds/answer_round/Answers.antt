@@ -1,4 +1,4 @@
-use Rattle.gd_caller.specs.Replies.{reply_texts}
+use Rattle.gd_round_lines.specs.Replies.{reply_texts}
 use Rattle.gd_threads.proofs.Passed.{passed}
 use Rattle.gd_threads.proofs.rounds.Rounds.answer_round.Goals as goal
 

@@ -4,9 +4,9 @@ use Rattle.logbook.specs.Pages.{Book}
 use Rattle.gd_input.specs.Rounds.{AreKept}
 use Rattle.gd_runs.specs.Explained.{Numbered}
 use Rattle.gd_writer.specs.Side.{SideValue}
-use Rattle.gd_caller.specs.Replies.{round_text}
-use Rattle.gd_caller.specs.Served.{IsFreshFrom}
-use Rattle.gd_caller.specs.Works.{texts_of, AreRead, AreWithin}
+use Rattle.gd_round_lines.specs.Replies.{round_text}
+use Rattle.gd_round_lines.specs.Fresh.{IsFreshFrom}
+use Rattle.gd_round_lines.specs.Works.{texts_of, AreRead, AreWithin}
 use Rattle.gd_crew.specs.Ready.{IsIdle}
 use Rattle.gd_crew.specs.Texts.{kept_lines}
 use Rattle.gd_crew.proofs.Joined.{kept}

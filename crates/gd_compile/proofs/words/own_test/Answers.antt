@@ -1,0 +1,20 @@
+use Rattle.std.proofs.Common.{sym, map, Bor, List, ℕ}
+use Rattle.gd_prim.specs.History.{prims_of}
+use Rattle.gd_defs.specs.Asked as defs
+use Rattle.gd_json.specs.View.{view as json_of}
+use Rattle.gd_tree.specs.Look.{item_count}
+use Rattle.gd_mql.specs.Names.{operator_view}
+use Rattle.gd_plan.specs.Seen.{expects_view, test_view, own_view}
+use Rattle.gd_compile.proofs.Spoken.{told_found, told_within}
+use Rattle.gd_compile.proofs.words.own_test.Goals as goal
+
+pub returns-in_ok-test-clause-test : goal.returns-in_ok-test-clause-test
+returns-in_ok-test-clause-test g c =
+    told_found (prims_of c.args.view.now) (map (λ (n : Bor (List ℕ)). n.now) c.args.path.now) (own_view c.args.own) (expects_view c.own_expects.result) (operator_view c.args.operator) (json_of c.args.json.now) (test_view c.in_ok-test.test) c.told.result
+    (sym c.if-takes.ensures) c.own_expects.ensures c.in_ok-test.ensures.test c.told.ensures.test
+
+pub returns-in_ok-test-clause-work : goal.returns-in_ok-test-clause-work
+returns-in_ok-test-clause-work g c =
+    told_within (prims_of c.args.view.now) (map (λ (n : Bor (List ℕ)). n.now) c.args.path.now) (own_view c.args.own) (expects_view c.own_expects.result) (operator_view c.args.operator) (json_of c.args.json.now) (test_view c.in_ok-test.test)
+    c.args.steps.now c.test_of.new.steps c.told.new.steps (item_count (json_of c.args.json.now))
+    (sym c.if-takes.ensures) c.own_expects.ensures c.in_ok-test.ensures.test c.in_ok-test.ensures.work c.told.ensures.work

@@ -1,0 +1,109 @@
+//! A turn of a session at a read line.
+ghost use Rattle.std.specs.Prelude.{◌≡◌, ◌≢◌, ◌<◌, ◌≤◌, ◌+◌, ◌^◌, None, Some, IfOk, is_some};
+ghost use Rattle.gd_mql.specs.Requests.{read_view};
+ghost use Rattle.gd_seats.specs.Session.{reads};
+ghost use Rattle.gd_crew.specs.Reading.{BeginTurn, SliceTurn, TurnsRead};
+
+use gd_base::memory::Memory;
+use gd_base::steps::Steps;
+use gd_mql::request::ReadRequest;
+use gd_outside::gate::Gate;
+use gd_seats::fault::SessionFault;
+use gd_seats::session::Session;
+use gd_suspended::reading::Progress;
+use std::alloc::Global;
+
+/// What a turn at a read line comes to.
+#[derive(Drop)]
+pub(crate) enum ReadTurn {
+    /// The session holds the reading, which began at this snapshot.
+    Going { at: u32 },
+    /// The reply line with its snapshot, or want of memory.
+    Answered { at: u32, reply: Option<Vec<u8>> },
+    /// The seat was turned away.
+    Shut,
+}
+
+/// The same read again.
+fn again(request: &ReadRequest) -> Result<ReadRequest, Memory>
+    ensures { IfOk result (λ copied. read_view copied ≡ read_view request.now) }
+{
+    request.copy()
+}
+
+/// Begins the read of a line.
+fn begin_read<L>(
+    session: &mut Session,
+    alloc: Global,
+    line: u64,
+    request: &ReadRequest,
+    steps: &mut Steps<L>,
+) -> ReadTurn
+    requires line { line < 2 ^ 63 }
+    requires none { reads session.old ≡ None }
+    ensures { BeginTurn session.old line (read_view request.now) result session.new }
+{
+    let Ok(request) = again(request) else {
+        return ReadTurn::Answered { at: 0, reply: None };
+    };
+    match session.begin(alloc, request, steps) {
+        Ok(_) => ReadTurn::Going { at: session.seen() },
+        Err(SessionFault::Read(fault)) => {
+            let at = session.seen();
+            let reply = fault.line(alloc, at, line).ok();
+            ReadTurn::Answered { at, reply }
+        }
+        Err(SessionFault::Shut) => ReadTurn::Shut,
+    }
+}
+
+/// Goes on with the reading that is held, which began at this snapshot, for a budget of steps.
+fn slice_read<L>(
+    session: &mut Session,
+    alloc: Global,
+    at: u32,
+    budget: u64,
+    line: u64,
+    steps: &mut Steps<L>,
+) -> ReadTurn
+    requires line { line < 2 ^ 63 }
+    requires budget { (0 < budget) × (budget ≤ 1_000_000) }
+    requires held { reads session.old ≢ None }
+    ensures { SliceTurn session.old at line result session.new }
+{
+    match session.slice(alloc, budget, line, steps) {
+        Ok(Progress::Unfinished) => ReadTurn::Going { at },
+        Ok(Progress::Reply(bytes)) => ReadTurn::Answered {
+            at,
+            reply: Some(bytes),
+        },
+        Err(SessionFault::Read(_)) => ReadTurn::Answered { at, reply: None },
+        Err(SessionFault::Shut) => ReadTurn::Shut,
+    }
+}
+
+/// One turn at a read line: it begins where no reading is held, and else goes on with the one that began at a snapshot.
+pub(crate) fn read_turn<G: Gate, L>(
+    session: &mut Session,
+    alloc: Global,
+    gate: &G,
+    number: u32,
+    at: Option<u32>,
+    budget: u64,
+    line: u64,
+    request: &ReadRequest,
+    steps: &mut Steps<L>,
+) -> ReadTurn
+    requires line { line < 2 ^ 63 }
+    requires budget { (0 < budget) × (budget ≤ 1_000_000) }
+    requires held { is_some at ≡ is_some (reads session.old) }
+    ensures { TurnsRead session.old at line (read_view request.now) result session.new }
+{
+    match at {
+        Some(at) => slice_read(session, alloc, at, budget, line, steps),
+        None => {
+            gate.pass(number, line);
+            begin_read(session, alloc, line, request, steps)
+        }
+    }
+}

@@ -1,0 +1,4 @@
+use Rattle.gd_disk.proofs.steady_disk.SteadyDiskDisk.cut.Goals as goal
+
+pub returns-clause-time : goal.returns-clause-time
+returns-clause-time c = rw (← c.self.view_is) c.cut.ensures.time

@@ -1,0 +1,28 @@
+use Rattle.std.proofs.Common.{◌≡◌, ◌+◌, ◌-◌, ◌++◌, ◌∷◌, [], arith, rules, ℕ, List}
+use Rattle.std.proofs.lemmas.Result.{err_from_is_err_and}
+use Rattle.gd_grammar.specs.Grammar.{number_at}
+use Rattle.gd_prim.specs.Limits.{max_prims}
+use Rattle.gd_bytes.specs.FrozenRead.{some_at}
+use Rattle.gd_frozen.specs.declared.halt.Halt.TheVariants as halt
+use Rattle.gd_frozen.proofs.Loops.{more_ends, more_step, more_done, more_halts, stop_halts}
+use Rattle.gd_frozen.proofs.walk.links.Goals as goal
+
+pub returns-in-None : goal.returns-in-None
+returns-in-None c = let l = c.loop-place in more_ends 44 (15 - l._place) (number_at max_prims) l.links.items l.rest.now (some_at 15 44 (number_at max_prims) c.args.bytes.now) c.in-None.ensures l.invariant
+
+pub returns : goal.returns
+returns c = let l = c.loop-place in more_done 44 (15 - l._place) (number_at max_prims) l.links.items l.rest.now (some_at 15 44 (number_at max_prims) c.args.bytes.now) (omega arith) l.invariant
+
+pub returns-in_err-next-in-Some : goal.returns-in_err-next-in-Some
+returns-in_err-next-in-Some c =
+    let l = c.loop-place in
+    let p = err_from_is_err_and c.from_residual-in_err-next-in-Some.result c.from_residual-in_err-next-in-Some.ensures.1 in
+    let stopped = more_halts (halt.Bad c.in_err-next-in-Some.field-0.0.left) 44 (15 - l._place) (15 - (l._place + 1)) (number_at max_prims) l.links.items l.rest.now c.in-Some.behind.now (some_at 15 44 (number_at max_prims) c.args.bytes.now) (omega (arith, c.loop-place-test.true)) c.in-Some.ensures (stop_halts c.in_err-next-in-Some.field-0.0 (number_at max_prims c.in-Some.behind.now) c.in_err-next-in-Some.ensures) l.invariant in
+    rw (p.1, p.2) stopped
+
+pub loop-place-preserved : goal.loop-place-preserved
+loop-place-preserved c =
+    let l = c.loop-place in
+    let more : c.push-in-Some.new.self.items ≡ l.links.items ++ c.in_ok-next-in-Some.next ∷ [] = search rules in
+    more_step 44 (15 - l._place) (15 - (l._place + 1)) (number_at max_prims) l.links.items c.push-in-Some.new.self.items c.in_ok-next-in-Some.next l.rest.now c.in-Some.behind.now c.in_ok-next-in-Some.after.now (some_at 15 44 (number_at max_prims) c.args.bytes.now)
+    (omega (arith, c.loop-place-test.true)) c.in-Some.ensures c.in_ok-next-in-Some.ensures more l.invariant

@@ -1,2 +1,0 @@
-//! Laws of histories: plain lists of batches and their primitives. They stand in `proofs/`.
-#![tactic(auto)]

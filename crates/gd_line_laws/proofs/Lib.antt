@@ -1,4 +1,0 @@
-pub mod Lines
-pub mod ReadLines
-pub mod Legal
-pub mod Laws

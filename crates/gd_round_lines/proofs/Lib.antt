@@ -1,0 +1,4 @@
+pub mod Some
+pub mod Sets
+pub mod Read
+pub mod Lines

@@ -1,0 +1,5 @@
+pub mod Some
+pub mod Fresh
+pub mod Replies
+pub mod Works
+pub mod Worked

@@ -1,0 +1,9 @@
+pub mod Reach
+pub mod Visits
+pub mod Kept
+pub mod Going
+pub mod Pages
+pub mod Gone
+pub mod Grown
+pub mod Freezing
+pub mod Few

@@ -1,0 +1,4 @@
+pub mod Thawing
+pub mod Gone
+pub mod Grown
+pub mod Freezing

@@ -1,0 +1,2 @@
+//! Laws of readings that go on from a frozen position.
+#![tactic(auto)]

@@ -1,4 +1,0 @@
-use Rattle.gd_top.proofs.steady.SteadyDiskDisk.cut.Goals as goal
-
-pub returns-clause-time : goal.returns-clause-time
-returns-clause-time c = rw (← c.self.view_is) c.cut.ensures.time

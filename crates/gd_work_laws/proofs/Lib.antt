@@ -1,0 +1,15 @@
+pub mod Sums
+pub mod Links
+pub mod Ends
+pub mod Members
+pub mod Formed
+pub mod Scan
+pub mod Named
+pub mod Smallest
+pub mod Rows
+pub mod Below
+pub mod Counted
+pub mod Ids
+pub mod Reading
+pub mod Sources
+pub mod Laws

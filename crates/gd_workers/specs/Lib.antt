@@ -1,5 +1,0 @@
-pub mod Reading
-pub mod Runs
-pub mod Seated
-pub mod Turns
-pub mod Writing
