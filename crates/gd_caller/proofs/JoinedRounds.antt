@@ -27,7 +27,8 @@ use Rattle.gd_round_lines.specs.declared.work.Works.{Works}
 use Rattle.gd_caller.specs.Told.{Forgets, reply_or}
 use Rattle.gd_caller.specs.Served.{printed, AreOf}
 use Rattle.gd_round_lines.specs.Fresh.{IsFreshFrom}
-use Rattle.gd_round_lines.specs.Replies.{round_text, no_memory}
+use Rattle.gd_reply.specs.Replies.{reply_text}
+use Rattle.gd_round_lines.specs.Replies.{no_memory}
 use Rattle.gd_round_lines.specs.Works.{write_of, IsReadAmong, AreWithin, AreRead}
 use Rattle.gd_caller.specs.Writes.{RoseBy, faults_kept}
 use Rattle.gd_caller.specs.Joined.{IsOfWrites, SessionAt, JoinedReply, by_kept, by_caller, by_worker, AnswersJoined}
@@ -106,7 +107,7 @@ module _ {D C : Type 0} (first begun : ℕ) (given : List Numbered) (works : Wor
     abbrev Line : ℕ → List ℕ → List ℕ → Outcome → Type 0
     Line j bytes reply o = JoinedLine side.history (length side.shown) begun (write_lines first given) ws a.outs Tells j (first + j) bytes reply o
 
-    by_reply : (j : ℕ) (l : Numbered) (was reply : List ℕ) → slice_get given j ≡ Some l → slice_get (map round_text works.replies.items) j ≡ Some was
+    by_reply : (j : ℕ) (l : Numbered) (was reply : List ℕ) → slice_get given j ≡ Some l → slice_get (map reply_text works.replies.items) j ≡ Some was
         → JoinedReply first begun works.reads.items works.writes.items (batches side.history) (length side.shown) a.outs a.tells j (reply_or (first + j) was (kept_of a.outs (first + j))) reply → (o : Outcome) × Line j l.bytes reply o
     by_reply j l was reply at at_was (by_kept is stored) =
         let f = first_line side.history (length side.shown) first given ws read_are.writes a.outs of j l was at (read_are.replies j l was at at_was) in (
@@ -160,7 +161,7 @@ module _ {D C : Type 0} (first begun : ℕ) (given : List Numbered) (works : Wor
   joined_many =
       let many = a.many in
       let count = read_are.count in
-      let long = length-map works.replies.items round_text in
+      let long = length-map works.replies.items reply_text in
       omega (arith, many, count, long)
 
   -- LAW: the disk's count rose by the replies that tell a failure of it

@@ -19,11 +19,11 @@ use Rattle.gd_writer.specs.declared.outcome.WriteOf.{WriteOf}
 use Rattle.gd_writer.specs.declared.outcome.Outcome.{Outcome}
 use Rattle.gd_writer.specs.declared.outcome.Outcome.TheVariants as outcome
 use Rattle.gd_writer.specs.Outcomes.{kept_view, told_view, IsTold}
-use Rattle.gd_round_lines.specs.declared.replies.RoundReply.{RoundReply}
-use Rattle.gd_round_lines.specs.declared.replies.RoundReply.TheVariants.{Line, Failed, Late}
+use Rattle.gd_reply.specs.declared.reply.Reply.{Reply}
+use Rattle.gd_reply.specs.declared.reply.Reply.TheVariants.{Line, Failed, Late}
 use Rattle.gd_caller.specs.declared.told.ToldWrite.{ToldWrite}
 use Rattle.gd_round_lines.specs.declared.work.LineNumber.{LineNumber}
-use Rattle.gd_round_lines.specs.Replies.{round_text}
+use Rattle.gd_reply.specs.Replies.{reply_text}
 use Rattle.gd_round_lines.specs.declared.work.WriteLine.{WriteLine}
 use Rattle.gd_caller.specs.Told.{Forgets, line_number, number_or, reply_or, IsNumber, AreNumbers}
 use Rattle.gd_round_lines.specs.Works.{no_number, IsWriteWithin}
@@ -118,21 +118,21 @@ told_why k f at n bytes number is = record { kept = kept_refused f at; may = inl
 pub told_nothing : (k : ℕ) (f : ChangeFault) (at : ℕ) (n : LineNumber) → n ≡ only_number None → TellsKept k (kept_refused f at) (record { number = n; reply = Failed NoMemory k })
 told_nothing k f at n number = record { kept = kept_memory; may = inr refl; number = number; reply = refl }
 
-pub told_one : (first k : ℕ) (o : Outcome) (told : ToldWrite) (a b : List LineNumber) (x y : List RoundReply) → first ≤ k → TellsKept k (kept_view o) told → b ≡ set a (k - first) told.number → y ≡ set x (k - first) told.reply
-    → TellsOne first (told_of k (kept_view o)) a b (map round_text x) (map round_text y)
+pub told_one : (first k : ℕ) (o : Outcome) (told : ToldWrite) (a b : List LineNumber) (x y : List Reply) → first ≤ k → TellsKept k (kept_view o) told → b ≡ set a (k - first) told.number → y ≡ set x (k - first) told.reply
+    → TellsOne first (told_of k (kept_view o)) a b (map reply_text x) (map reply_text y)
 told_one first k o told a b x y low t numbers replies = record {
   kept = t.kept;
   may = t.may;
   low = low;
   number = numbers ∙ ap (λ (n : LineNumber). set a (k - first) n) t.number;
-  reply = ap (map round_text) replies ∙ map-set round_text x (k - first) told.reply ∙ ap (λ (r : List ℕ). set (map round_text x) (k - first) r) t.reply;
+  reply = ap (map reply_text) replies ∙ map-set reply_text x (k - first) told.reply ∙ ap (λ (r : List ℕ). set (map reply_text x) (k - first) r) t.reply;
 }
 
 pub told_many : (first : ℕ) (was : Told) (a b : List LineNumber) (x y : List (List ℕ)) → TellsOne first was a b x y → length b ≡ length a
 told_many first was a b x y one = ap length one.number ∙ length-set a (was.line - first) (line_number one.kept)
 
-pub told_count : (first : ℕ) (was : Told) (a b : List LineNumber) (x y : List RoundReply) → TellsOne first was a b (map round_text x) (map round_text y) → length y ≡ length x
-told_count first was a b x y one = sym (length-map y round_text) ∙ ap length one.reply ∙ length-set (map round_text x) (was.line - first) (kept_reply was.line one.kept) ∙ length-map x round_text
+pub told_count : (first : ℕ) (was : Told) (a b : List LineNumber) (x y : List Reply) → TellsOne first was a b (map reply_text x) (map reply_text y) → length y ≡ length x
+told_count first was a b x y one = sym (length-map y reply_text) ∙ ap length one.reply ∙ length-set (map reply_text x) (was.line - first) (kept_reply was.line one.kept) ∙ length-map x reply_text
 
 -- all were told
 pub tells_end : (first : ℕ) (all left done : List WriteOf) (a b : List LineNumber) (x y : List (List ℕ)) → left ≡ [] → all ≡ left ++ done → TellsAll first (map told_view done) a b x y → TellsAll first (map told_view all) a b x y

@@ -11,7 +11,7 @@ use Rattle.gd_round_lines.specs.declared.work.WriteLine.{WriteLine}
 use Rattle.gd_round_lines.specs.declared.work.Works.{Works}
 use Rattle.gd_round_lines.specs.declared.worked.Worked.{Worked}
 use Rattle.gd_caller.specs.Told.{Forgets, reply_or}
-use Rattle.gd_round_lines.specs.Replies.{round_text}
+use Rattle.gd_reply.specs.Replies.{reply_text}
 use Rattle.gd_round_lines.specs.Works.{write_of}
 use Rattle.gd_caller.specs.Reads.{read_reply}
 use Rattle.gd_round_lines.specs.Worked.{IsWorked}
@@ -55,5 +55,5 @@ pub record AnswersJoined {D C : Type 0} (first begun : ℕ) (works : Works) (sid
   -- what the line at a place tells at most
   pub tells : ℕ → ℕ
   pub many : length replies ≡ length works.replies.items
-  pub each : (j : ℕ) (reply : List ℕ) → slice_get replies j ≡ Some reply → (was : List ℕ) × (slice_get (map round_text works.replies.items) j ≡ Some was)
+  pub each : (j : ℕ) (reply : List ℕ) → slice_get replies j ≡ Some reply → (was : List ℕ) × (slice_get (map reply_text works.replies.items) j ≡ Some was)
       × JoinedReply first begun works.reads.items works.writes.items (batches side.history) (length side.shown) outs tells j (reply_or (first + j) was (kept_of outs (first + j))) reply

@@ -6,7 +6,7 @@ use Rattle.gd_core_laws.specs.Round.{kept_reply}
 use Rattle.gd_writer.specs.declared.outcome.WriteOf.{WriteOf}
 use Rattle.gd_caller.specs.declared.told.ToldWrite.{ToldWrite}
 use Rattle.gd_round_lines.specs.declared.work.LineNumber.{LineNumber}
-use Rattle.gd_round_lines.specs.Replies.{round_text}
+use Rattle.gd_reply.specs.Replies.{reply_text}
 use Rattle.gd_caller.specs.Told.{MayForget, Forgets, line_number, number_or, reply_or}
 
 -- what is kept is of a line of the round, from line first up to an end
@@ -18,7 +18,7 @@ pub record TellsKept (k : ℕ) (was : Kept) (told : ToldWrite) : Type 0 where
   pub kept : Kept
   pub may : MayForget was kept
   pub number : told.number ≡ line_number kept
-  pub reply : round_text told.reply ≡ kept_reply k kept
+  pub reply : reply_text told.reply ≡ kept_reply k kept
 
 -- what was kept of a line is told in place of its first reply
 pub record TellsOne (first : ℕ) (was : Told) (numbers numbers_now : List LineNumber) (texts texts_now : List (List ℕ)) : Type 0 where

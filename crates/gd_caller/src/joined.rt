@@ -2,7 +2,7 @@
 ghost use Rattle.std.specs.Prelude.{◌≡◌, ◌<◌, ◌+◌, ◌^◌, [], length, map};
 ghost use Rattle.std.specs.List.{AllByRecursion};
 ghost use Rattle.gd_runs.specs.Legal.{batches};
-ghost use Rattle.gd_round_lines.specs.Replies.{round_text};
+ghost use Rattle.gd_reply.specs.Replies.{reply_text};
 ghost use Rattle.gd_round_lines.specs.Works.{AreWithin};
 ghost use Rattle.gd_round_lines.specs.Worked.{AreWorked};
 ghost use Rattle.gd_caller.specs.Joined.{IsOfWrites, AnswersJoined};
@@ -13,7 +13,7 @@ use crate::told::tell_all;
 use gd_base::steps::Steps;
 use gd_disk::disk::Disk;
 use gd_outside::clock::Clock;
-use gd_round_lines::replies::RoundReply;
+use gd_reply::reply::Reply;
 use gd_round_lines::work::Works;
 use gd_round_lines::worked::Worked;
 use gd_writer::side::WriteSide;
@@ -32,14 +32,14 @@ pub fn answer_joined<D: Disk, C: Clock, L>(
     worked: Vec<Option<Worked>>,
     budget: u64,
     steps: &mut Steps<L>,
-) -> Vec<RoundReply>
+) -> Vec<Reply>
     requires within { AreWithin first (first + length works.numbers.items) works }
     requires outcomes { AllByRecursion (IsOfWrites works.writes.items) side.old.outcomes }
     requires worked { AreWorked first works.reads.items (batches side.old.history) (length side.old.shown) worked.items }
     requires lines { first + length works.numbers.items < 2 ^ 63 }
     requires budget { 0 < budget }
     ensures side { side.new ≡ record side.old { outcomes = [] } }
-    ensures answers { AnswersJoined first begun works side.old (map round_text result.items) }
+    ensures answers { AnswersJoined first begun works side.old (map reply_text result.items) }
 {
     // A side says here what it keeps.
     let _stored = side.stored();

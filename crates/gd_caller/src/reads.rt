@@ -7,7 +7,7 @@ ghost use Rattle.gd_runs.specs.Request.{reply_of};
 ghost use Rattle.gd_runs.specs.Side.{Told};
 ghost use Rattle.gd_mql.specs.Requests.{read_view};
 ghost use Rattle.gd_suspended.specs.Reading.{reading_view, IsGoing};
-ghost use Rattle.gd_round_lines.specs.Replies.{round_text};
+ghost use Rattle.gd_reply.specs.Replies.{reply_text};
 ghost use Rattle.gd_caller.specs.Told.{AreNumbers};
 ghost use Rattle.gd_round_lines.specs.Works.{write_of, IsWriteWithin, IsReadWithin, AreApart};
 ghost use Rattle.gd_round_lines.specs.Worked.{AreWorked};
@@ -18,7 +18,7 @@ use crate::numbers::Standing;
 use gd_base::memory::Memory;
 use gd_base::steps::Steps;
 use gd_mql::request::ReadRequest;
-use gd_round_lines::replies::RoundReply;
+use gd_reply::reply::Reply;
 use gd_round_lines::work::ReadLine;
 use gd_round_lines::worked::Worked;
 use gd_store::store::Store;
@@ -80,7 +80,7 @@ pub fn reply_at<L>(
 }
 
 /// Has a reply in place of another.
-pub(crate) fn put(replies: &mut Vec<RoundReply>, at: usize, reply: RoundReply)
+pub(crate) fn put(replies: &mut Vec<Reply>, at: usize, reply: Reply)
     requires { at < length replies.old.items }
     ensures { replies.new.items ≡ slice_set replies.old.items at reply }
 {
@@ -124,21 +124,21 @@ fn answer_at<L>(
     read: ReadLine,
     at: u32,
     budget: u64,
-    replies: &mut Vec<RoundReply>,
+    replies: &mut Vec<Reply>,
     steps: &mut Steps<L>,
 )
     requires there { at ≤ length standing.now.store.now }
     requires read { IsReadWithin standing.now.first (standing.now.first + length replies.old.items) read }
     requires lines { standing.now.first + length replies.old.items < 2 ^ 63 }
     requires budget { 0 < budget }
-    ensures replies { (map round_text replies.new.items ≡ map round_text replies.old.items)
-        ⊎ (map round_text replies.new.items ≡ slice_set (map round_text replies.old.items) (read.line - standing.now.first) (reply_of standing.now.store.now at read.line (read_view read.request))) }
+    ensures replies { (map reply_text replies.new.items ≡ map reply_text replies.old.items)
+        ⊎ (map reply_text replies.new.items ≡ slice_set (map reply_text replies.old.items) (read.line - standing.now.first) (reply_of standing.now.store.now at read.line (read_view read.request))) }
     ensures count { length replies.new.items ≡ length replies.old.items }
 {
     let place = (read.line - standing.first) as usize;
     let line = read.line;
     match reply_at(alloc, standing.store, at, line, read.request, budget, steps) {
-        Ok(bytes) => put(replies, place, RoundReply::Line(bytes)),
+        Ok(bytes) => put(replies, place, Reply::Line(bytes)),
         Err(_) => (),
     }
 }
@@ -152,7 +152,7 @@ fn answer_read<L>(
     worked: Option<Worked>,
     floors: &mut [u32],
     budget: u64,
-    replies: &mut Vec<RoundReply>,
+    replies: &mut Vec<Reply>,
     steps: &mut Steps<L>,
 )
     requires shown { standing.now.shown ≤ length standing.now.store.now }
@@ -164,7 +164,7 @@ fn answer_read<L>(
     requires budget { 0 < budget }
     ensures answers { (outs : List Told) → AreNumbers standing.now.first outs standing.now.numbers.now
         → AnswersOne standing.now.first standing.now.store.now standing.now.shown standing.now.writes.now outs read worked floors.old floors.new
-        (map round_text replies.old.items) (map round_text replies.new.items) }
+        (map reply_text replies.old.items) (map reply_text replies.new.items) }
     ensures floors { length floors.new ≡ 64 }
     ensures count { length replies.new.items ≡ length replies.old.items }
 {
@@ -174,7 +174,7 @@ fn answer_read<L>(
         Some(kept) => {
             floors[session] = kept.at;
             let place = (read.line - standing.first) as usize;
-            put(replies, place, RoundReply::Line(kept.reply));
+            put(replies, place, Reply::Line(kept.reply));
         }
         None => {
             let at = standing.least_later(&read);
@@ -194,7 +194,7 @@ pub(crate) fn answer_reads<L>(
     mut reads: Vec<ReadLine>,
     mut worked: Vec<Option<Worked>>,
     budget: u64,
-    replies: &mut Vec<RoundReply>,
+    replies: &mut Vec<Reply>,
     steps: &mut Steps<L>,
 )
     requires shown { standing.now.shown ≤ length standing.now.store.now }
@@ -207,7 +207,7 @@ pub(crate) fn answer_reads<L>(
     requires budget { 0 < budget }
     ensures { (outs : List Told) → AreNumbers standing.now.first outs standing.now.numbers.now → AllByRecursion (IsOfWrites standing.now.writes.now) outs
         → AnswersReads standing.now.first begun reads.items standing.now.writes.now standing.now.store.now standing.now.shown outs
-        (map round_text replies.old.items) (map round_text replies.new.items) }
+        (map reply_text replies.old.items) (map reply_text replies.new.items) }
 {
     let mut floors = [begun; SESSIONS];
     reads.reverse();

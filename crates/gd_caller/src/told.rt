@@ -7,7 +7,7 @@ ghost use Rattle.gd_runs.specs.Side.{kept_refused};
 ghost use Rattle.gd_change.specs.Fault.{fault_of, IsSmall};
 ghost use Rattle.gd_reply.specs.Refusals.{refusal_of, CountsFit};
 ghost use Rattle.gd_writer.specs.Outcomes.{kept_view, told_view, IsTold};
-ghost use Rattle.gd_round_lines.specs.Replies.{round_text};
+ghost use Rattle.gd_reply.specs.Replies.{reply_text};
 ghost use Rattle.gd_caller.specs.Tells.{TellsKept, TellsOne, TellsAll, IsOutcomeWithin};
 
 use crate::reads::put;
@@ -15,8 +15,7 @@ use gd_base::memory::Memory;
 use gd_change::fault::ChangeFault;
 use gd_reply::lines::err_line;
 use gd_reply::refusal::Refusal;
-use gd_reply::reply::Failure;
-use gd_round_lines::replies::RoundReply;
+use gd_reply::reply::{Failure, Reply};
 use gd_round_lines::work::LineNumber;
 use gd_writer::outcome::{Outcome, WriteOf};
 use std::alloc::Global;
@@ -25,7 +24,7 @@ use std::alloc::Global;
 #[derive(Drop)]
 struct ToldWrite {
     number: LineNumber,
-    reply: RoundReply,
+    reply: Reply,
 }
 
 /// A number that is no entry that is shown.
@@ -84,14 +83,11 @@ fn told_refused(alloc: Global, line: u64, fault: ChangeFault, at: u32) -> ToldWr
     match refused_line(alloc, line, fault, at) {
         Ok(bytes) => ToldWrite {
             number: at_number(Some(at)),
-            reply: RoundReply::Line(bytes),
+            reply: Reply::Line(bytes),
         },
         Err(_) => ToldWrite {
             number: at_number(None),
-            reply: RoundReply::Failed {
-                failure: Failure::NoMemory,
-                line,
-            },
+            reply: Reply::no_memory(line),
         },
     }
 }
@@ -108,33 +104,30 @@ fn told_of(alloc: Global, line: u64, outcome: Outcome) -> ToldWrite
                 number: Some(entry),
                 entry: Some(entry),
             },
-            reply: RoundReply::Line(reply),
+            reply: Reply::Line(reply),
         },
         Outcome::Late { entry } => ToldWrite {
             number: at_number(Some(entry)),
-            reply: RoundReply::Late { line, entry },
+            reply: Reply::Late { line, entry },
         },
         Outcome::Refused { fault, at } => told_refused(alloc, line, fault, at),
         Outcome::Doubt { at } => ToldWrite {
             number: at_number(Some(at)),
-            reply: RoundReply::Failed {
+            reply: Reply::Failed {
                 failure: Failure::MaybeStored,
                 line,
             },
         },
         Outcome::Unsettled => ToldWrite {
             number: at_number(None),
-            reply: RoundReply::Failed {
+            reply: Reply::Failed {
                 failure: Failure::NotStored,
                 line,
             },
         },
         Outcome::Memory => ToldWrite {
             number: at_number(None),
-            reply: RoundReply::Failed {
-                failure: Failure::NoMemory,
-                line,
-            },
+            reply: Reply::no_memory(line),
         },
     }
 }
@@ -145,13 +138,13 @@ fn tell_one(
     first: u64,
     written: WriteOf,
     numbers: &mut Vec<LineNumber>,
-    replies: &mut Vec<RoundReply>,
+    replies: &mut Vec<Reply>,
 )
     requires told { IsTold written.line written.outcome }
     requires within { IsOutcomeWithin first (first + length numbers.old.items) written }
     requires lines { first + length numbers.old.items < 2 ^ 63 }
     requires many { length replies.old.items ≡ length numbers.old.items }
-    ensures { TellsOne first (told_view written) numbers.old.items numbers.new.items (map round_text replies.old.items) (map round_text replies.new.items) }
+    ensures { TellsOne first (told_view written) numbers.old.items numbers.new.items (map reply_text replies.old.items) (map reply_text replies.new.items) }
 {
     let at = (written.line - first) as usize;
     let told = told_of(alloc, written.line, written.outcome);
@@ -165,13 +158,13 @@ pub fn tell_all(
     first: u64,
     mut outcomes: Vec<WriteOf>,
     numbers: &mut Vec<LineNumber>,
-    replies: &mut Vec<RoundReply>,
+    replies: &mut Vec<Reply>,
 )
     requires told { AllByRecursion (λ w. IsTold w.line w.outcome) outcomes.items }
     requires within { AllByRecursion (IsOutcomeWithin first (first + length numbers.old.items)) outcomes.items }
     requires lines { first + length numbers.old.items < 2 ^ 63 }
     requires many { length replies.old.items ≡ length numbers.old.items }
-    ensures { TellsAll first (map told_view outcomes.items) numbers.old.items numbers.new.items (map round_text replies.old.items) (map round_text replies.new.items) }
+    ensures { TellsAll first (map told_view outcomes.items) numbers.old.items numbers.new.items (map reply_text replies.old.items) (map reply_text replies.new.items) }
 {
     while let Some(written) = outcomes.pop() {
         tell_one(alloc, first, written, numbers, replies);

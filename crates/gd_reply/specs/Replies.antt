@@ -1,10 +1,12 @@
--- Replies as they are handed to the printer.
-use Rattle.std.specs.Prelude.{ℕ, List, ◌++◌, codes, decimal}
-use Rattle.gd_runs.specs.Explained.{memory_line, disk_line}
+-- Replies, and pieces of their lines.
+use Rattle.std.specs.Prelude.{ℕ, List, ◌++◌, codes, decimal, Result, Ok, Err}
+use Rattle.std.specs.Global.{Vec}
+use Rattle.gd_base.specs.declared.memory.Memory.{Memory}
+use Rattle.gd_runs.specs.Explained.{memory_line, disk_line, late_line}
 use Rattle.gd_reply.specs.declared.reply.Failure.{Failure}
 use Rattle.gd_reply.specs.declared.reply.Failure.TheVariants.{NoMemory, MaybeStored, NotStored}
 use Rattle.gd_reply.specs.declared.reply.Reply.{Reply}
-use Rattle.gd_reply.specs.declared.reply.Reply.TheVariants.{Line, Failed}
+use Rattle.gd_reply.specs.declared.reply.Reply.TheVariants.{Line, Failed, Late}
 
 -- the line that tells a failure at the line of this number
 abbrev pub failure_line : Failure → ℕ → List ℕ
@@ -12,10 +14,20 @@ failure_line NoMemory k = memory_line k
 failure_line MaybeStored k = disk_line k (codes "maybe")
 failure_line NotStored k = disk_line k (codes "no")
 
--- the bytes of a reply
+-- the bytes of what a line is told
 abbrev pub reply_text : Reply → List ℕ
 reply_text (Line bytes) = bytes.items
 reply_text (Failed failure k) = failure_line failure k
+reply_text (Late k e) = late_line k e
+
+-- the bytes of a line that was made for line k, or of the reply that there was no memory
+abbrev pub made_text : ℕ → Result (Vec ℕ) Memory → List ℕ
+made_text k (Ok v) = v.items
+made_text k (Err e) = memory_line k
+
+-- what stands before the number of the line where a write is stored as this entry and is not shown yet
+abbrev pub late_front : ℕ → List ℕ
+late_front entry = codes "{\"code\":\"/api/status/error\",\"error\":\"MemoryLate\",\"info\":{\"entry\":" ++ (decimal entry ++ codes "},\"line\":")
 
 -- what stands before the result in the reply line of an answer
 abbrev pub ok_front_of : ℕ → ℕ → List ℕ

@@ -3,6 +3,7 @@
 
 pub mod lines;
 pub mod members;
+pub mod printing;
 pub mod refusal;
 pub mod reply;
 

@@ -17,10 +17,10 @@ use Rattle.gd_round_lines.specs.declared.work.WriteLine.{WriteLine}
 use Rattle.gd_round_lines.specs.declared.work.Asked.{Asked}
 use Rattle.gd_round_lines.specs.declared.work.Works.{Works}
 use Rattle.gd_round_lines.specs.declared.work.LineNumber.{LineNumber}
-use Rattle.gd_round_lines.specs.declared.replies.RoundReply.{RoundReply}
+use Rattle.gd_reply.specs.declared.reply.Reply.{Reply}
 use Rattle.gd_round_lines.specs.Some.{IsSomeOf}
 use Rattle.gd_round_lines.specs.Works.{IsFirstReply, no_number, texts_of, write_of, IsReadOf, IsNoLine, IsAsked, IsReadAsked, IsWriteAsked, IsAskedAt, AreAsked, Pushes, TakesLine, IsReadWithin, IsWriteWithin, AreApart, AreWithin, IsReadAmong, AreRead}
-use Rattle.gd_round_lines.specs.Replies.{round_text}
+use Rattle.gd_reply.specs.Replies.{reply_text}
 use Rattle.gd_round_lines.proofs.Some.{some_none, some_append, some_all}
 use Rattle.gd_round_lines.proofs.Sets.{there, item_there}
 
@@ -112,10 +112,10 @@ takes_write k bytes old new w line asks p = record {
   each = tt;
 }
 
-pub takes_told : (k : ℕ) (bytes : List ℕ) (old new : Works) (reply : RoundReply) → IsNoLine bytes → IsFirstReply k bytes (round_text reply) → Pushes old new [] [] (round_text reply) → TakesLine k bytes old new
+pub takes_told : (k : ℕ) (bytes : List ℕ) (old new : Works) (reply : Reply) → IsNoLine bytes → IsFirstReply k bytes (reply_text reply) → Pushes old new [] [] (reply_text reply) → TakesLine k bytes old new
 takes_told k bytes old new reply (f, none) first p = record {
   numbers = p.numbers;
-  reply = round_text reply;
+  reply = reply_text reply;
   replies = p.replies;
   first = first;
   writes = [];
@@ -154,10 +154,10 @@ pub within_more : (first k : ℕ) (old new : Works) (reads : List ReadLine) (wri
 within_more first k old new reads writes reply above reads_at writes_at reads_rise writes_rise apart p w =
     let many = length-append old.numbers.items (no_number ∷ []) in
     let long = ap length p.numbers in
-    let count = length-append (map round_text old.replies.items) (reply ∷ []) in
+    let count = length-append (map reply_text old.replies.items) (reply ∷ []) in
     let texts = ap length p.replies in
-    let before = length-map old.replies.items round_text in
-    let after = length-map new.replies.items round_text in
+    let before = length-map old.replies.items reply_text in
+    let after = length-map new.replies.items reply_text in
     let was = w.numbers in
     let had = w.replies in
     record {
@@ -241,7 +241,7 @@ none_read first given works reads writes numbers replies = record {
   numbers = λ j n is. no_some (subst (λ (xs : List LineNumber). slice_get xs j ≡ Some n) numbers is);
   many = ap length numbers;
   replies = λ j l reply there is. no_some there;
-  count = ap (λ (xs : List RoundReply). length (map round_text xs)) replies;
+  count = ap (λ (xs : List Reply). length (map reply_text xs)) replies;
   writes = ap (map write_of) writes;
   whole = λ whole. ap (map write_of) writes;
   reads = subst (AllByRecursion (IsReadAmong first [])) (sym reads) tt;
@@ -280,7 +280,7 @@ more_read first before l old new r t =
     let end = length-append before (l ∷ []) in
     let many = length-append old.numbers.items (no_number ∷ []) in
     let long = ap length t.numbers in
-    let count = length-append (map round_text old.replies.items) (t.reply ∷ []) in
+    let count = length-append (map reply_text old.replies.items) (t.reply ∷ []) in
     let texts = ap length t.replies in
     let was = r.many in
     let had = r.count in
@@ -296,15 +296,15 @@ more_read first before l old new r t =
           (λ earlier. ⊎_elim
           (λ had_reply. r.replies j m reply earlier had_reply)
           (λ (i, place, this). let within = get_within before j m earlier in absurd (omega (arith, within, place, had)))
-          (get_cases (map round_text old.replies.items) (t.reply ∷ []) j reply (subst (λ (xs : List (List ℕ)). slice_get xs j ≡ Some reply) t.replies is)))
+          (get_cases (map reply_text old.replies.items) (t.reply ∷ []) j reply (subst (λ (xs : List (List ℕ)). slice_get xs j ≡ Some reply) t.replies is)))
           (λ (i, place, this). ⊎_elim
-          (λ had_reply. let within = get_within (map round_text old.replies.items) j reply had_reply in absurd (omega (arith, within, place, had)))
+          (λ had_reply. let within = get_within (map reply_text old.replies.items) j reply had_reply in absurd (omega (arith, within, place, had)))
           (λ (p, at_end, last).
           let zero_is = (only l i m this).0 in
           let line = (only l i m this).1 in
           let text = (only t.reply p reply last).1 in
           subst (λ (n : ℕ). IsFirstReply n m.bytes reply) (omega (arith, place, zero_is)) (subst (λ (x : Numbered). IsFirstReply (first + length before) x.bytes reply) (sym line) (subst (λ (x : List ℕ). IsFirstReply (first + length before) l.bytes x) (sym text) t.first)))
-          (get_cases (map round_text old.replies.items) (t.reply ∷ []) j reply (subst (λ (xs : List (List ℕ)). slice_get xs j ≡ Some reply) t.replies is)))
+          (get_cases (map reply_text old.replies.items) (t.reply ∷ []) j reply (subst (λ (xs : List (List ℕ)). slice_get xs j ≡ Some reply) t.replies is)))
           (get_cases before (l ∷ []) j m there);
       count = omega (arith, texts, count, had, end);
       writes = subst (λ (ls : List side.WriteLine). IsSomeOf (map write_of new.writes.items) ls) (sym lines)

@@ -17,7 +17,7 @@ use Rattle.gd_round_lines.specs.declared.work.Works.{Works}
 use Rattle.gd_round_lines.specs.declared.work.Asked.{Asked}
 use Rattle.gd_round_lines.specs.declared.work.Asked.TheVariants.{Read, Write, Told, Unread}
 use Rattle.gd_round_lines.specs.Some.{IsSomeOf}
-use Rattle.gd_round_lines.specs.Replies.{round_text}
+use Rattle.gd_reply.specs.Replies.{reply_text}
 
 -- the bytes of lines
 abbrev pub texts_of : List Numbered → List (List ℕ)
@@ -49,7 +49,7 @@ IsNoLine bytes = (f : InputFault) × (line_from bytes ≡ Err f)
 abbrev pub IsAsked : ℕ → List ℕ → Asked → Type 0
 IsAsked k bytes (Read r) = IsReadOf k bytes r
 IsAsked k bytes (Write w) = one_write k (length bytes) (line_from bytes) ≡ write_of w ∷ []
-IsAsked k bytes (Told reply) = IsNoLine bytes × IsFirstReply k bytes (round_text reply)
+IsAsked k bytes (Told reply) = IsNoLine bytes × IsFirstReply k bytes (reply_text reply)
 IsAsked k bytes (Unread line) = line ≡ k
 
 -- a read is of line k, and of one of the 64 sessions
@@ -82,7 +82,7 @@ pub record AreAsked (first : ℕ) (lines : List RoundLine) (all : List Asked) : 
 -- a line was appended, with these reads and writes of its own and this first reply, and no number
 pub record Pushes (old new : Works) (reads : List ReadLine) (writes : List WriteLine) (reply : List ℕ) : Type 0 where
   pub numbers : new.numbers.items ≡ old.numbers.items ++ no_number ∷ []
-  pub replies : map round_text new.replies.items ≡ map round_text old.replies.items ++ reply ∷ []
+  pub replies : map reply_text new.replies.items ≡ map reply_text old.replies.items ++ reply ∷ []
   pub reads_are : new.reads.items ≡ old.reads.items ++ reads
   pub writes_are : new.writes.items ≡ old.writes.items ++ writes
   pub same_whole : new.whole ≡ old.whole
@@ -91,7 +91,7 @@ pub record Pushes (old new : Works) (reads : List ReadLine) (writes : List Write
 pub record TakesLine (k : ℕ) (bytes : List ℕ) (old new : Works) : Type 0 where
   pub numbers : new.numbers.items ≡ old.numbers.items ++ no_number ∷ []
   pub reply : List ℕ
-  pub replies : map round_text new.replies.items ≡ map round_text old.replies.items ++ reply ∷ []
+  pub replies : map reply_text new.replies.items ≡ map reply_text old.replies.items ++ reply ∷ []
   pub first : IsFirstReply k bytes reply
   pub writes : List side.WriteLine
   pub written : map write_of new.writes.items ≡ map write_of old.writes.items ++ writes
@@ -139,8 +139,8 @@ pub record IsReadAmong (first : ℕ) (given : List Numbered) (r : ReadLine) : Ty
 pub record AreRead (first : ℕ) (given : List Numbered) (works : Works) : Type 0 where
   pub numbers : (j : ℕ) (n : LineNumber) → slice_get works.numbers.items j ≡ Some n → n ≡ no_number
   pub many : length works.numbers.items ≡ length given
-  pub replies : (j : ℕ) (l : Numbered) (reply : List ℕ) → slice_get given j ≡ Some l → slice_get (map round_text works.replies.items) j ≡ Some reply → IsFirstReply (first + j) l.bytes reply
-  pub count : length (map round_text works.replies.items) ≡ length given
+  pub replies : (j : ℕ) (l : Numbered) (reply : List ℕ) → slice_get given j ≡ Some l → slice_get (map reply_text works.replies.items) j ≡ Some reply → IsFirstReply (first + j) l.bytes reply
+  pub count : length (map reply_text works.replies.items) ≡ length given
   pub writes : IsSomeOf (map write_of works.writes.items) (write_lines first given)
   pub whole : works.whole ≡ true → map write_of works.writes.items ≡ write_lines first given
   pub reads : AllByRecursion (IsReadAmong first given) works.reads.items

@@ -8,9 +8,8 @@ ghost use Rattle.gd_input.specs.Line.{IsKept, IsShort};
 ghost use Rattle.gd_input.specs.Rounds.{AreKept};
 ghost use Rattle.gd_mql.specs.Line.{fault_view};
 ghost use Rattle.gd_round_lines.specs.Works.{no_number, IsAsked, IsAskedAt, IsAskedOf, AreAsked, Pushes, TakesLine, AreRead, AreWithin, texts_of};
-ghost use Rattle.gd_round_lines.specs.Replies.{round_text, made_text};
+ghost use Rattle.gd_reply.specs.Replies.{reply_text};
 
-use crate::replies::RoundReply;
 use gd_base::memory::Memory;
 use gd_input::line::RoundLine;
 use gd_mql::fault::LineFault;
@@ -18,7 +17,7 @@ use gd_mql::line::line_from;
 use gd_mql::request::{Line, ReadRequest, WriteRequest};
 use gd_reply::lines::err_line_plain;
 use gd_reply::refusal::Refusal;
-use gd_reply::reply::Failure;
+use gd_reply::reply::Reply;
 use std::alloc::Global;
 use std::num::NonZeroU32;
 use std::thread;
@@ -57,7 +56,7 @@ pub struct LineNumber {
 enum Asked {
     Read(ReadLine),
     Write(WriteLine),
-    Told(RoundReply),
+    Told(Reply),
     Unread(u64),
 }
 
@@ -69,7 +68,7 @@ pub struct Works {
     pub reads: Vec<ReadLine>,
     pub writes: Vec<WriteLine>,
     pub numbers: Vec<LineNumber>,
-    pub replies: Vec<RoundReply>,
+    pub replies: Vec<Reply>,
     pub whole: bool,
 }
 
@@ -82,26 +81,6 @@ impl LineNumber {
             number: None,
             entry: None,
         }
-    }
-}
-
-/// A line that was made as the reply to a line, or that there was no memory for it.
-fn told(line: u64, made: Result<Vec<u8>, Memory>) -> RoundReply
-    ensures { round_text result ≡ made_text line made }
-{
-    match made {
-        Ok(bytes) => RoundReply::Line(bytes),
-        Err(_) => no_memory(line),
-    }
-}
-
-/// The reply that says that there was no memory.
-fn no_memory(line: u64) -> RoundReply
-    ensures { round_text result ≡ memory_line line }
-{
-    RoundReply::Failed {
-        failure: Failure::NoMemory,
-        line,
     }
 }
 
@@ -127,7 +106,7 @@ fn fault_asked(alloc: Global, line: u64, fault: LineFault) -> Asked
         }
         LineFault::Memory => return Asked::Unread(line),
     };
-    Asked::Told(told(line, reply))
+    Asked::Told(Reply::made(line, reply))
 }
 
 /// What a line asks, or its reply.
@@ -138,7 +117,7 @@ fn read_line(alloc: Global, line: u64, text: &RoundLine) -> Asked
     ensures within { IsAskedAt line result }
 {
     let bytes = match text {
-        RoundLine::TooLong => return Asked::Told(told(line, too_long_reply(alloc, line))),
+        RoundLine::TooLong => return Asked::Told(Reply::made(line, too_long_reply(alloc, line))),
         RoundLine::Bytes(bytes) => bytes.as_slice(),
     };
     match line_from(alloc, bytes) {
@@ -176,8 +155,8 @@ impl Works {
     }
 
     /// Appends a line by its first reply alone. `Memory`: an allocation was refused.
-    fn push_reply(&mut self, reply: RoundReply) -> Result<(), Memory>
-        ensures { OnOk result (Pushes self.old self.new [] [] (round_text reply)) }
+    fn push_reply(&mut self, reply: Reply) -> Result<(), Memory>
+        ensures { OnOk result (Pushes self.old self.new [] [] (reply_text reply)) }
     {
         self.numbers.push(LineNumber::none())?;
         self.replies.push(reply)?;
@@ -190,7 +169,7 @@ impl Works {
     {
         let line = read.line;
         self.reads.push(read)?;
-        self.push_reply(no_memory(line))?;
+        self.push_reply(Reply::no_memory(line))?;
         Ok(())
     }
 
@@ -200,7 +179,7 @@ impl Works {
     {
         let line = write.line;
         self.writes.push(write)?;
-        self.push_reply(no_memory(line))?;
+        self.push_reply(Reply::no_memory(line))?;
         Ok(())
     }
 
@@ -215,7 +194,7 @@ impl Works {
             Asked::Told(reply) => self.push_reply(reply),
             Asked::Unread(line) => {
                 self.whole = false;
-                self.push_reply(no_memory(line))
+                self.push_reply(Reply::no_memory(line))
             }
         }
     }

@@ -16,7 +16,8 @@ ghost use Rattle.gd_shared.specs.Shared.{IsNewSeat};
 ghost use Rattle.gd_threads.specs.Opened.{Opens};
 ghost use Rattle.gd_writer.specs.Parts.{Tells};
 ghost use Rattle.gd_writer.specs.Side.{Begins};
-ghost use Rattle.gd_round_lines.specs.Replies.{reply_texts, no_memory, round_text};
+ghost use Rattle.gd_reply.specs.Replies.{reply_text};
+ghost use Rattle.gd_round_lines.specs.Replies.{reply_texts, no_memory};
 ghost use Rattle.gd_caller.specs.Served.{StandsForState};
 ghost use Rattle.gd_round_lines.specs.Works.{texts_of, AreRead, AreWithin};
 ghost use Rattle.gd_crew.specs.Ready.{IsIdle};
@@ -33,7 +34,8 @@ use gd_input::line::RoundLine;
 use gd_journal::fault::JournalFault;
 use gd_outside::clock::Clock;
 use gd_outside::gate::Gate;
-use gd_round_lines::replies::{Replies, RoundReply};
+use gd_reply::reply::Reply;
+use gd_round_lines::replies::Replies;
 use gd_round_lines::work::{Works, read_lines};
 use gd_seats::session::Session;
 use gd_shared::Seat;
@@ -203,12 +205,12 @@ impl<D: Disk + Send, C: Clock + Send> Rounds<D, C> {
         gate: &G,
         lines: &[RoundLine],
         works: Works,
-    ) -> Vec<RoundReply>
+    ) -> Vec<Reply>
         requires lines { self.old.lines + length lines.now < 2 ^ 63 }
         requires short { All IsShort lines.now }
         requires read { (given : List Numbered) → AreKept lines.now (texts_of given) → AreRead self.old.lines given works }
         requires within { AreWithin self.old.lines (self.old.lines + length lines.now) works }
-        ensures { AnswersRound D.content D.moment D.images D.images_since D.faults C.may lines.now self.old self.new (map round_text result.items) }
+        ensures { AnswersRound D.content D.moment D.images D.images_since D.faults C.may lines.now self.old self.new (map reply_text result.items) }
     {
         let begun = show(rt, &mut self.side);
         let hired = hire(

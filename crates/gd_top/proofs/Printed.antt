@@ -1,21 +1,17 @@
 -- Fronts of what is printed.
-use Rattle.std.proofs.Common.{◌≡◌, ℕ, zero, suc, ◌+◌, ◌<◌, ◌≤◌, List, [], ◌∷◌, ◌++◌, length, map, take, drop, slice_get, get_or, Option, Some, option_map, Result, Ok, Err, OnErr, refl, sym, ap, subst, ◌∙◌, arith, append_assoc, append-nil, take_all, codes, decimal}
+use Rattle.std.proofs.Common.{◌≡◌, ℕ, zero, suc, ◌+◌, ◌<◌, ◌≤◌, List, [], ◌∷◌, ◌++◌, length, map, take, drop, slice_get, get_or, Option, Some, option_map, Result, Ok, Err, OnErr, refl, sym, ap, subst, ◌∙◌, arith, append-nil, take_all}
 use Rattle.std.proofs.lemmas.Grind.{flat_map-append}
 use Rattle.std.proofs.lemmas.Option.{slice_get-get_or}
 use Rattle.std.proofs.KnownBytes.{Appends-trans}
 use Rattle.std.specs.Io.KnownBytes.{Appends}
-use Rattle.gd_runs.specs.Explained.{memory_line, late_line}
+use Rattle.gd_runs.specs.Explained.{memory_line}
 use Rattle.gd_runs.proofs.Rounds.{some_same, no_some}
-use Rattle.gd_round_lines.specs.declared.replies.RoundReply.{RoundReply}
-use Rattle.gd_round_lines.specs.Replies.{round_text, no_memory}
+use Rattle.gd_reply.specs.declared.reply.Reply.{Reply}
+use Rattle.gd_reply.specs.Replies.{reply_text}
+use Rattle.gd_round_lines.specs.Replies.{no_memory}
 use Rattle.gd_caller.specs.Served.{printed}
-use Rattle.gd_top.specs.Late.{late_front}
 use Rattle.gd_outside.specs.Gains.{GainsFront}
 use Rattle.gd_outside.proofs.Fronts.{front_first, front_second}
-
--- a line in pieces, and its newline
-pub pieces_line : (xs ys line : List ℕ) → xs ++ ys ++ 125 ∷ [] ≡ line → xs ++ (ys ++ 125 ∷ [] ++ 10 ∷ []) ≡ line ++ 10 ∷ []
-pieces_line xs ys line is = sym (append_assoc xs (ys ++ 125 ∷ []) (10 ∷ [])) ∙ ap (λ (zs : List ℕ). zs ++ 10 ∷ []) (sym (append_assoc xs ys (125 ∷ [])) ∙ is)
 
 -- ---- replies, one after another
 
@@ -28,8 +24,8 @@ got_map f (a ∷ xs) zero x is = ap (λ o. option_map f o) is
 got_map f (a ∷ xs) (suc k) x is = got_map f xs k x is
 
 -- the reply that a loop is at
-pub reply_at : (rs : List RoundReply) (i : ℕ) (r : RoundReply) → i < length rs → r ≡ get_or rs i r → slice_get (map round_text rs) i ≡ Some (round_text r)
-reply_at rs i r within is = got_map round_text rs i r (slice_get-get_or rs i r within ∙ ap Some (sym is))
+pub reply_at : (rs : List Reply) (i : ℕ) (r : Reply) → i < length rs → r ≡ get_or rs i r → slice_get (map reply_text rs) i ≡ Some (reply_text r)
+reply_at rs i r within is = got_map reply_text rs i r (slice_get-get_or rs i r within ∙ ap Some (sym is))
 
 pub passed_at : (first n k : ℕ) → k < n → slice_get (no_memory first n) k ≡ Some (memory_line (first + k))
 passed_at first zero k within = absurd (omega (arith, within))
@@ -68,12 +64,3 @@ printed_stops old mid new ts i t is before front =
 -- all were
 pub printed_all : (old new : Option (List ℕ)) (ts : List (List ℕ)) (i : ℕ) → length ts ≤ i → Appends old new (printed (take i ts)) → Appends old new (printed ts)
 printed_all old new ts i long gained = subst (λ (xs : List (List ℕ)). Appends old new (printed xs)) (take_all i ts long) gained
-
--- ---- the line that tells that a write is stored and not shown yet
-
-late_pieces : (x y : List ℕ) → (x ++ codes "},\"line\":") ++ (y ++ codes "}" ++ 10 ∷ []) ≡ ((((x ++ []) ++ codes "}") ++ (codes ",\"line\":" ++ (y ++ []))) ++ codes "}") ++ 10 ∷ []
-late_pieces [] y = ap (λ (z : List ℕ). codes "},\"line\":" ++ ((z ++ codes "}") ++ 10 ∷ [])) (sym (append-nil y))
-late_pieces (c ∷ cs) y = ap (λ (zs : List ℕ). c ∷ zs) (late_pieces cs y)
-
-pub late_text : (k e : ℕ) → late_front e ++ (decimal k ++ codes "}" ++ 10 ∷ []) ≡ late_line k e ++ 10 ∷ []
-late_text k e = ap (λ (zs : List ℕ). codes "{\"code\":\"/api/status/error\",\"error\":\"MemoryLate\",\"info\":{\"entry\":" ++ zs) (late_pieces (decimal e) (decimal k))

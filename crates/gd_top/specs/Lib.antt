@@ -2,7 +2,6 @@ pub mod Answered
 pub mod Ends
 pub mod Held
 pub mod Kept
-pub mod Late
 pub mod Lines
 pub mod Opened
 pub mod Replays

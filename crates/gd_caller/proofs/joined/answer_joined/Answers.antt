@@ -7,7 +7,7 @@ use Rattle.gd_runs.specs.Side.{Told}
 use Rattle.gd_writer.specs.Outcomes.{told_view}
 use Rattle.gd_round_lines.specs.declared.work.LineNumber.{LineNumber}
 use Rattle.gd_round_lines.specs.declared.work.WriteLine.{WriteLine}
-use Rattle.gd_round_lines.specs.Replies.{round_text}
+use Rattle.gd_reply.specs.Replies.{reply_text}
 use Rattle.gd_caller.specs.Told.{Forgets, AreNumbers}
 use Rattle.gd_round_lines.specs.Works.{IsWriteWithin, IsReadWithin, AreApart}
 use Rattle.gd_round_lines.specs.Worked.{AreWorked}
@@ -46,8 +46,8 @@ answer_reads-requires-clause-reads g c =
     let w = c.args.works in
     let first = c.args.first in
     let count = c.tell_all.ensures.count in
-    let before = length-map w.replies.items round_text in
-    let after = length-map c.tell_all.new.replies.items round_text in
+    let before = length-map w.replies.items reply_text in
+    let after = length-map c.tell_all.new.replies.items reply_text in
     let numbers = c.requires.within.numbers in
     let replies = c.requires.within.replies in
     subst (λ (n : ℕ). AllByRecursion (IsReadWithin first n) w.reads.items) (omega (arith, count, before, after, numbers, replies)) c.requires.within.reads
@@ -73,11 +73,11 @@ returns-clause-answers g c =
     let first = c.args.first in
     let begun = c.args.begun in
     let t = c.tell_all.ensures in
-    let t0 = map round_text c.tell_all.new.replies.items in
-    let t1 = map round_text c.answer_reads.new.replies.items in
+    let t0 = map reply_text c.tell_all.new.replies.items in
+    let t1 = map reply_text c.answer_reads.new.replies.items in
     let kept = c.take_outcomes-outcomes.ensures.outcomes in
     let forgets = subst (λ (ts : List Told). Forgets ts t.outs) kept t.forgets in
-    let are = numbers_told first (map told_view c.take_outcomes-outcomes.result.items) w.numbers.items c.tell_all.new.numbers.items (map round_text w.replies.items) t0 t c.requires.within.none in
+    let are = numbers_told first (map told_view c.take_outcomes-outcomes.result.items) w.numbers.items c.tell_all.new.numbers.items (map reply_text w.replies.items) t0 t c.requires.within.none in
     let of = told_of_writes w.writes.items s.outcomes t.outs forgets c.requires.outcomes in
     let taken = c.take_outcomes-outcomes.new.self in
     let shown = c.shown.ensures ∙ still_shown s taken c.take_outcomes-outcomes.ensures.side in
@@ -89,7 +89,7 @@ returns-clause-answers g c =
     (c.answer_reads.ensures t.outs (subst (AreNumbers first t.outs) (sym c.as_slice-2.ensures.value) are) (subst (λ (ws : List WriteLine). AllByRecursion (IsOfWrites ws) t.outs) (sym c.as_slice.ensures.value) of)))) in
     let many = a.many in
     let count = t.count in
-    let long = length-map w.replies.items round_text in
+    let long = length-map w.replies.items reply_text in
     record {
       outs = t.outs;
       forgets = forgets;

@@ -3,8 +3,8 @@ use Rattle.std.proofs.lemmas.List.{map-set}
 use Rattle.std.proofs.lemmas.Option.{slice_get-get_or}
 use Rattle.gd_runs.specs.Request.{reply_of}
 use Rattle.gd_mql.specs.Requests.{read_view}
-use Rattle.gd_round_lines.specs.declared.replies.RoundReply.TheVariants.{Line}
-use Rattle.gd_round_lines.specs.Replies.{round_text}
+use Rattle.gd_reply.specs.declared.reply.Reply.TheVariants.{Line}
+use Rattle.gd_reply.specs.Replies.{reply_text}
 use Rattle.gd_caller.proofs.reads.answer_read.Goals as goal
 
 pub returns-in-Some-clause-answers : goal.returns-in-Some-clause-answers
@@ -25,7 +25,7 @@ returns-in-Some-clause-answers g c outs are =
       floors_are = refl;
       above_floor = fits.above;
       above_at = omega arith;
-      replies = inr (kept.reply.items, ap (map round_text) c.put.ensures ∙ map-set round_text was place (Line kept.reply), inr (kept, c.in-Some.ensures.same, refl, refl, fits));
+      replies = inr (kept.reply.items, ap (map reply_text) c.put.ensures ∙ map-set reply_text was place (Line kept.reply), inr (kept, c.in-Some.ensures.same, refl, refl, fits));
     }
 
 pub returns-in-None-clause-answers : goal.returns-in-None-clause-answers

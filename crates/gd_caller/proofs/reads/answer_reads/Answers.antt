@@ -1,6 +1,6 @@
 use Rattle.std.proofs.Common.{◌≡◌, ◌+◌, ◌-◌, ℕ, List, [], ◌∷◌, ◌++◌, Some, slice_get, length, map, replicate, reverse, sym, subst, ap, ◌∙◌, arith, length-append}
 use Rattle.std.proofs.lemmas.List.{reverse-reverse}
-use Rattle.gd_round_lines.specs.Replies.{round_text}
+use Rattle.gd_reply.specs.Replies.{reply_text}
 use Rattle.gd_round_lines.specs.Works.{IsReadWithin}
 use Rattle.gd_caller.proofs.Joins.{Joining, joining_none, joining_more, next_read, taken_worked, taken_shown, left_worked}
 use Rattle.gd_round_lines.proofs.Read.{all_at}
@@ -14,7 +14,7 @@ loop-read-init g c =
     record {
       done = [];
       all = sym (ap reverse c.reverse.ensures.items ∙ reverse-reverse reads);
-      joining = λ outs are of. joining_none s.first c.args.begun reads s.writes.now s.store.now s.shown outs (map round_text c.args.replies.now.items) (replicate 64 c.args.begun)
+      joining = λ outs are of. joining_none s.first c.args.begun reads s.writes.now s.store.now s.shown outs (map reply_text c.args.replies.now.items) (replicate 64 c.args.begun)
           (λ n f at. let is = replicate_all 64 n c.args.begun f at in omega (arith, is))
           (λ x q at. (all_at (IsReadWithin s.first (s.first + length c.args.replies.now.items)) reads x q c.requires.reads at).0);
       worked = λ j w at. at;
@@ -52,9 +52,9 @@ loop-read-preserved g c =
     let r = c.in-Some.read in
     let place = r.line - s.first in
     let (at, all) = next_read reads inv.done c.loop-read.reads.items c.pop.new.self.items r inv.all c.in-Some.ensures.items in
-    let texts = map round_text c.args.replies.now.items in
-    let now = map round_text c.loop-read.replies.items in
-    let next = map round_text c.answer_read.new.replies.items in
+    let texts = map reply_text c.args.replies.now.items in
+    let now = map reply_text c.loop-read.replies.items in
+    let next = map reply_text c.answer_read.new.replies.items in
     let many = length-append inv.done (r ∷ []) in
     record {
       done = inv.done ++ r ∷ [];

@@ -3,7 +3,7 @@ use Rattle.std.specs.List.{AllByRecursion}
 use Rattle.gd_runs.specs.Side.{Told}
 use Rattle.gd_round_lines.specs.declared.work.ReadLine.{ReadLine}
 use Rattle.gd_round_lines.specs.declared.worked.Worked.{Worked}
-use Rattle.gd_round_lines.specs.Replies.{round_text}
+use Rattle.gd_reply.specs.Replies.{reply_text}
 use Rattle.gd_caller.specs.Told.{AreNumbers}
 use Rattle.gd_caller.specs.Joined.{IsOfWrites}
 use Rattle.gd_caller.proofs.Joins.{Joining}
@@ -14,7 +14,7 @@ invariant-loop-read g l = record {
   done : List ReadLine;
   all : l.fn.reads.items ≡ done ++ reverse l.reads.items;
   joining : (outs : List Told) → AreNumbers l.standing.first outs l.standing.numbers.now → AllByRecursion (IsOfWrites l.standing.writes.now) outs
-      → Joining l.standing.first l.begun l.fn.reads.items l.standing.writes.now l.standing.store.now l.standing.shown outs (map round_text l.initial.replies.items) (map round_text l.replies.items) l.floors (length done);
+      → Joining l.standing.first l.begun l.fn.reads.items l.standing.writes.now l.standing.store.now l.standing.shown outs (map reply_text l.initial.replies.items) (map reply_text l.replies.items) l.floors (length done);
   worked : (j : ℕ) (w : Worked) → slice_get l.worked.items j ≡ Some (Some w) → slice_get l.initial.worked.items j ≡ Some (Some w);
   floors : length l.floors ≡ 64;
   count : length l.replies.items ≡ length l.initial.replies.items;

@@ -1,7 +1,7 @@
 use Rattle.std.proofs.Common.{ℕ, List, [], subst}
 use Rattle.std.proofs.lemmas.Result.{on_ok_weaker}
 use Rattle.gd_round_lines.specs.Works.{IsAsked, IsAskedAt, Pushes}
-use Rattle.gd_round_lines.specs.Replies.{round_text}
+use Rattle.gd_reply.specs.Replies.{reply_text}
 use Rattle.gd_runs.specs.Explained.{memory_line}
 use Rattle.gd_round_lines.proofs.Read.{takes_read, takes_write, takes_told, takes_unread, not_whole, within_read, within_write, within_told, within_unread}
 use Rattle.gd_round_lines.proofs.work.Works.push.Goals as goal
@@ -28,7 +28,7 @@ returns-in-Told-clause-takes c =
 
 pub returns-in-Told-clause-within : goal.returns-in-Told-clause-within
 returns-in-Told-clause-within c =
-    on_ok_weaker c.push_reply.result (λ pushes first line above at within. within_told first line c.args.self.now c.push_reply.new.self (round_text c.in-Told.reply) above pushes within) c.push_reply.ensures
+    on_ok_weaker c.push_reply.result (λ pushes first line above at within. within_told first line c.args.self.now c.push_reply.new.self (reply_text c.in-Told.reply) above pushes within) c.push_reply.ensures
 
 pub returns-in-Unread-clause-takes : goal.returns-in-Unread-clause-takes
 returns-in-Unread-clause-takes c =
@@ -37,4 +37,4 @@ returns-in-Unread-clause-takes c =
 
 pub returns-in-Unread-clause-within : goal.returns-in-Unread-clause-within
 returns-in-Unread-clause-within c =
-    on_ok_weaker c.push_reply-in-Unread.result (λ pushes first line above at within. within_unread first line c.args.self.now c.push_reply-in-Unread.new.self (round_text c.no_memory.result) above pushes within) c.push_reply-in-Unread.ensures
+    on_ok_weaker c.push_reply-in-Unread.result (λ pushes first line above at within. within_unread first line c.args.self.now c.push_reply-in-Unread.new.self (reply_text c.no_memory.result) above pushes within) c.push_reply-in-Unread.ensures

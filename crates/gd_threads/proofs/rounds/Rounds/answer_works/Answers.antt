@@ -4,7 +4,7 @@ use Rattle.logbook.specs.Pages.{Book}
 use Rattle.gd_input.specs.Rounds.{AreKept}
 use Rattle.gd_runs.specs.Explained.{Numbered}
 use Rattle.gd_writer.specs.Side.{SideValue}
-use Rattle.gd_round_lines.specs.Replies.{round_text}
+use Rattle.gd_reply.specs.Replies.{reply_text}
 use Rattle.gd_round_lines.specs.Fresh.{IsFreshFrom}
 use Rattle.gd_round_lines.specs.Works.{texts_of, AreRead, AreWithin}
 use Rattle.gd_crew.specs.Ready.{IsIdle}
@@ -59,7 +59,7 @@ returns g c =
     let old = c.self.inside in
     let inv = c.self.invariant in
     let lines = c.args.lines.now in
-    let replies = map round_text c.answer_joined-replies.result.items in
+    let replies = map reply_text c.answer_joined-replies.result.items in
     let new : RoundsValue _ _ = record { side = c.answer_joined-replies.new.side; lines = old.lines + length lines } in
     let within = subst (λ (r : RoundsValue _ _). AreWithin r.lines (r.lines + length lines) c.args.works) (sym c.self.view_is) c.requires.within in
     let reads = subst (λ (r : RoundsValue _ _). (given : List Numbered) → AreKept lines (texts_of given) → AreRead r.lines given c.args.works) (sym c.self.view_is) c.requires.read in

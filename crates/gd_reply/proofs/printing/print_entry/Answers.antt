@@ -2,7 +2,7 @@ use Rattle.std.proofs.Common.{◌≡◌, decimal, codes, subst, ◌∙◌}
 use Rattle.std.specs.Io.KnownBytes.{Appends}
 use Rattle.gd_outside.specs.Gains.{GainsFront}
 use Rattle.gd_outside.proofs.Fronts.{at_err, front_first, front_second}
-use Rattle.gd_top.proofs.printing.print_entry.Goals as goal
+use Rattle.gd_reply.proofs.printing.print_entry.Goals as goal
 
 pub returns-in_err-write_all-clause-front : goal.returns-in_err-write_all-clause-front
 returns-in_err-write_all-clause-front g c =

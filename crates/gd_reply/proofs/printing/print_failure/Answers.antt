@@ -3,8 +3,8 @@ use Rattle.std.specs.Io.KnownBytes.{Appends}
 use Rattle.gd_reply.specs.Replies.{failure_line}
 use Rattle.gd_outside.specs.Gains.{GainsFront}
 use Rattle.gd_outside.proofs.Fronts.{at_err, front_first, front_second}
-use Rattle.gd_top.proofs.Printed.{pieces_line}
-use Rattle.gd_top.proofs.printing.print_failure.Goals as goal
+use Rattle.gd_reply.proofs.Printed.{pieces_line}
+use Rattle.gd_reply.proofs.printing.print_failure.Goals as goal
 
 pub returns-in_err-write_all-clause-front : goal.returns-in_err-write_all-clause-front
 returns-in_err-write_all-clause-front g c =

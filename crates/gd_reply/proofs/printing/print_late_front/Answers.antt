@@ -1,7 +1,7 @@
 use Rattle.std.proofs.Common.{◌++◌, decimal, codes}
 use Rattle.std.proofs.KnownBytes.{Appends-trans}
 use Rattle.gd_outside.proofs.Fronts.{at_err, front_first, front_second}
-use Rattle.gd_top.proofs.printing.print_late_front.Goals as goal
+use Rattle.gd_reply.proofs.printing.print_late_front.Goals as goal
 
 pub returns-in_err-write_all-clause-front : goal.returns-in_err-write_all-clause-front
 returns-in_err-write_all-clause-front g c =

@@ -1,11 +1,11 @@
 use Rattle.std.proofs.Common.{[], ◌∷◌, ◌++◌, decimal, codes, subst}
 use Rattle.std.specs.Io.KnownBytes.{Appends}
 use Rattle.std.proofs.KnownBytes.{Appends-trans}
-use Rattle.gd_top.specs.Late.{late_front}
+use Rattle.gd_reply.specs.Replies.{late_front}
 use Rattle.gd_outside.specs.Gains.{GainsFront}
 use Rattle.gd_outside.proofs.Fronts.{at_err, front_first, front_second}
-use Rattle.gd_top.proofs.Printed.{late_text}
-use Rattle.gd_top.proofs.printing.print_late.Goals as goal
+use Rattle.gd_reply.proofs.Printed.{late_text}
+use Rattle.gd_reply.proofs.printing.print_late.Goals as goal
 
 pub returns-in_err-print_late_front-clause-front : goal.returns-in_err-print_late_front-clause-front
 returns-in_err-print_late_front-clause-front g c =
