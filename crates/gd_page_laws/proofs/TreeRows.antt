@@ -24,7 +24,7 @@ list_of-trees_of (t ∷ ts) = ap (λ us. t ∷ us) (list_of-trees_of ts)
 -- ---- keys
 
 -- behind the lists of the members stand those of the sort keys
-sort_lists-behind : (prims : List Primitive) (c : Members) (sort : List SortKey) (o : ℕ) → sort_lists c (clause_lists prims (clauses_of sort c) o) ≡ clause_lists prims (sort_clauses sort) o
+pub sort_lists-behind : (prims : List Primitive) (c : Members) (sort : List SortKey) (o : ℕ) → sort_lists c (clause_lists prims (clauses_of sort c) o) ≡ clause_lists prims (sort_clauses sort) o
 sort_lists-behind prims no_members sort o = refl
 sort_lists-behind prims (own name w t j ms) sort o = sort_lists-behind prims ms sort o
 sort_lists-behind prims (asks name a c ms) sort o = sort_lists-behind prims ms sort o
@@ -33,7 +33,7 @@ first-place : (prims : List Primitive) (cs : List Rattle.gd_defs.specs.Template.
 first-place prims cs [] = refl
 first-place prims cs (x ∷ xs) = refl
 
-key_places-are : (prims : List Primitive) → IsTyped prims → (sort : List SortKey) → AreSortKeys sort → (o : ℕ) → key_places sort o (clause_lists prims (sort_clauses sort) o) ≡ map (rows.key_place prims o) sort
+pub key_places-are : (prims : List Primitive) → IsTyped prims → (sort : List SortKey) → AreSortKeys sort → (o : ℕ) → key_places sort o (clause_lists prims (sort_clauses sort) o) ≡ map (rows.key_place prims o) sort
 key_places-are prims typed [] are o = refl
 key_places-are prims typed (s ∷ ss) are o = by s.key refl are.0 (key_places-are prims typed ss are.1 o)
   where
