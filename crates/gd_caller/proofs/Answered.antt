@@ -11,11 +11,11 @@ use Rattle.gd_runs.specs.Request.{ReadRequest, asks_page, reply_of}
 use Rattle.gd_runs.specs.Core as core
 use Rattle.gd_runs.proofs.Rounds.{reply_kept_at}
 use Rattle.gd_core_laws.proofs.Reading.{owes, refuses}
-use Rattle.gd_suspended.specs.declared.reading.Reading.{Reading}
-use Rattle.gd_suspended.specs.declared.fault.ReadFault.{ReadFault}
-use Rattle.gd_suspended.specs.declared.fault.ReadFault.TheVariants as fault
-use Rattle.gd_suspended.specs.Begun.{fault_at}
-use Rattle.gd_suspended.specs.Reading.{reading_view}
+use Rattle.gd_read.specs.declared.reading.Reading.{Reading}
+use Rattle.gd_read.specs.declared.fault.ReadFault.{ReadFault}
+use Rattle.gd_read.specs.declared.fault.ReadFault.TheVariants as fault
+use Rattle.gd_read.specs.Begun.{fault_at}
+use Rattle.gd_read.specs.Reading.{reading_view}
 
 take_twice : (n : ℕ) (xs : List Batch) → take n (take n xs) ≡ take n xs
 take_twice zero xs = refl

@@ -6,7 +6,7 @@ ghost use Rattle.gd_runs.specs.Core as core;
 ghost use Rattle.gd_runs.specs.Request.{reply_of};
 ghost use Rattle.gd_runs.specs.Side.{Told};
 ghost use Rattle.gd_mql.specs.Requests.{read_view};
-ghost use Rattle.gd_suspended.specs.Reading.{reading_view, IsGoing};
+ghost use Rattle.gd_read.specs.Reading.{reading_view, IsGoing};
 ghost use Rattle.gd_reply.specs.Replies.{reply_text};
 ghost use Rattle.gd_caller.specs.Told.{AreNumbers};
 ghost use Rattle.gd_round_lines.specs.Works.{write_of, IsWriteWithin, IsReadWithin, AreApart};
@@ -23,7 +23,7 @@ use gd_round_lines::work::ReadLine;
 use gd_round_lines::worked::Worked;
 use gd_store::store::Store;
 use gd_store::view::View;
-use gd_suspended::reading::{Progress, Reading};
+use gd_read::reading::{Progress, Reading};
 use std::alloc::Global;
 
 /// How many sessions there are.

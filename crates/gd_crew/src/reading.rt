@@ -10,7 +10,7 @@ use gd_mql::request::ReadRequest;
 use gd_outside::gate::Gate;
 use gd_seats::fault::SessionFault;
 use gd_seats::session::Session;
-use gd_suspended::reading::Progress;
+use gd_read::reading::Progress;
 use std::alloc::Global;
 
 /// What a turn at a read line comes to.

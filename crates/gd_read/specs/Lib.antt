@@ -1,6 +1,13 @@
-pub mod Body
 pub mod Candidates
 pub mod KeysAt
-pub mod Pages
-pub mod Planned
-pub mod Scanned
+pub mod Marked
+pub mod Subject
+pub mod Begun
+pub mod Went
+pub mod Stages
+pub mod Sources
+pub mod Roots
+pub mod Rows
+pub mod Rounds
+pub mod Reading
+pub mod Left

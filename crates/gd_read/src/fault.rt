@@ -1,18 +1,50 @@
-//! Why a read has no page.
-ghost use Rattle.std.specs.Prelude.{◌≡◌};
+//! Why a reading does not begin.
+ghost use Rattle.std.specs.Prelude.{◌≡◌, ◌≢◌, ◌<◌, ◌^◌, IfOk};
+ghost use Rattle.gd_defs.specs.Lines.{err_line as err_line_of};
+ghost use Rattle.gd_read.specs.Begun.{fault_at, HasOffset};
 
 use gd_base::memory::Memory;
+use gd_compile::fault::Unknown;
+use gd_fault::fault::{Code, Path};
+use gd_json::value::JsonText;
+use gd_reply::lines::err_line;
+use gd_reply::refusal::Refusal;
+use std::alloc::Global;
 use thiserror::Error;
 
-/// Why a read has no page.
-#[derive(Clone, Copy, Debug, PartialEq, Eq, Error)]
+/// Why a reading does not begin. A query has no meaning at a dateline: that of the cursor, or the latest one.
+#[derive(Debug, Drop, Error)]
 pub enum ReadFault {
-    /// A candidate, or the rows of the page together, weigh at least so much, which is too much.
-    #[error("an answer weighs {weight} or more")]
-    TooWideAnswer { weight: u32 },
-    /// More than one row was found where one is asked.
-    #[error("more than one object was found")]
-    NotUnique,
+    /// The text of the cursor is none, and so many of its bytes begin one.
+    #[error("no cursor: {offset} bytes begin one")]
+    BadCursor {
+        offset: u64,
+    },
+    /// The dateline of the cursor is above the one that there is.
+    #[error("the cursor is of dateline {asked}, and there is {have}")]
+    CursorAhead {
+        asked: u32,
+        have: u32,
+    },
+    /// What stands at the end of this path does not go with what its words stand for.
+    #[error("the query is refused at {path:?}: {code}")]
+    BadQuery {
+        dateline: u32,
+        code: Code,
+        path: Path,
+    },
+    /// No object has this id.
+    #[error("no object has the id {:?}", .path.as_str())]
+    NoSuchId {
+        dateline: u32,
+        path: JsonText,
+    },
+    /// No property is meant by the word of the name at the end of this path.
+    #[error("no property is meant at {path:?}")]
+    NoSuchProperty {
+        dateline: u32,
+        path: Path,
+    },
     /// An allocation was refused.
     #[error("out of memory")]
     Memory,
@@ -25,5 +57,35 @@ impl From<Memory> for ReadFault {
 
     fn from(_refused: Memory) -> ReadFault {
         ReadFault::Memory
+    }
+}
+
+impl ReadFault {
+    /// The reply line of the refusal, where the store was looked at with this latest dateline. `Memory`: an allocation was
+    /// refused, now or when the reading was to begin.
+    pub fn line(self, alloc: Global, latest: u32, line: u64) -> Result<Vec<u8>, Memory>
+        requires line { line < 2 ^ 63 }
+        requires offset { HasOffset self }
+        ensures refused { IfOk result (λ bytes. bytes.items ≡ err_line_of (fault_at latest self).0 line (fault_at latest self).1) }
+        ensures memory { IfOk result (λ _. self ≢ ReadFault.Memory) }
+    {
+        let (dateline, refusal) = match self {
+            ReadFault::BadCursor { offset } => (latest, Refusal::BadCursor { offset }),
+            ReadFault::CursorAhead { asked, have } => (
+                latest,
+                Refusal::CursorAhead { asked, have },
+            ),
+            ReadFault::BadQuery {
+                dateline,
+                code,
+                path,
+            } => (dateline, Refusal::BadQuery { code, path }),
+            ReadFault::NoSuchId { dateline, path } => (dateline, Refusal::NoSuchId { path }),
+            ReadFault::NoSuchProperty { dateline, path } => {
+                (dateline, Refusal::NoSuchProperty { path })
+            }
+            ReadFault::Memory => return Err(Memory),
+        };
+        err_line(alloc, dateline, line, &refusal)
     }
 }

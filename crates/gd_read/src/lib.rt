@@ -1,13 +1,23 @@
-//! The reply to a read, over a store.
+//! Reads over a store, in slices of a budget of steps.
 #![tactic(auto)]
 
+mod advance;
 mod answers;
-pub mod asked;
+mod building;
 pub mod candidates;
-mod cursor;
+mod checking;
 pub mod fault;
+mod first;
+mod gathering;
 pub mod keys;
-pub mod page;
-pub mod pages;
-pub mod read;
-pub mod scan;
+mod lines;
+mod printing;
+mod reach;
+pub mod reading;
+mod roots;
+mod rows;
+mod scanning;
+mod sources;
+mod stage;
+mod subject;
+mod visiting;

@@ -9,12 +9,8 @@ mod mql;
 #[cfg(test)]
 mod pages;
 #[cfg(test)]
-mod read;
-#[cfg(test)]
 mod reply;
 #[cfg(test)]
 mod resolve;
-#[cfg(test)]
-mod suspended;
 #[cfg(test)]
 mod templates;

@@ -4,8 +4,8 @@ use mathlib.Core.List.{IsPrefix}
 use Rattle.gd_prim.specs.declared.Batch.{Batch}
 use Rattle.gd_runs.specs.Request.{ReadRequest}
 use Rattle.gd_shared.specs.Shared.{SeatValue, EnteredValue}
-use Rattle.gd_suspended.specs.declared.reading.Progress.{Progress}
-use Rattle.gd_suspended.specs.declared.reading.Progress.TheVariants.{Reply, Unfinished}
+use Rattle.gd_read.specs.declared.reading.Progress.{Progress}
+use Rattle.gd_read.specs.declared.reading.Progress.TheVariants.{Reply, Unfinished}
 use Rattle.gd_seats.specs.declared.fault.SessionFault.{SessionFault}
 use Rattle.gd_seats.specs.declared.fault.SessionFault.TheVariants.{Read, Shut}
 use Rattle.gd_seats.specs.Session.{SessionValue}

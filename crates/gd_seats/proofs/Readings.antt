@@ -4,13 +4,13 @@ use mathlib.Core.List.{IsPrefix}
 use Rattle.gd_prim.specs.declared.Batch.{Batch}
 use Rattle.gd_runs.specs.Request.{ReadRequest}
 use Rattle.gd_shared.specs.Shared.{SeatValue}
-use Rattle.gd_suspended.specs.Begun.{fault_at, HasOffset}
-use Rattle.gd_suspended.specs.declared.fault.ReadFault.{ReadFault}
-use Rattle.gd_suspended.specs.declared.fault.ReadFault.TheVariants as read_fault
-use Rattle.gd_suspended.specs.Reading.{reading_view, IsGoing, Replies}
-use Rattle.gd_suspended.specs.declared.reading.Reading.{Reading}
-use Rattle.gd_suspended.specs.declared.reading.Progress.{Progress}
-use Rattle.gd_suspended.specs.declared.reading.Progress.TheVariants.{Reply, Unfinished}
+use Rattle.gd_read.specs.Begun.{fault_at, HasOffset}
+use Rattle.gd_read.specs.declared.fault.ReadFault.{ReadFault}
+use Rattle.gd_read.specs.declared.fault.ReadFault.TheVariants as read_fault
+use Rattle.gd_read.specs.Reading.{reading_view, IsGoing, Replies}
+use Rattle.gd_read.specs.declared.reading.Reading.{Reading}
+use Rattle.gd_read.specs.declared.reading.Progress.{Progress}
+use Rattle.gd_read.specs.declared.reading.Progress.TheVariants.{Reply, Unfinished}
 use Rattle.gd_runs.specs.Core as core
 use Rattle.gd_seats.specs.Session.{SessionValue, GoesOn, HoldsGoing}
 use Rattle.gd_seats.specs.Calls.{HasBegun, IsRefused, HasReplied}

@@ -5,11 +5,11 @@ use Rattle.gd_base.specs.Counts.{Rose}
 use Rattle.gd_runs.specs.Core as core
 use Rattle.gd_runs.specs.Request.{ReadRequest}
 use Rattle.gd_shared.specs.Shared.{SeatValue, one_more}
-use Rattle.gd_suspended.specs.Begun.{fault_at, HasOffset}
-use Rattle.gd_suspended.specs.declared.fault.ReadFault.{ReadFault}
-use Rattle.gd_suspended.specs.declared.fault.ReadFault.TheVariants as read_fault
-use Rattle.gd_suspended.specs.declared.reading.Progress.{Progress}
-use Rattle.gd_suspended.specs.declared.reading.Progress.TheVariants.{Reply, Unfinished}
+use Rattle.gd_read.specs.Begun.{fault_at, HasOffset}
+use Rattle.gd_read.specs.declared.fault.ReadFault.{ReadFault}
+use Rattle.gd_read.specs.declared.fault.ReadFault.TheVariants as read_fault
+use Rattle.gd_read.specs.declared.reading.Progress.{Progress}
+use Rattle.gd_read.specs.declared.reading.Progress.TheVariants.{Reply, Unfinished}
 use Rattle.gd_seats.specs.declared.fault.SessionFault.{SessionFault}
 use Rattle.gd_seats.specs.declared.fault.SessionFault.TheVariants.{Read, Shut}
 use Rattle.gd_seats.specs.Session.{SessionValue, reads, seen_of}

@@ -3,8 +3,8 @@ use Rattle.std.specs.Prelude.{ℕ, ◌≤◌, List, take, length, max, Option, N
 use Rattle.gd_prim.specs.declared.Batch.{Batch}
 use Rattle.gd_runs.specs.Core as core
 use Rattle.gd_shared.specs.Shared.{SeatValue}
-use Rattle.gd_suspended.specs.Reading.{reading_view, IsGoing}
-use Rattle.gd_suspended.specs.declared.reading.Reading.{Reading}
+use Rattle.gd_read.specs.Reading.{reading_view, IsGoing}
+use Rattle.gd_read.specs.declared.reading.Reading.{Reading}
 
 -- the seat of a session, and the reading that it holds
 pub record SessionValue : Type 0 where

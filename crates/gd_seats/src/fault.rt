@@ -1,5 +1,5 @@
 //! Why a session gives nothing.
-use gd_suspended::fault::ReadFault;
+use gd_read::fault::ReadFault;
 use thiserror::Error;
 
 /// Why a session begins no reading, or does not go on with one.

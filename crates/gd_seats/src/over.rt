@@ -2,16 +2,16 @@
 ghost use Rattle.std.specs.Prelude.{◌≡◌, ◌+◌, ◌-◌, ◌<◌, ◌≤◌, ◌^◌, true, length, min, IfOk, IfErr};
 ghost use Rattle.gd_runs.specs.Core as core;
 ghost use Rattle.gd_mql.specs.Requests.{read_view};
-ghost use Rattle.gd_suspended.specs.Begun.{Begins, HasOffset};
-ghost use Rattle.gd_suspended.specs.Reading.{reading_view, Replies, is_unfinished};
+ghost use Rattle.gd_read.specs.Begun.{Begins, HasOffset};
+ghost use Rattle.gd_read.specs.Reading.{reading_view, Replies, is_unfinished};
 ghost use Rattle.gd_seats.specs.Session.{GoesOn};
 
 use gd_base::memory::Memory;
 use gd_base::steps::Steps;
 use gd_mql::request::ReadRequest;
 use gd_store::store::Store;
-use gd_suspended::fault::ReadFault;
-use gd_suspended::reading::{Progress, Reading};
+use gd_read::fault::ReadFault;
+use gd_read::reading::{Progress, Reading};
 use std::alloc::Global;
 
 /// The reading of a request that begins at what a store holds, or for a further page at the dateline of its cursor.

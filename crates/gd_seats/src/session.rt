@@ -3,7 +3,7 @@ ghost use Rattle.std.specs.Prelude.{◌≡◌, ◌≢◌, ◌+◌, ◌-◌, ◌<
 ghost use mathlib.Core.List.{IsPrefix};
 ghost use Rattle.gd_mql.specs.Requests.{read_view};
 ghost use Rattle.gd_shared.specs.Shared.{longer};
-ghost use Rattle.gd_suspended.specs.Reading.{is_unfinished};
+ghost use Rattle.gd_read.specs.Reading.{is_unfinished};
 ghost use Rattle.gd_seats.specs.Session.{reads, seen_of, GoesOn};
 ghost use Rattle.gd_seats.specs.Calls.{IsLater, BeginsAs, SlicesAs, MeetsAs};
 
@@ -13,8 +13,8 @@ use core::mem::{replace, replace_with};
 use gd_base::steps::Steps;
 use gd_mql::request::ReadRequest;
 use gd_shared::{Receipt, Seat};
-use gd_suspended::fault::ReadFault;
-use gd_suspended::reading::{Progress, Reading};
+use gd_read::fault::ReadFault;
+use gd_read::reading::{Progress, Reading};
 use std::alloc::Global;
 use std::marker::Model;
 
@@ -28,7 +28,7 @@ pub struct Session {
 
 impl Model for Session {
     ghost use Rattle.std.specs.Coded.{codes};
-    ghost use Rattle.gd_suspended.specs.contracts.reading.Reading as reading_row;
+    ghost use Rattle.gd_read.specs.contracts.reading.Reading as reading_row;
     ghost use Rattle.gd_seats.specs.Session.{SessionValue, HoldsGoing};
 
     ghost Value = { SessionValue };

@@ -5,8 +5,8 @@ use Rattle.gd_prim.specs.declared.Batch.{Batch}
 use Rattle.gd_defs.specs.Lines.{Refusal, err_line}
 use Rattle.gd_runs.specs.Request.{ReadRequest}
 use Rattle.gd_runs.specs.Core.{Reading, reading_of, said}
-use Rattle.gd_suspended.specs.Reading.{reading_view, IsGoing}
-use Rattle.gd_suspended.specs.declared.reading.Reading.{Reading as Suspended}
+use Rattle.gd_read.specs.Reading.{reading_view, IsGoing}
+use Rattle.gd_read.specs.declared.reading.Reading.{Reading as Suspended}
 use Rattle.gd_sessions.specs.Sessions.{in_session, BeginsAs}
 use Rattle.gd_sessions.specs.Held.{GoesOn}
 use Rattle.gd_sessions.proofs.Fronts.{front_reading}

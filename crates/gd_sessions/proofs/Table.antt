@@ -6,8 +6,8 @@ use Rattle.std.proofs.lemmas.Bool.{eqb-true}
 use Rattle.std.proofs.lemmas.List.{map-set, get_or-set_same, get_or-set_other, length-map, take-append-le}
 use Rattle.gd_prim.specs.declared.Batch.{Batch}
 use Rattle.gd_runs.specs.Core.{Session, with_session}
-use Rattle.gd_suspended.specs.Reading.{reading_view, IsGoing}
-use Rattle.gd_suspended.specs.declared.reading.Reading.{Reading}
+use Rattle.gd_read.specs.Reading.{reading_view, IsGoing}
+use Rattle.gd_read.specs.declared.reading.Reading.{Reading}
 use Rattle.gd_sessions.specs.Sessions.{new_session}
 use Rattle.gd_sessions.specs.declared.held.Held.{Held}
 use Rattle.gd_sessions.specs.Held.{session_view, sessions_of, HoldsGoing}

@@ -2,8 +2,8 @@
 use Rattle.std.specs.Prelude.{ℕ, ◌≤◌, List, map, take, get_or, Option, Some, None, option_map}
 use Rattle.gd_prim.specs.declared.Batch.{Batch}
 use Rattle.gd_runs.specs.Core.{Session}
-use Rattle.gd_suspended.specs.Reading.{reading_view, IsGoing}
-use Rattle.gd_suspended.specs.declared.reading.Reading.{Reading}
+use Rattle.gd_read.specs.Reading.{reading_view, IsGoing}
+use Rattle.gd_read.specs.declared.reading.Reading.{Reading}
 use Rattle.gd_sessions.specs.Sessions.{new_session}
 use Rattle.gd_sessions.specs.declared.held.Held.{Held}
 

@@ -11,8 +11,8 @@ use gd_mql::request::ReadRequest;
 use gd_reply::lines::err_line;
 use gd_reply::refusal::Refusal;
 use gd_store::store::Store;
-use gd_suspended::fault::ReadFault;
-use gd_suspended::reading::{Progress, Reading};
+use gd_read::fault::ReadFault;
+use gd_read::reading::{Progress, Reading};
 use std::alloc::Global;
 
 /// A session: how much it has seen, and the reading that it holds.

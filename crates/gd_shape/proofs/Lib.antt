@@ -2,10 +2,8 @@ pub mod Data
 pub mod InTrees
 pub mod Knowing
 pub mod Left
-pub mod Lengths
 pub mod Members
 pub mod Prints
 pub mod Ranks
-pub mod Replies
 pub mod Rows
 pub mod Untold

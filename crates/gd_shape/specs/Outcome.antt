@@ -1,10 +1,8 @@
 -- What printing comes to, as the definitions have it.
-use Rattle.std.specs.Prelude.{◌≡◌, ◌<◌, ℕ, List, Result, Ok, Err, Vec, IsNone}
+use Rattle.std.specs.Prelude.{ℕ, List, Result, Ok, Err, Vec, IsNone}
 use Rattle.std.specs.declared.alloc.Global.{Global}
 use Rattle.gd_defs.specs.Reply.{Path}
 use Rattle.gd_shape.specs.Knowing.{known_at}
-use Rattle.gd_shape.specs.declared.line.LineFault.{LineFault}
-use Rattle.gd_shape.specs.declared.line.LineFault.TheVariants.{ReplyTooLarge, Memory}
 use Rattle.gd_shape.specs.declared.sight.Lack.{Lack}
 use Rattle.gd_shape.specs.declared.sight.Lack.TheVariants as lack
 
@@ -17,8 +15,3 @@ seen f (Err path) = Err path.items
 abbrev pub Lacks : List (ℕ × List ℕ) → Lack → Type 0
 Lacks ids (lack.IdOf object) = IsNone (known_at ids object)
 Lacks ids lack.Memory = Unit {0}
-
--- a line of so many bytes is refused for them
-abbrev pub IsTooLarge : ℕ → LineFault → Type 0
-IsTooLarge bytes (ReplyTooLarge told) = (told ≡ bytes) × (1_048_576 < bytes)
-IsTooLarge bytes Memory = Unit {0}

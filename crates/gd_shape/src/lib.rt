@@ -7,8 +7,6 @@ mod datum;
 mod gather;
 pub mod keys;
 pub mod known;
-pub mod length;
-pub mod line;
 mod lists;
 mod order;
 pub mod page;

@@ -370,26 +370,6 @@ impl Shape {
     }
 }
 
-/// What the root of a query prints from a body, by the list of primitives below a view, all at once. `NotUnique`: two answers
-/// were found where one is asked. `Memory`: an allocation was refused, or 2^64 - 1 steps were taken.
-pub fn print<L>(
-    alloc: Global,
-    asked: Asked,
-    body: PageBody,
-    view: &View<'_>,
-    steps: &mut Steps<L>,
-) -> Result<Json, ShapeFault>
-    ensures printed { IfOk result (λ json. body_print (prims_of view.now) (asked_view asked) body ≡ Ok (json_view json)) }
-    ensures refused { IfErr result (λ fault. Refuses (body_print (prims_of view.now) (asked_view asked) body) fault) }
-    ensures later { steps.old ≤ steps.new }
-{
-    let mut shape = Shape::start(alloc, asked, body)?;
-    match shape.resume(alloc, view, u64::MAX, steps)? {
-        ShapeTurn::Reply(json) => Ok(json),
-        ShapeTurn::Unfinished => Err(ShapeFault::Memory),
-    }
-}
-
 /// The turn that printing comes to.
 fn told(outcome: Result<Json, Vec<JsonText>>) -> Result<ShapeTurn, ShapeFault>
     ensures reply { IfOk result (λ turn. Tells (seen json_view outcome) turn) }

@@ -1,5 +1,5 @@
 use Rattle.std.proofs.Common.{◌≡◌}
-use Rattle.gd_suspended.specs.Reading.{IsGoing, reading_view}
+use Rattle.gd_read.specs.Reading.{IsGoing, reading_view}
 use Rattle.gd_caller.proofs.reads.line_of.Given as goal
 
 abbrev pub invariant-loop-slice : goal.invariant-loop-slice

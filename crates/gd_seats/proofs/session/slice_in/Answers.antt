@@ -1,7 +1,7 @@
 use Rattle.std.proofs.Common.{Some, refl, sym, ap, subst, ◌∙◌, option_map}
 use mathlib.Core.List.{IsPrefix}
 use Rattle.gd_runs.specs.Core as core
-use Rattle.gd_suspended.specs.Reading.{reading_view, Replies}
+use Rattle.gd_read.specs.Reading.{reading_view, Replies}
 use Rattle.gd_seats.specs.Session.{reads, GoesOn, HoldsGoing}
 use Rattle.gd_seats.specs.Calls.{HasEntered}
 use Rattle.gd_seats.proofs.Later.{has_entered}

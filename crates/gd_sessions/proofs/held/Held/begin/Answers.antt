@@ -1,7 +1,7 @@
 use Rattle.std.proofs.Common.{ℕ}
 use Rattle.gd_mql.specs.Requests.{read_view}
-use Rattle.gd_suspended.specs.Begun.{fault_at}
-use Rattle.gd_suspended.specs.Reading.{reading_view}
+use Rattle.gd_read.specs.Begun.{fault_at}
+use Rattle.gd_read.specs.Reading.{reading_view}
 use Rattle.gd_sessions.proofs.Begun.{begins_fault, begins_front, goes_front}
 use Rattle.gd_sessions.proofs.held.Held.begin.Goals as goal
 

@@ -1,0 +1,91 @@
+//! What a reading does.
+ghost use Rattle.std.specs.Prelude.{◌≡◌, ◌+◌, ◌<◌, ◌≤◌, ◌^◌, ℕ, IfOk};
+ghost use Rattle.gd_read.specs.Stages.{StageOwes};
+ghost use Rattle.gd_read.specs.Rounds.{RoundGives, RoundCounts};
+ghost use Rattle.gd_read.specs.Left.{stage_left, round_left};
+
+use crate::building::Building;
+use crate::checking::Checking;
+use crate::gathering::Gathering;
+use crate::printing::print_on;
+use crate::scanning::Scanning;
+use crate::subject::Subject;
+use crate::visiting::Visiting;
+use gd_base::memory::Memory;
+use gd_base::steps::Steps;
+use gd_shape::shape::Shape;
+use gd_store::view::View;
+use gd_window::window::Window;
+use std::alloc::Global;
+
+/// What a reading does, one after the other: the places among which the candidates are are visited, or else candidates are
+/// scanned, and the best rows are kept; where the window is full, it may be asked whether those that are left would change
+/// anything; then the trees of the rows of the page are gathered, or else built by a matcher; then the page is printed.
+#[derive(Drop)]
+pub(crate) enum Stage {
+    Visiting(Visiting),
+    Scanning(Scanning),
+    Checking(Checking),
+    Gathering(Gathering),
+    Building(Building),
+    Printing(Shape),
+    /// The reply was given, or memory was wanting.
+    Spent,
+}
+
+/// What a round of a reading comes to.
+#[derive(Drop)]
+pub(crate) enum Round {
+    /// The reply line.
+    Reply(Vec<u8>),
+    /// It goes on with this.
+    Going(Stage),
+}
+
+impl Stage {
+    /// Goes on by a round. `Memory`: an allocation was refused.
+    pub(crate) fn go_on<L>(
+        self,
+        alloc: Global,
+        subject: &Subject,
+        window: &mut Window,
+        view: &View<'_>,
+        budget: u64,
+        line: u64,
+        steps: &mut Steps<L>,
+    ) -> Result<Round, Memory>
+        requires budget { 0 < budget }
+        requires line { line < 2 ^ 63 }
+        requires owes { StageOwes view.now subject.now self window.old }
+        ensures gives { IfOk result (λ round. RoundGives view.now subject.now line window.new round) }
+        ensures counted { IfOk result (λ round. RoundCounts steps.old steps.new round) }
+
+        // A round lowers what is left by at least the steps that it takes.
+        ensures less { (n : ℕ) → 2 ^ 32 ≤ n → IfOk result (λ round. steps.new + round_left n view.now window.new round ≤ steps.old + stage_left n view.now window.old self) }
+        ensures covered { (n : ℕ) → 2 ^ 32 ≤ n → steps.new ≤ steps.old + stage_left n view.now window.old self }
+        ensures work { steps.new ≤ steps.old + budget + 1024 }
+        ensures later { steps.old ≤ steps.new }
+    {
+        match self {
+            Stage::Visiting(visiting) => {
+                visiting.go_on(alloc, subject, window, view, budget, line, steps)
+            }
+            Stage::Scanning(scanning) => {
+                scanning.go_on(alloc, subject, window, view, budget, line, steps)
+            }
+            Stage::Checking(checking) => {
+                checking.go_on(alloc, subject, window, view, budget, line, steps)
+            }
+            Stage::Gathering(gathering) => {
+                gathering.go_on(alloc, subject, window, view, budget, line, steps)
+            }
+            Stage::Building(building) => {
+                building.go_on(alloc, subject, window, view, budget, line, steps)
+            }
+            Stage::Printing(shape) => {
+                print_on(alloc, shape, subject, window, view, budget, line, steps)
+            }
+            Stage::Spent => unreachable!(),
+        }
+    }
+}

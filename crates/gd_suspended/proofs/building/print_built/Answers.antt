@@ -1,6 +1,0 @@
-use Rattle.gd_suspended.proofs.Built.{builds_end}
-use Rattle.gd_suspended.proofs.building.print_built.Goals as goal
-
-pub print_page-requires-clause-built : goal.print_page-requires-clause-built
-print_page-requires-clause-built g c =
-    builds_end c.args.view.now c.args.subject.now c.args.building c.args.window.now c.requires.builds c.requires.ended c.requires.little c.gathered.result c.gathered.ensures
