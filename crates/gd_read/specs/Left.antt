@@ -1,5 +1,5 @@
 -- How much is left of a reading, at most: each step that it takes lowers this by as much. `n` is a number that no id reaches.
-use Rattle.std.specs.Prelude.{ℕ, ◌+◌, ◌*◌, ◌-◌, List, length, Option, Some, None}
+use Rattle.std.specs.Prelude.{ℕ, ◌+◌, ◌*◌, ◌-◌, ◌^◌, ◌≤◌, List, length, Option, Some, None}
 use Rattle.std.specs.Prelude.{Vec}
 use Rattle.std.specs.Global.{Global}
 use Rattle.gd_prim.specs.declared.Batch.{Batch}
@@ -22,6 +22,10 @@ use Rattle.gd_read.specs.declared.stage.Stage.TheVariants as stage
 use Rattle.gd_read.specs.declared.stage.Round.{Round}
 use Rattle.gd_read.specs.declared.stage.Round.TheVariants.{Reply, Going}
 use Rattle.gd_read.specs.declared.reading.Reading.{Reading}
+
+-- no id reaches this number
+abbrev pub IsPastIds : ℕ → Type 0
+IsPastIds n = 2 ^ 32 ≤ n
 
 -- ---- what is still to begin
 

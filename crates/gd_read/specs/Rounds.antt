@@ -1,10 +1,12 @@
 -- What a round of a reading comes to.
-use Rattle.std.specs.Prelude.{◌≡◌, ℕ, List}
+use Rattle.std.specs.Prelude.{◌≡◌, ℕ, ◌+◌, ◌≤◌, List, Result, IfOk}
 use Rattle.gd_prim.specs.declared.Batch.{Batch}
 use Rattle.gd_base.specs.Counts.{Rose}
+use Rattle.gd_base.specs.declared.memory.Memory.{Memory}
 use Rattle.gd_window.specs.Kept.{Kept}
 use Rattle.gd_read.specs.Subject.{line_of}
 use Rattle.gd_read.specs.Stages.{StageOwes}
+use Rattle.gd_read.specs.Left.{IsPastIds, round_left}
 use Rattle.gd_read.specs.declared.subject.Subject.{Subject}
 use Rattle.gd_read.specs.declared.stage.Round.{Round}
 use Rattle.gd_read.specs.declared.stage.Round.TheVariants.{Reply, Going}
@@ -23,3 +25,11 @@ RoundCounts before now (Going stage) = Rose before now
 abbrev pub IsLine : List ℕ → Round → Type 0
 IsLine expected (Reply bytes) = bytes.items ≡ expected
 IsLine expected (Going stage) = ⊥
+
+-- a round lowers what was left by at least the steps that it took
+abbrev pub Lowers : (ℕ → ℕ) → List Batch → Kept → ℕ → ℕ → Result Round Memory → Type 0
+Lowers left batches w before after result = (n : ℕ) → IsPastIds n → IfOk result (λ round. after + round_left n batches w round ≤ before + left n)
+
+-- the steps that were taken are within what was left
+abbrev pub IsWithin : (ℕ → ℕ) → ℕ → ℕ → Type 0
+IsWithin left before after = (n : ℕ) → IsPastIds n → after ≤ before + left n

@@ -1,5 +1,5 @@
 //! The answers of a property on an object, found by the links at hand.
-ghost use Rattle.std.specs.Prelude.{◌≡◌, ◌&&◌, is_none, filter, if◌then◌else◌};
+ghost use Rattle.std.specs.Prelude.{◌≡◌, ◌&&◌, is_none, filter};
 ghost use Rattle.gd_prim.specs.Live as live;
 ghost use Rattle.gd_defs.specs.Data as tests;
 ghost use Rattle.gd_defs.specs.Property as defs;

@@ -1,6 +1,5 @@
 //! Readings that print their page.
 ghost use Rattle.std.specs.Prelude.{◌≡◌, ◌+◌, ◌<◌, ◌≤◌, ◌^◌, ℕ, [], Some, None, map, length, take, nat_lt, option_map, if◌then◌else◌, IfOk, codes};
-ghost use Rattle.gd_prim.specs.History.{prims_of};
 ghost use Rattle.gd_defs.specs.Lines.{err_line as err_line_of, refused_at};
 ghost use Rattle.gd_defs.specs.Reply as reply;
 ghost use Rattle.gd_json.specs.View.{view as json_view};
@@ -11,7 +10,7 @@ ghost use Rattle.gd_read.specs.Marked.{printed_view};
 ghost use Rattle.gd_window.specs.Laws.{defined};
 ghost use Rattle.gd_suspended_laws.specs.Standing.{rows_of, page_rows};
 ghost use Rattle.gd_read.specs.Stages.{Prints, IsBuilt};
-ghost use Rattle.gd_read.specs.Rounds.{RoundGives, RoundCounts};
+ghost use Rattle.gd_read.specs.Rounds.{RoundGives, RoundCounts, Lowers, IsWithin};
 ghost use Rattle.gd_shape.specs.Shaping.{shape_left, shape_most};
 ghost use Rattle.gd_read.specs.Left.{round_left};
 
@@ -129,8 +128,8 @@ pub(crate) fn print_on<L>(
     requires prints { Prints view.now subject.now shape window.now }
     ensures gives { IfOk result (λ round. RoundGives view.now subject.now line window.now round) }
     ensures counted { IfOk result (λ round. RoundCounts steps.old steps.new round) }
-    ensures less { (n : ℕ) → 2 ^ 32 ≤ n → IfOk result (λ round. steps.new + round_left n view.now window.now round ≤ steps.old + shape_left n shape) }
-    ensures covered { (n : ℕ) → 2 ^ 32 ≤ n → steps.new ≤ steps.old + shape_left n shape }
+    ensures less { Lowers (λ n. shape_left n shape) view.now window.now steps.old steps.new result }
+    ensures covered { IsWithin (λ n. shape_left n shape) steps.old steps.new }
     ensures work { steps.new ≤ steps.old + budget + 1024 }
     ensures later { steps.old ≤ steps.new }
 {

@@ -17,7 +17,7 @@ ghost use Rattle.gd_read.specs.Begun.{fault_at, HasOffset, asked_from, dateline_
 ghost use Rattle.gd_read.specs.Subject.{line_of};
 ghost use Rattle.gd_read.specs.Stages.{IsAsked};
 ghost use Rattle.gd_read.specs.Reading.{reading_view, IsGoing, Replies, is_unfinished};
-ghost use Rattle.gd_read.specs.Left.{reading_left};
+ghost use Rattle.gd_read.specs.Left.{IsPastIds, reading_left};
 
 use crate::fault::ReadFault;
 use crate::first::first_stage;
@@ -268,7 +268,7 @@ impl Reading {
         ensures gives { IfOk result (λ reply. MatchOption reply (IsGoing view.now self.new) (λ bytes. bytes.items ≡ line_of view.now self.old.subject line)) }
         ensures subject { self.new.subject ≡ self.old.subject }
         ensures counted { IfOk result (λ reply. IsNone reply → Rose steps.old steps.new) }
-        ensures less { (n : ℕ) → 2 ^ 32 ≤ n → steps.new + reading_left n view.now self.new ≤ steps.old + reading_left n view.now self.old }
+        ensures less { (n : ℕ) → IsPastIds n → steps.new + reading_left n view.now self.new ≤ steps.old + reading_left n view.now self.old }
         ensures work { steps.new ≤ steps.old + budget + 1024 }
         ensures later { steps.old ≤ steps.new }
     {
@@ -316,7 +316,7 @@ impl Reading {
         ensures reached { IfOk result (λ progress. is_unfinished progress ≡ true → min (steps.old + budget) (2 ^ 64 - 1) ≤ steps.new) }
 
         // What is left falls by at least the steps of the slice, whatever it comes to; `n` is a number that no id reaches.
-        ensures less { (n : ℕ) → 2 ^ 32 ≤ n → steps.new + reading_left n view.now self.new ≤ steps.old + reading_left n view.now self.old }
+        ensures less { (n : ℕ) → IsPastIds n → steps.new + reading_left n view.now self.new ≤ steps.old + reading_left n view.now self.old }
         ensures work { steps.new ≤ steps.old + budget + 1024 }
         ensures later { steps.old ≤ steps.new }
     {

@@ -1,8 +1,8 @@
 //! What a reading does.
-ghost use Rattle.std.specs.Prelude.{◌≡◌, ◌+◌, ◌<◌, ◌≤◌, ◌^◌, ℕ, IfOk};
+ghost use Rattle.std.specs.Prelude.{◌+◌, ◌<◌, ◌≤◌, ◌^◌, IfOk};
 ghost use Rattle.gd_read.specs.Stages.{StageOwes};
-ghost use Rattle.gd_read.specs.Rounds.{RoundGives, RoundCounts};
-ghost use Rattle.gd_read.specs.Left.{stage_left, round_left};
+ghost use Rattle.gd_read.specs.Rounds.{RoundGives, RoundCounts, Lowers, IsWithin};
+ghost use Rattle.gd_read.specs.Left.{stage_left};
 
 use crate::building::Building;
 use crate::checking::Checking;
@@ -42,6 +42,17 @@ pub(crate) enum Round {
     Going(Stage),
 }
 
+/// How far a walk over the places or the rows of a reading came.
+#[derive(Clone, Copy)]
+pub(crate) enum Walked {
+    /// It came to the end.
+    All,
+    /// Too many places lie below the next one.
+    Crowded,
+    /// The budget was spent before.
+    Unfinished,
+}
+
 impl Stage {
     /// Goes on by a round. `Memory`: an allocation was refused.
     pub(crate) fn go_on<L>(
@@ -61,8 +72,8 @@ impl Stage {
         ensures counted { IfOk result (λ round. RoundCounts steps.old steps.new round) }
 
         // A round lowers what is left by at least the steps that it takes.
-        ensures less { (n : ℕ) → 2 ^ 32 ≤ n → IfOk result (λ round. steps.new + round_left n view.now window.new round ≤ steps.old + stage_left n view.now window.old self) }
-        ensures covered { (n : ℕ) → 2 ^ 32 ≤ n → steps.new ≤ steps.old + stage_left n view.now window.old self }
+        ensures less { Lowers (λ n. stage_left n view.now window.old self) view.now window.new steps.old steps.new result }
+        ensures covered { IsWithin (λ n. stage_left n view.now window.old self) steps.old steps.new }
         ensures work { steps.new ≤ steps.old + budget + 1024 }
         ensures later { steps.old ≤ steps.new }
     {
