@@ -1,5 +1,5 @@
 -- What the reply line of a page tells, by the definitions.
-use Rattle.std.proofs.Common.{◌≡◌, inl, inr, ℕ, pos, Bool, true, false, nat_lt, if◌then◌else◌, List, [], ◌∷◌, length, Option, Some, None, Result, Ok, Err, refl, sym, ap, subst, arith, ◌∙◌, ◌+◌, codes, append-nil}
+use Rattle.std.proofs.Common.{◌≡◌, inl, inr, ℕ, pos, Bool, true, false, nat_lt, if◌then◌else◌, List, [], ◌∷◌, length, Option, Some, None, Result, Ok, Err, refl, sym, ap, subst, arith, ◌∙◌, ◌+◌, codes, decimal, append-nil}
 use Rattle.std.specs.Option.{option_map_or}
 use Rattle.gd_prim.specs.declared.Primitive.{Primitive}
 use Rattle.gd_grammar.specs.Chain.{◌>>=◌}
@@ -15,7 +15,7 @@ use Rattle.gd_order_laws.specs.Pages.{next_mark}
 use Rattle.gd_order_laws.proofs.Marks.{cursor_marks}
 use Rattle.gd_paging_laws.proofs.Bytes.{head_same, clear_cursor}
 use Rattle.gd_paging_laws.specs.Told.{IsCursor}
-use Rattle.gd_paging_laws.proofs.Told.{number_first, line_told, not_refused, not_without}
+use Rattle.gd_paging_laws.proofs.Told.{number_first, line_told, dated_same, not_refused, not_without}
 
 -- what a row of the root prints
 abbrev pub row_json : List Primitive → Asked → Row → Result Json Path
@@ -97,33 +97,33 @@ module _ (prims : List Primitive) (a : Asked) where
   abbrev cursor_at : ℕ → Option Mark → Json
   cursor_at dateline mark = page_cursor dateline (page prims a mark) (has_more prims a mark)
 
-  -- a line with a cursor was asked for with one, and is of a page
-  abbrev Line : ℕ → Bool → Option Mark → Json → Items → Type 0
-  Line dateline with_cursor mark c js = (with_cursor ≡ true) × IsTold prims a dateline mark c js
+  -- a line with a cursor was asked for with one, prints its dateline, and is of a page
+  abbrev Line : ℕ → ℕ → Bool → Option Mark → Json → Items → Type 0
+  Line dateline d with_cursor mark c js = (with_cursor ≡ true) × (decimal d ≡ decimal dateline) × IsTold prims a dateline mark c js
 
   answer_told : (dateline line d : ℕ) (with_cursor : Bool) (mark : Option Mark) (c : Json) (js : Items) (r : Result Json Path) → result_json prims a (rows_after prims a mark) (page prims a mark) ≡ r
-      → result_line dateline line (if with_cursor then Some (cursor_at dateline mark) else None) r ≡ ok_cursor_line d line c (list js) → Line dateline with_cursor mark c js
+      → result_line dateline line (if with_cursor then Some (cursor_at dateline mark) else None) r ≡ ok_cursor_line d line c (list js) → Line dateline d with_cursor mark c js
   answer_told dateline line d with_cursor mark c js (Err path) is e = absurd (not_refused dateline d line line (refused_at (codes "NotUnique") path) c (list js) e)
   answer_told dateline line d false mark c js (Ok j) is e = by (nat_lt max_reply (length (ok_line dateline line j))) e
     where
-      by : (b : Bool) → (if b then err_line dateline line (too_large (length (ok_line dateline line j))) else ok_line dateline line j) ≡ ok_cursor_line d line c (list js) → Line dateline false mark c js
+      by : (b : Bool) → (if b then err_line dateline line (too_large (length (ok_line dateline line j))) else ok_line dateline line j) ≡ ok_cursor_line d line c (list js) → Line dateline d false mark c js
       by true e = absurd (not_refused dateline d line line (too_large (length (ok_line dateline line j))) c (list js) e)
       by false e = absurd (not_without dateline d line line j c (list js) e)
   answer_told dateline line d true mark c js (Ok j) is e = by (nat_lt max_reply (length (ok_cursor_line dateline line (cursor_at dateline mark) j))) e
     where
       by : (b : Bool) → (if b then err_line dateline line (too_large (length (ok_cursor_line dateline line (cursor_at dateline mark) j))) else ok_cursor_line dateline line (cursor_at dateline mark) j) ≡ ok_cursor_line d line c (list js)
-          → Line dateline true mark c js
+          → Line dateline d true mark c js
       by true e = absurd (not_refused dateline d line line (too_large (length (ok_cursor_line dateline line (cursor_at dateline mark) j))) c (list js) e)
       by false e =
           let told = line_told dateline d line (cursor_at dateline mark) c j (list js) (is_cursor dateline (page prims a mark) (has_more prims a mark)) e in
-          (refl, result_told dateline mark j c js is told.1 told.0)
+          (refl, told.2, result_told dateline mark j c js is told.1 told.0)
 
-  asked_told : (dateline line d : ℕ) (with_cursor : Bool) (mark : Option Mark) (c : Json) (js : Items) → asked_line prims dateline line with_cursor mark a ≡ ok_cursor_line d line c (list js) → Line dateline with_cursor mark c js
+  asked_told : (dateline line d : ℕ) (with_cursor : Bool) (mark : Option Mark) (c : Json) (js : Items) → asked_line prims dateline line with_cursor mark a ≡ ok_cursor_line d line c (list js) → Line dateline d with_cursor mark c js
   asked_told dateline line d with_cursor mark c js e = by (has_heavy_candidate prims a) (is_heavy_page prims a mark) e
     where
       by : (heavy wide : Bool) → (if heavy then err_line dateline line (too_wide (max_candidate_weight + 1)) else if wide then err_line dateline line (too_wide (max_page_weight + 1))
           else result_line dateline line (if with_cursor then Some (cursor_at dateline mark) else None) (result_json prims a (rows_after prims a mark) (page prims a mark))) ≡ ok_cursor_line d line c (list js)
-          → Line dateline with_cursor mark c js
+          → Line dateline d with_cursor mark c js
       by true wide e = absurd (not_refused dateline d line line (too_wide (max_candidate_weight + 1)) c (list js) e)
       by false true e = absurd (not_refused dateline d line line (too_wide (max_page_weight + 1)) c (list js) e)
       by false false e = answer_told dateline line d with_cursor mark c js (result_json prims a (rows_after prims a mark) (page prims a mark)) refl e
@@ -135,13 +135,27 @@ pub record IsLine (prims : List Primitive) (q : Query) (dateline : ℕ) (with_cu
   pub paged : with_cursor ≡ true
   pub told : IsTold prims asked dateline mark c js
 
+-- and its dateline prints as the one that was asked for
+record IsDated (prims : List Primitive) (q : Query) (dateline d : ℕ) (with_cursor : Bool) (mark : Option Mark) (c : Json) (js : Items) : Type 0 where
+  pub line : IsLine prims q dateline with_cursor mark c js
+  pub dated : decimal d ≡ decimal dateline
+
+reply_dated : (prims : List Primitive) (q : Query) (dateline line d : ℕ) (with_cursor : Bool) (mark : Option Mark) (c : Json) (js : Items)
+    → reply prims dateline line with_cursor mark q ≡ ok_cursor_line d line c (list js) → IsDated prims q dateline d with_cursor mark c js
+reply_dated prims q dateline line d with_cursor mark c js e = by (asked_query prims q) refl e
+  where
+    by : (r : Result Asked Unknown) → asked_query prims q ≡ r → meant_line prims dateline line with_cursor mark r ≡ ok_cursor_line d line c (list js) → IsDated prims q dateline d with_cursor mark c js
+    by (Err u) is e = absurd (not_refused dateline d line line (unknown_refusal u) c (list js) e)
+    by (Ok a) is e = let all = asked_told prims a dateline line d with_cursor mark c js e in record { line = record { asked = a; means = is; paged = all.0; told = all.2 }; dated = all.1 }
+
 pub reply_told : (prims : List Primitive) (q : Query) (dateline line d : ℕ) (with_cursor : Bool) (mark : Option Mark) (c : Json) (js : Items)
     → reply prims dateline line with_cursor mark q ≡ ok_cursor_line d line c (list js) → IsLine prims q dateline with_cursor mark c js
-reply_told prims q dateline line d with_cursor mark c js e = by (asked_query prims q) refl e
-  where
-    by : (r : Result Asked Unknown) → asked_query prims q ≡ r → meant_line prims dateline line with_cursor mark r ≡ ok_cursor_line d line c (list js) → IsLine prims q dateline with_cursor mark c js
-    by (Err u) is e = absurd (not_refused dateline d line line (unknown_refusal u) c (list js) e)
-    by (Ok a) is e = let both = asked_told prims a dateline line d with_cursor mark c js e in record { asked = a; means = is; paged = both.0; told = both.1 }
+reply_told prims q dateline line d with_cursor mark c js e = (reply_dated prims q dateline line d with_cursor mark c js e).line
+
+-- the line is that of this dateline
+pub reply_prints : (prims : List Primitive) (q : Query) (dateline line d : ℕ) (with_cursor : Bool) (mark : Option Mark) (c : Json) (js : Items)
+    → reply prims dateline line with_cursor mark q ≡ ok_cursor_line d line c (list js) → ok_cursor_line d line c (list js) ≡ ok_cursor_line dateline line c (list js)
+reply_prints prims q dateline line d with_cursor mark c js e = dated_same dateline d line c (list js) (reply_dated prims q dateline line d with_cursor mark c js e).dated
 
 -- its cursor is one of a page
 pub line_cursor : (prims : List Primitive) (q : Query) (dateline line d : ℕ) (with_cursor : Bool) (mark : Option Mark) (c : Json) (js : Items) → reply prims dateline line with_cursor mark q ≡ ok_cursor_line d line c (list js) → IsCursor c

@@ -2,7 +2,7 @@
 use Rattle.std.proofs.Common.{◌≡◌, inl, inr, ℕ, ◌≤◌, ℤ, pos, negsuc, true, false, List, [], ◌∷◌, ◌++◌, flat_map, codes, decimal, get_or, drop, refl, sym, ap, arith, append_assoc, ◌∙◌}
 use Rattle.std.proofs.lemmas.List.{append_cancel_left, append_cancel_right}
 use Rattle.gd_tree.specs.Json.{Json, null, boolean, number, text, list, object, no_items, item, no_members, member, compact, quoted, escaped, number_text}
-use Rattle.gd_defs.specs.Lines.{Refusal, err_line, ok_line, ok_cursor_line}
+use Rattle.gd_defs.specs.Lines.{Refusal, err_line, err_line_plain, ok_line, ok_cursor_line}
 use Rattle.gd_paging_laws.specs.Told.{Clear, IsCursor}
 use Rattle.gd_paging_laws.proofs.Bytes.{head_same, tail_same, up_to, SomeDigits, decimal_digits, without_comma, quoted_same, clear_same}
 
@@ -87,15 +87,23 @@ line_parts dateline line cursor result =
     (behind (decimal line) _ (codes "}") _ (ap (λ l. 44 ∷ (codes "\"result\":" ++ l))
     (behind (compact result) [] (codes "}") _ refl)))))))
 
--- lines with cursors that are the same tell the same cursor, and results that print alike
-pub line_told : (dateline d line : ℕ) (cursor c result r : Json) → IsCursor cursor → ok_cursor_line dateline line cursor result ≡ ok_cursor_line d line c r → (cursor ≡ c) × (compact result ≡ compact r)
+-- lines with cursors that are the same tell the same cursor, and results and datelines that print alike
+pub line_told : (dateline d line : ℕ) (cursor c result r : Json) → IsCursor cursor → ok_cursor_line dateline line cursor result ≡ ok_cursor_line d line c r
+    → (cursor ≡ c) × (compact result ≡ compact r) × (decimal d ≡ decimal dateline)
 line_told dateline d line cursor c result r is e =
     let whole : parts d line c r ≡ parts dateline line cursor result = sym (line_parts d line c r) ∙ sym e ∙ line_parts dateline line cursor result in
     let one = cursor_told c cursor _ _ is (append_cancel_left (codes "{\"code\":\"/api/status/ok\",\"cursor\":") _ _ whole) in
     let two = up_to 44 (decimal d) (decimal dateline) _ _ (without_comma d) (without_comma dateline) (append_cancel_left (codes "\"dateline\":") _ _ (tail_same one.1)) in
     let three = append_cancel_left (decimal line) _ _ (append_cancel_left (codes "\"line\":") _ _ two.1) in
     let four = append_cancel_right (compact r) (compact result) (codes "}") (append_cancel_left (codes "\"result\":") _ _ (tail_same three)) in
-    (sym one.0, sym four)
+    (sym one.0, sym four, two.0)
+
+-- lines that differ in datelines alone, which print alike, are the same
+pub dated_same : (dateline d line : ℕ) (c r : Json) → decimal d ≡ decimal dateline → ok_cursor_line d line c r ≡ ok_cursor_line dateline line c r
+dated_same dateline d line c r is =
+    line_parts d line c r
+    ∙ ap (λ (n : List ℕ). codes "{\"code\":\"/api/status/ok\",\"cursor\":" ++ (compact c ++ 44 ∷ (codes "\"dateline\":" ++ (n ++ 44 ∷ (codes "\"line\":" ++ (decimal line ++ 44 ∷ (codes "\"result\":" ++ (compact r ++ codes "}")))))))) is
+    ∙ sym (line_parts dateline line c r)
 
 -- no refusal is a line with a cursor
 pub not_refused : (n d line k : ℕ) (f : Refusal) (c r : Json) → err_line n line f ≡ ok_cursor_line d k c r → ⊥
@@ -104,3 +112,7 @@ not_refused n d line k f c r e = let same : 101 ≡ 111 = ap (λ l. get_or l 21 
 -- and no line without one
 pub not_without : (n d line k : ℕ) (j c r : Json) → ok_line n line j ≡ ok_cursor_line d k c r → ⊥
 not_without n d line k j c r e = let same : 100 ≡ 99 = ap (λ l. get_or l 26 0) e in omega (arith, same)
+
+-- nor is one that has no dateline
+pub not_plain : (d line k : ℕ) (f : Refusal) (c r : Json) → err_line_plain line f ≡ ok_cursor_line d k c r → ⊥
+not_plain d line k f c r e = let same : 101 ≡ 111 = ap (λ l. get_or l 21 0) e in omega (arith, same)
