@@ -47,7 +47,7 @@ prims_append first more = ap (λ l. builtin ++ l) (flat first) ∙ sym (append_a
     flat (b ∷ bs) = ap (λ l. b.prims ++ l) (flat bs) ∙ sym (append_assoc b.prims (flat_map (λ b. b.prims) bs) (flat_map (λ b. b.prims) more))
 
 -- what has grown to within the limits was within them
-within_before : (first batches : List Batch) → Grown first batches → AreWithin batches → AreWithin first
+pub within_before : (first batches : List Batch) → Grown first batches → AreWithin batches → AreWithin first
 within_before first batches (more, is) within =
     let requests = ap length is ∙ length-append first more in
     let prims = ap length (ap prims_of is ∙ prims_append first more) ∙ length-append (prims_of first) (flat_map (λ b. b.prims) more) in

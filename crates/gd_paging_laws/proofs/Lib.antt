@@ -6,5 +6,8 @@ pub mod Marks
 pub mod Joined
 pub mod Bounds
 pub mod Whole
-pub mod Laws
 pub mod Going
+pub mod Within
+pub mod Queries
+pub mod Shown
+pub mod Laws

@@ -1,3 +1,4 @@
 pub mod Told
 pub mod Paged
+pub mod Explained
 pub mod Laws
