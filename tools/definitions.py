@@ -77,7 +77,7 @@ CRATES = [
      ["Request", "Input", "Legal", "Explained/Lines", "Explained/Outcomes", "Explained/Runs", "Explained/Rounds", "Explained",
       "RootSets", "Work", "Owed", "Scanned", "Shape/Answers", "Shape/Ids", "Shape", "Thawed", "Fitting",
       "Core", "Replay", "Pace", "Side"], True),
-    ("gd_paging_laws", "Pages of a query that were read one after another.", ["Told", "Paged"], False),
+    ("gd_paging_laws", "Pages of a query that were read one after another.", ["Told", "Paged", "Explained"], False),
     ("gd_shared", "Published copies: what contracts see of a publisher and of seats.", ["Shared"], False),
     ("gd_log", "A log: payloads that are groups of batches, and what its disk holds.", ["Groups", "State"], False),
     ("gd_words", "The command line: which words give which command, and which verb and file it names.", ["Options", "Words", "Verbs"], False),
