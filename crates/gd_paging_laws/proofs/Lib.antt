@@ -10,4 +10,5 @@ pub mod Going
 pub mod Within
 pub mod Queries
 pub mod Shown
+mod PagesRow
 pub mod Laws
