@@ -1,21 +1,19 @@
--- Pages go on by one page, up to the last one.
-use Rattle.std.proofs.Common.{◌≡◌, ℕ, Bool, true, false, if◌then◌else◌, List, [], ◌∷◌, ◌++◌, length, flat_map, Some, None, Result, Ok, Err, refl, sym, ap, subst, arith, append_assoc, length-append, ◌∙◌}
+-- The cursor that the line of a page tells, and the store of an earlier page.
+use Rattle.std.proofs.Common.{◌≡◌, ℕ, Bool, true, false, if◌then◌else◌, List, [], ◌∷◌, ◌++◌, length, flat_map, refl, Some, None, Result, Ok, Err, subst, ap, arith, append_assoc, length-append, sym, ◌∙◌}
 use Rattle.std.specs.Prelude.{nat_lt}
 use Rattle.gd_prim.specs.declared.Batch.{Batch}
 use Rattle.gd_prim.specs.Builtin.{builtin}
 use Rattle.gd_prim.specs.History.{prims_of, prims_at}
 use Rattle.gd_bytes.specs.Cursor.{Cursor, cursor_of}
-use Rattle.gd_tree.specs.Json.{Json, boolean, list, Items}
-use Rattle.gd_defs.specs.Query.{Query, query_of}
+use Rattle.gd_tree.specs.Json.{Json, list, Items}
+use Rattle.gd_defs.specs.Query.{Query}
 use Rattle.gd_defs.specs.Lines.{err_line, bad_cursor, cursor_ahead, ok_cursor_line}
 use Rattle.gd_defs.specs.Reply.{reply}
 use Rattle.gd_runs.specs.Request.{CursorAsk, no_cursor, first_page, page_after, page_reply, reply_of}
-use Rattle.gd_order_laws.specs.Window.{Each}
-use Rattle.gd_paging_laws.specs.Paged.{Page, IsPageOf, Follow, Grown, OfOneStore, AreWithin, AreWhole}
+use Rattle.gd_paging_laws.specs.Paged.{Grown, AreWithin}
 use Rattle.gd_paging_laws.specs.Told.{IsCursor}
 use Rattle.gd_paging_laws.proofs.Told.{not_refused}
 use Rattle.gd_paging_laws.proofs.Lines.{line_cursor}
-use Rattle.gd_paging_laws.proofs.Whole.{whole}
 
 -- the cursor of a page is false or a clear text
 pub page_told : (batches : List Batch) (n line d : ℕ) (ask : CursorAsk) (q : Query) (c : Json) (js : Items) → reply_of batches n line (record { cursor = ask; query = q }) ≡ ok_cursor_line d line c (list js) → IsCursor c
@@ -31,13 +29,6 @@ page_told batches n line d (page_after t) q c js e = by (cursor_of t) e
         behind true e = absurd (not_refused n d line line (cursor_ahead k.dateline n) c (list js) e)
         behind false e = line_cursor (prims_at batches k.dateline) q k.dateline line d true (Some k.after) c js e
 
--- one page more
-pub follow_on : (q : Query) (from next : Json) (ps : List Page) (p : Page) → Follow q from ps next → IsPageOf q next p → Follow q from (ps ++ p ∷ []) p.cursor
-follow_on q from next [] p is page = (subst (λ c. IsPageOf q c p) (sym is) page, refl)
-follow_on q from next (r ∷ rs) p (here, more) page = (here, follow_on q r.cursor next rs p more page)
-
--- ---- stores that grow
-
 prims_append : (first more : List Batch) → prims_of (first ++ more) ≡ prims_of first ++ flat_map (λ b. b.prims) more
 unfolding prims_of
 prims_append first more = ap (λ l. builtin ++ l) (flat first) ∙ sym (append_assoc builtin (flat_map (λ b. b.prims) first) (flat_map (λ b. b.prims) more))
@@ -52,12 +43,3 @@ within_before first batches (more, is) within =
     let requests = ap length is ∙ length-append first more in
     let prims = ap length (ap prims_of is ∙ prims_append first more) ∙ length-append (prims_of first) (flat_map (λ b. b.prims) more) in
     record { requests = omega (arith, requests, within.requests); prims = omega (arith, prims, within.prims) }
-
-last_grown : (first : List Batch) (ps : List Page) (p : Page) → Each (λ r. Grown first r.batches) (ps ++ p ∷ []) → Grown first p.batches
-last_grown first [] p grown = grown.0
-last_grown first (r ∷ rs) p grown = last_grown first rs p grown.1
-
--- the law, of pages behind which a last one comes, and the limits at this
-pub whole_at : (j : Json) (q : Query) (ps : List Page) (p : Page) → query_of j ≡ Ok q → AreWithin p.batches → OfOneStore (ps ++ p ∷ []) → Follow q (boolean true) (ps ++ p ∷ []) (boolean false) → AreWhole q (ps ++ p ∷ [])
-whole_at j q [] p spelled within grown follow = whole j q p [] spelled within grown follow
-whole_at j q (r ∷ rs) p spelled within grown follow = whole j q r (rs ++ p ∷ []) spelled (within_before r.batches p.batches (last_grown r.batches rs p grown) within) grown follow

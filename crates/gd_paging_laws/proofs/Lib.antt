@@ -1,6 +1,5 @@
 pub mod Bytes
 pub mod Told
-pub mod Text
 pub mod Lines
 pub mod Marks
 pub mod Joined
