@@ -1,5 +1,5 @@
 -- Reading a line chunk by chunk.
-use Rattle.std.proofs.Common.{◌≡◌, ℕ, ◌+◌, List, [], ◌∷◌, ◌++◌, length, Bool, true, false, Option, Some, None, sym, ap, subst, ◌∙◌, arith, append_assoc, append-nil, length-append}
+use Rattle.std.proofs.Common.{◌≡◌, ℕ, ◌+◌, List, [], ◌∷◌, ◌++◌, length, Bool, true, false, Option, Some, None, refl, sym, ap, subst, ◌∙◌, arith, append_assoc, append-nil, length-append}
 use Rattle.std.specs.Prelude.{if◌then◌else◌}
 use Rattle.std.specs.Io.KnownBytes.{prepend_known, Keeps, Consumes, IsAtEnd}
 use Rattle.std.proofs.KnownBytes.{Consumes-nil, Consumes-trans, Consumes-kept}
@@ -9,7 +9,7 @@ use Rattle.gd_input.specs.declared.line.RoundLine.{RoundLine}
 use Rattle.gd_input.specs.declared.piece.Piece.{Piece}
 use Rattle.gd_input.specs.Held.{Held}
 use Rattle.gd_input.specs.Line.{IsKept}
-use Rattle.gd_input.specs.Pieces.{IsPlain, TakesChunk, TakesPiece, Known, Advances}
+use Rattle.gd_input.specs.Pieces.{IsPlain, TakesChunk, TakesPiece, Known, Advances, ended_lines, StopsInLine}
 
 plain-append : (xs ys : List ℕ) → IsPlain xs → IsPlain ys → IsPlain (xs ++ ys)
 plain-append [] ys p q = q
@@ -49,6 +49,27 @@ longer start source old new m line piece r chunk more =
       counted = omega (arith, r.counted, chunk.counted, ap length parts, length-append chunk.chunk new.bytes, length-append r.piece chunk.chunk);
     }
 
+-- ---- lines in bytes
+
+-- bytes up to a newline are the first line, whatever follows
+ended_one : (front line more : List ℕ) → IsPlain line → ended_lines front ((line ++ 10 ∷ []) ++ more) ≡ without_return (front ++ line) ∷ ended_lines [] more
+ended_one front [] more plain = ap (λ (l : List ℕ). without_return l ∷ ended_lines [] more) (sym (append-nil front))
+ended_one front (c ∷ line) more (other, plain) =
+    ap (λ (b : Bool). if b then without_return front ∷ ended_lines [] ((line ++ 10 ∷ []) ++ more) else ended_lines (front ++ c ∷ []) ((line ++ 10 ∷ []) ++ more)) other
+    ∙ (ended_one (front ++ c ∷ []) line more plain ∙ ap (λ (l : List ℕ). without_return l ∷ ended_lines [] more) (append_assoc front (c ∷ []) line))
+
+-- bytes without a newline end no line
+pub ended_none : (front line : List ℕ) → IsPlain line → ended_lines front line ≡ []
+ended_none front [] plain = refl
+ended_none front (c ∷ line) (other, plain) =
+    ap (λ (b : Bool). if b then without_return front ∷ ended_lines [] line else ended_lines (front ++ c ∷ []) line) other ∙ ended_none (front ++ c ∷ []) line plain
+
+-- a line that was read so far
+pub stopped : (start now : Option (List ℕ)) (m n : ℕ) (line : RoundLine) → Reading start now m n line → Known start now StopsInLine
+stopped None now m n line r = tt
+stopped (Some xs) None m n line r = r.consumed
+stopped (Some xs) (Some ys) m n line r = record { bytes = r.piece; plain = r.plain; parts = r.consumed }
+
 -- ---- a line that a newline ended
 
 -- what was consumed with the newline
@@ -74,6 +95,9 @@ first_of None after p l plain kept consumed = tt
 first_of (Some xs) None p l plain kept consumed = consumed
 first_of (Some xs) (Some ys) p l plain kept consumed = record {
   line = without_return p;
+  bytes = p ++ 10 ∷ [];
+  parts = consumed;
+  whole = λ is more. ended_one [] p more plain;
   kept = kept;
   first = ap (pieces []) (consumed ∙ append_assoc p (10 ∷ []) ys) ∙ one_piece [] p ys plain;
   ended = λ is. cc;
@@ -93,6 +117,9 @@ last_of None after p l plain kept consumed end = tt
 last_of (Some xs) None p l plain kept consumed end = consumed
 last_of (Some xs) (Some ys) p l plain kept consumed end = record {
   line = p;
+  bytes = p;
+  parts = consumed;
+  whole = λ is. absurd (cc);
   kept = kept;
   first = ap (pieces []) (consumed ∙ ap (λ l. p ++ l) end ∙ append-nil p) ∙ last_piece [] p plain;
   ended = λ is. end;

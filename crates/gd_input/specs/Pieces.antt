@@ -1,8 +1,8 @@
 -- Pieces of the input, which end at a newline or at the input's end.
-use Rattle.std.specs.Prelude.{◌≡◌, ℕ, ◌+◌, List, [], ◌∷◌, ◌++◌, length, take, drop, Bool, false, ◌==◌, if◌then◌else◌, Option, None, Some, ⊤}
+use Rattle.std.specs.Prelude.{◌≡◌, ℕ, ◌+◌, ◌≤◌, List, [], ◌∷◌, ◌++◌, length, take, drop, Bool, true, false, ◌==◌, if◌then◌else◌, Option, None, Some, ⊤}
 use Rattle.std.specs.List.{AllByRecursion}
 use Rattle.std.specs.Io.KnownBytes.{Consumes}
-use Rattle.gd_runs.specs.Explained.{pieces}
+use Rattle.gd_runs.specs.Explained.{pieces, without_return}
 use Rattle.gd_input.specs.declared.line.RoundLine.{RoundLine}
 use Rattle.gd_input.specs.declared.piece.Piece.{Piece}
 use Rattle.gd_input.specs.Held.{Held}
@@ -38,13 +38,31 @@ pub record Advances (old new : Option (List ℕ)) (m n : ℕ) : Type 0 where
   pub consumed : Consumes old new bytes
   pub counted : n ≡ m + length bytes
 
+-- at least so many bytes were taken off the front of what was left, where that is known
+abbrev pub TakesAtLeast : ℕ → (old new : Option (List ℕ)) → Type 0
+TakesAtLeast n old new = (bytes : List ℕ) × Consumes old new bytes × (n ≤ length bytes)
+
+-- the lines that newlines end in bytes, behind a piece that has begun
+abbrev pub ended_lines : List ℕ → List ℕ → List (List ℕ)
+ended_lines piece [] = []
+ended_lines piece (c ∷ bytes) = if c == 10 then without_return piece ∷ ended_lines [] bytes else ended_lines (piece ++ c ∷ []) bytes
+
+-- these bytes were taken, and end no line
+pub record StopsInLine (before after : List ℕ) : Type 0 where
+  pub bytes : List ℕ
+  pub plain : IsPlain bytes
+  pub parts : before ≡ bytes ++ after
+
 -- the pieces that follow one that was ended by a newline or not
 abbrev pub later_pieces : Bool → List ℕ → List (List ℕ)
 later_pieces by_newline left = if by_newline then pieces [] left else []
 
--- the first piece of what was left is this line, and the others are those of what is left now
+-- The first piece of what was left is this line, and the others are those of what is left now. Where a newline ended it, it is the first line of what was taken, whatever follows.
 pub record TakesPiece (piece : Piece) (before after : List ℕ) : Type 0 where
   pub line : List ℕ
+  pub bytes : List ℕ
+  pub parts : before ≡ bytes ++ after
+  pub whole : piece.by_newline ≡ true → (more : List ℕ) → ended_lines [] (bytes ++ more) ≡ line ∷ ended_lines [] more
   pub kept : IsKept 262_144 piece.line line
   pub first : pieces [] before ≡ line ∷ later_pieces piece.by_newline after
   pub ended : piece.by_newline ≡ false → after ≡ []

@@ -1,9 +1,10 @@
 -- Rounds of the input.
-use Rattle.std.specs.Prelude.{◌≡◌, ℕ, ◌+◌, List, [], ◌∷◌, ◌++◌, map, true, ⊤}
-use Rattle.gd_runs.specs.Explained.{Numbered, pieces, numbered}
+use Rattle.std.specs.Prelude.{◌≡◌, ℕ, ◌+◌, List, [], ◌∷◌, ◌++◌, map, true, false, ◌==◌, if◌then◌else◌, ⊤}
+use Rattle.gd_runs.specs.Explained.{Numbered, pieces, max_round, numbered}
 use Rattle.gd_input.specs.declared.line.RoundLine.{RoundLine}
 use Rattle.gd_input.specs.declared.round.Round.{Round}
 use Rattle.gd_input.specs.Line.{IsKept}
+use Rattle.gd_input.specs.Pieces.{ended_lines}
 
 -- each line is kept, or told as too long
 abbrev pub AreKept : List RoundLine → List (List ℕ) → Type 0
@@ -15,8 +16,27 @@ AreKept _ _ = ⊥
 abbrev pub in_round : ℕ → List (List ℕ) → List Numbered
 in_round round lines = map (λ line. record { bytes = line; round = round }) lines
 
--- What was left begins with the lines of this round, and goes on with the rounds of what is left now. It ended where nothing is left.
+-- how many rounds end with these lines, where so many lines of the present one were taken already
+abbrev pub rounds_ended : ℕ → List (List ℕ) → ℕ
+rounds_ended in_round [] = 0
+rounds_ended in_round ([] ∷ lines) = 1 + rounds_ended 0 lines
+rounds_ended in_round ((c ∷ cs) ∷ lines) = if in_round + 1 == max_round then 1 + rounds_ended 0 lines else rounds_ended (in_round + 1) lines
+
+-- how many rounds lie wholly in bytes: each ends with the newline of a blank line or of its 256th line
+abbrev pub whole_rounds : List ℕ → ℕ
+whole_rounds bytes = rounds_ended 0 (ended_lines [] bytes)
+
+-- these bytes were taken, and no round lies wholly in them
+pub record StopsInRound (before after : List ℕ) : Type 0 where
+  pub bytes : List ℕ
+  pub parts : before ≡ bytes ++ after
+  pub none : whole_rounds bytes ≡ 0
+
+-- What was left begins with the lines of this round, and goes on with the rounds of what is left now. It ended where nothing is left; else what was taken is one whole round, whatever follows.
 pub record TakesRound (taken : Round) (before after : List ℕ) : Type 0 where
+  pub bytes : List ℕ
+  pub parts : before ≡ bytes ++ after
+  pub whole : taken.ended ≡ false → (more : List ℕ) → whole_rounds (bytes ++ more) ≡ 1 + whole_rounds more
   pub lines : List (List ℕ)
   pub kept : AreKept taken.lines.items lines
   pub rounds : (round : ℕ) → numbered round 0 (pieces [] before) ≡ in_round round lines ++ numbered (round + 1) 0 (pieces [] after)

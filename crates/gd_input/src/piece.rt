@@ -1,5 +1,5 @@
 //! Pieces of the input, which end at a newline or at the input's end.
-ghost use Rattle.std.specs.Prelude.{◌≡◌, ◌≢◌, ◌<◌, ◌≤◌, ◌+◌, ◌^◌, ℕ, List, [], length, false, true, MatchOption, IfOk, IfSome, OnErr};
+ghost use Rattle.std.specs.Prelude.{◌≡◌, ◌≢◌, ◌<◌, ◌≤◌, ◌+◌, ◌^◌, ◌⊎◌, ℕ, List, [], length, false, true, MatchOption, IfOk, IfSome, OnErr};
 ghost use Rattle.std.specs.Io.KnownBytes.{prepend_known, IsAtEnd};
 ghost use Rattle.gd_base.specs.Counts.{Rose};
 ghost use Rattle.gd_input.specs.Line.{IsShort};
@@ -29,7 +29,7 @@ fn newline_in(bytes: &[u8]) -> Option<usize>
 
 impl Reader {
     ghost use Rattle.gd_input.specs.Held.{IsBounded};
-    ghost use Rattle.gd_input.specs.Pieces.{Known, Advances, TakesChunk, TakesPiece};
+    ghost use Rattle.gd_input.specs.Pieces.{Known, Advances, TakesChunk, TakesPiece, StopsInLine};
 
     /// Adds the held bytes to a line that has begun, up to a newline, which is then dropped.
     fn take_chunk(&mut self, begun: RoundLine) -> Result<Piece, AllocError>
@@ -71,6 +71,9 @@ impl Reader {
         ensures forward { IfOk result (λ piece. piece.by_newline ≡ true → self.old.consumed < self.new.consumed) }
         ensures at_end { IfOk result (λ piece. piece.by_newline ≡ false
             → (self.new.bytes ≡ []) × IsAtEnd (S.left source.new)) }
+        ensures stopped { OnErr result (Known (prepend_known self.old.bytes (S.left source.old))
+            (prepend_known self.new.bytes (S.left source.new)) StopsInLine) }
+        ensures none { (result ≡ Err InputFault.Failed) ⊎ (result ≡ Err InputFault.TooMuch) → self.new.bytes ≡ [] }
         ensures failed { result ≡ Err InputFault.Failed → Rose (S.faults source.old) (S.faults source.new) }
         ensures too_much { result ≡ Err InputFault.TooMuch → 2 ^ 40 ≤ self.new.consumed }
         ensures later { S.faults source.old ≤ S.faults source.new }

@@ -1,5 +1,5 @@
 //! Rounds of the input.
-ghost use Rattle.std.specs.Prelude.{◌≡◌, ◌<◌, ◌≤◌, ◌^◌, ℕ, List, Option, [], IfOk, true, false, vec_len};
+ghost use Rattle.std.specs.Prelude.{◌≡◌, ◌<◌, ◌≤◌, ◌^◌, ◌⊎◌, ℕ, List, Option, [], IfOk, true, false, vec_len};
 ghost use Rattle.std.specs.Io.KnownBytes.{prepend_known, IsAtEnd};
 ghost use Rattle.std.specs.List.{All};
 ghost use Rattle.gd_base.specs.Counts.{Rose};
@@ -24,7 +24,7 @@ pub struct Round {
 impl Reader {
     ghost use Rattle.gd_input.specs.Held.{IsBounded};
     ghost use Rattle.gd_input.specs.Pieces.{Known, Advances};
-    ghost use Rattle.gd_input.specs.Rounds.{TakesRound};
+    ghost use Rattle.gd_input.specs.Rounds.{TakesRound, StopsInRound};
 
     /// Reads the next round of the input: its lines up to a blank line, the `ROUND_LIMIT`-th line or the input's end.
     /// No more is read than the round needs, but for what the buffer holds. `Failed`: the source did, and its count
@@ -48,6 +48,11 @@ impl Reader {
             → Advances first (prepend_known self.old.bytes (S.left source.old)) before self.old.consumed
             → Advances first (prepend_known self.new.bytes (S.left source.new)) before self.new.consumed }
         ensures bounded { IsBounded self.new }
+
+        // Where the source failed or had too much, all that was taken is used up, and no further round lies wholly in it.
+        ensures stopped { (result ≡ Err InputFault.Failed) ⊎ (result ≡ Err InputFault.TooMuch)
+            → (self.new.bytes ≡ []) × Known (prepend_known self.old.bytes (S.left source.old))
+            (prepend_known self.new.bytes (S.left source.new)) StopsInRound }
 
         // Each fault has its cause.
         ensures failed { result ≡ Err InputFault.Failed → Rose (S.faults source.old) (S.faults source.new) }
