@@ -3,3 +3,4 @@ pub mod Buffers
 pub mod Newlines
 pub mod Reading
 pub mod Gathering
+pub mod Taken

@@ -45,15 +45,6 @@ advances_then (Some x) (Some y) (Some z) n m first more =
     joined : (bs cs : List ℕ) → x ≡ bs ++ y → y ≡ cs ++ z → x ≡ (bs ++ cs) ++ z
     joined bs cs p q = p ∙ (ap (λ (l : List ℕ). bs ++ l) q ∙ sym (append_assoc bs cs z))
 
--- what was taken is no more than there was
-pub taken_known : (a b : Option (List ℕ)) (n m : ℕ) → Advances a b 0 n → m ≤ n → IfSome a (λ input. m ≤ length input)
-taken_known None b n m advances below = tt
-taken_known (Some x) None n m advances below = absurd advances.consumed
-taken_known (Some x) (Some y) n m advances below =
-    let parts = ap length advances.consumed in
-    let long = length-append advances.bytes y in
-    omega (arith, parts, long, advances.counted, below)
-
 module _ (members : MembersOf) (may : ℕ → Bool) (loaded : List Batch) (old mid new : Option (List ℕ)) (a b c : ℕ) (k : ℕ) (s : State) where
   -- a piece more
   pub more_known : (n : ℕ) (t : State) (x y z : Option (List ℕ)) (piece : Piece) → piece.by_newline ≡ true → Known x y (RunUpto members may loaded old mid a b k s) → Known y z (TakesPiece piece)

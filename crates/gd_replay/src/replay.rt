@@ -1,10 +1,11 @@
 //! The whole run.
-ghost use Rattle.std.specs.Prelude.{◌≡◌, ◌≤◌, ◌^◌, ℕ, List, length, Ok, Err, OnOk, IfSome};
+ghost use Rattle.std.specs.Prelude.{◌≡◌, ◌≤◌, ◌^◌, ℕ, List, Ok, Err, OnOk, IfSome};
 ghost use Rattle.std.specs.Option.{ForSome};
 ghost use Rattle.std.specs.Io.KnownBytes.{IsAtEnd};
 ghost use Rattle.gd_base.specs.Counts.{Rose, RoseBy};
 ghost use Rattle.gd_prim.specs.declared.Batch.{Batch};
 ghost use Rattle.gd_bytes.specs.File.{StandsFor, meaning};
+ghost use Rattle.gd_input.specs.Pieces.{TakesAtLeast};
 ghost use Rattle.gd_log.specs.Opening.{IsKept, Refuses};
 ghost use Rattle.gd_runs.specs.Core as core;
 ghost use Rattle.gd_runs.specs.Legal.{batches};
@@ -70,7 +71,7 @@ fn replay_lines<R: Wait, D: Disk, S: Source, K: Sink, C: Clock>(
         ⊥ }
     ensures at_end { OnOk result.0 (IsAtEnd (S.left source.new)) }
     ensures caused { EndsBy result.0 (Rose (S.faults source.old) (S.faults source.new)) (Rose (K.faults sink.old) (K.faults sink.new))
-        (Rose (D.faults running.side.log.disk) (D.faults result.1)) (IfSome (S.left source.old) (λ input. 2 ^ 40 ≤ length input)) }
+        (Rose (D.faults running.side.log.disk) (D.faults result.1)) (TakesAtLeast (2 ^ 40) (S.left source.old) (S.left source.new)) }
     ensures kept { Tells (D.content running.side.log.disk) → KeepsAs result.0 (HasBatches (D.content result.1) (D.images result.1) (batches running.side.history)) (λ _. ⊥) }
     ensures disk { D.faults running.side.log.disk ≤ D.faults result.1 }
     ensures later { K.faults sink.old ≤ K.faults sink.new }
@@ -136,7 +137,7 @@ pub fn replay<R: Wait, D: Disk, S: Source, K: Sink, C: Clock>(
 
     // Each stop has its cause.
     ensures caused { EndsBy result.0 (Rose (S.faults source.old) (S.faults source.new)) (Rose (K.faults sink.old) (K.faults sink.new))
-        (Rose (D.faults disk) (D.faults result.1)) (IfSome (S.left source.old) (λ input. 2 ^ 40 ≤ length input)) }
+        (Rose (D.faults disk) (D.faults result.1)) (TakesAtLeast (2 ^ 40) (S.left source.old) (S.left source.new)) }
     ensures disk { D.faults disk ≤ D.faults result.1 }
 
     // Of a file that is told is kept what it stood for, with further batches behind it; where the store was not opened, a read

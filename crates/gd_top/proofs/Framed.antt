@@ -5,6 +5,8 @@ use Rattle.gd_base.specs.Counts.{RoseBy}
 use Rattle.gd_prim.specs.declared.Batch.{Batch}
 use Rattle.gd_disk.specs.declared.shelf.ShelfFault.{ShelfFault}
 use Rattle.gd_disk.specs.declared.shelf.ShelfFault.TheVariants as shelf
+use Rattle.gd_journal.specs.declared.fault.JournalFault.{JournalFault}
+use Rattle.gd_journal.specs.declared.fault.JournalFault.TheVariants as journal
 use Rattle.gd_runs.specs.Legal.{History}
 use Rattle.gd_runs.specs.Explained.{Run}
 use Rattle.gd_words.specs.Verbs.{Verb, serves, replays}
@@ -14,56 +16,63 @@ use Rattle.gd_top.specs.declared.status.Status.TheVariants as status
 use Rattle.gd_top.specs.Held.{Loads, Leaves, BeginsWith, EndsWith}
 use Rattle.gd_top.specs.Replays.{LeavesAt}
 use Rattle.gd_top.specs.Serves.{PrintsLines}
-use Rattle.gd_top.specs.Stops.{status_of_shelf}
+use Rattle.gd_top.specs.Stops.{status_of_shelf, status_of_store}
 use Rattle.gd_top.specs.Verbs.{PrintsOver, PrintsAt}
 use Rattle.gd_top.proofs.Weaker.{prints_weaker, loads_same, leaves_same}
 use Rattle.gd_top.proofs.Replayed.{events_weaker, shelf_prints, empty_loads, rose_nowhere}
 
-module _ (s : Status) (may : ℕ → Bool) (idle : Type 0) (left old new : Option (List ℕ)) where
+module _ (s : Status) (may : ℕ → Bool) (idle idle' : Type 0) (still : idle → idle') (left now old new : Option (List ℕ)) where
   -- over a disk that told the same, of which a stop leaves less, and where a count rose that counts the same faults
   pub printed_weaker : (v : Verb) (told kept : Option (List ℕ)) (images fewer : List ℕ → Type 0) (rises further : ℕ → Type 0) → told ≡ kept → ((c : List ℕ) → fewer c → images c) → ((n : ℕ) → rises n → further n)
-      → PrintsOver v s may told images rises idle left old new → PrintsOver v s may kept fewer further idle left old new
+      → PrintsOver v s may told images rises idle left now old new → PrintsOver v s may kept fewer further idle' left now old new
   printed_weaker serves told kept images fewer rises further same to rose p =
       prints_weaker may (Loads told) (Loads kept) (Leaves may told images) (Leaves may kept fewer) rises further
-      (loads_same kept told same) (leaves_same may kept told images fewer same to) rose s idle idle left old new (λ i. i) p
+      (loads_same kept told same) (leaves_same may kept told images fewer same to) rose s idle idle' left now old new still p
   printed_weaker replays told kept images fewer rises further same to rose p = λ tells members.
       events_weaker members may (Loads told) (Loads kept) (LeavesEvents images) (LeavesEvents fewer) rises further
-      (loads_same kept told same) (λ t leaves file is. leaves file (to file is)) rose s idle idle left old new (λ i. i)
+      (loads_same kept told same) (λ t leaves file is. leaves file (to file is)) rose s idle idle' left old new still
       (p (subst (λ (t : Option (List ℕ)). IsTrue (is_some t)) (sym same) tells) members)
 
   -- the disk of a path
   pub printed_at : (v : Verb) (content : List ℕ → Option (List ℕ)) (images : List ℕ → List ℕ → Type 0) (path : List ℕ) (rises : ℕ → Type 0)
-      → PrintsOver v s may (content path) (images path) rises idle left old new → PrintsAt v s may content images (Some path) rises idle left old new
+      → PrintsOver v s may (content path) (images path) rises idle' left now old new → PrintsAt v s may content images (Some path) rises idle' left now old new
   printed_at serves content images path rises p = p
   printed_at replays content images path rises p = p
 
   -- a disk in memory, of which nothing is left
   pub printed_in_memory : (v : Verb) (content : List ℕ → Option (List ℕ)) (images : List ℕ → List ℕ → Type 0) (faults : ℕ)
-      → PrintsOver v s may (Some []) (λ c. ⊥) (RoseBy 0 0) idle left old new → PrintsAt v s may content images None (RoseBy faults faults) idle left old new
+      → PrintsOver v s may (Some []) (λ c. ⊥) (RoseBy 0 0) idle left now old new → PrintsAt v s may content images None (RoseBy faults faults) idle' left now old new
   printed_in_memory serves content images faults p =
       prints_weaker may (Loads (Some [])) (BeginsWith content None) (Leaves may (Some []) (λ c. ⊥)) (EndsWith may content images None) (RoseBy 0 0) (RoseBy faults faults)
-      (empty_loads (Some []) refl) (λ h runs stands. tt) (λ n. rose_nowhere n faults) s idle idle left old new (λ i. i) p
+      (empty_loads (Some []) refl) (λ h runs stands. tt) (λ n. rose_nowhere n faults) s idle idle' left now old new still p
   printed_in_memory replays content images faults p = λ tells members.
       events_weaker members may (Loads (Some [])) (BeginsWith content None) (LeavesEvents (λ c. ⊥)) (LeavesAt images None) (RoseBy 0 0) (RoseBy faults faults)
-      (empty_loads (Some []) refl) (λ t leaves. tt) (λ n. rose_nowhere n faults) s idle idle left old new (λ i. i) (p refl members)
+      (empty_loads (Some []) refl) (λ t leaves. tt) (λ n. rose_nowhere n faults) s idle idle' left old new still (p refl members)
 
 -- ---- a store that was not opened
 
-module _ (may : ℕ → Bool) (rises : ℕ → Type 0) (idle : Type 0) (left old new : Option (List ℕ)) where
-  shelf_lines : (begins : List Batch → Type 0) (leaves : History → List Run → Type 0) (f : ShelfFault) → idle → PrintsLines (status_of_shelf f) may begins leaves rises idle left old new
+module _ (may : ℕ → Bool) (rises : ℕ → Type 0) (idle : Type 0) (left now old new : Option (List ℕ)) where
+  shelf_lines : (begins : List Batch → Type 0) (leaves : History → List Run → Type 0) (f : ShelfFault) → idle → PrintsLines (status_of_shelf f) may begins leaves rises idle left now old new
   shelf_lines begins leaves shelf.Failed i = record { done = λ is. absurd (cc); rounds = λ is. absurd (⊎_elim (λ e. cc) (λ e. cc) is); front = λ is. absurd (cc); memory = λ is. absurd (cc); nothing = λ is. i }
   shelf_lines begins leaves shelf.Memory i = record { done = λ is. absurd (cc); rounds = λ is. absurd (⊎_elim (λ e. cc) (λ e. cc) is); front = λ is. absurd (cc); memory = λ is. inl i; nothing = λ is. absurd (cc) }
 
+  -- the file was opened and gave no store
+  pub refused_lines : (begins : List Batch → Type 0) (leaves : History → List Run → Type 0) (f : JournalFault) → idle → PrintsLines (status_of_store f) may begins leaves rises idle left now old new
+  refused_lines begins leaves journal.DiskFault i = record { done = λ is. absurd (cc); rounds = λ is. absurd (⊎_elim (λ e. cc) (λ e. cc) is); front = λ is. absurd (cc); memory = λ is. absurd (cc); nothing = λ is. i }
+  refused_lines begins leaves journal.NotStore i = record { done = λ is. absurd (cc); rounds = λ is. absurd (⊎_elim (λ e. cc) (λ e. cc) is); front = λ is. absurd (cc); memory = λ is. absurd (cc); nothing = λ is. i }
+  refused_lines begins leaves (journal.Damaged offset) i = record { done = λ is. absurd (cc); rounds = λ is. absurd (⊎_elim (λ e. cc) (λ e. cc) is); front = λ is. absurd (cc); memory = λ is. absurd (cc); nothing = λ is. i }
+  refused_lines begins leaves journal.Memory i = record { done = λ is. absurd (cc); rounds = λ is. absurd (⊎_elim (λ e. cc) (λ e. cc) is); front = λ is. absurd (cc); memory = λ is. inl i; nothing = λ is. absurd (cc) }
+
   -- the shelf did not open it
-  pub printed_refused : (v : Verb) (f : ShelfFault) (told : Option (List ℕ)) (images : List ℕ → Type 0) → idle → PrintsOver v (status_of_shelf f) may told images rises idle left old new
+  pub printed_refused : (v : Verb) (f : ShelfFault) (told : Option (List ℕ)) (images : List ℕ → Type 0) → idle → PrintsOver v (status_of_shelf f) may told images rises idle left now old new
   printed_refused serves f told images i = shelf_lines (Loads told) (Leaves may told images) f i
   printed_refused replays f told images i = λ tells members. shelf_prints members may (Loads told) (LeavesEvents images) rises idle left old new f i
 
   -- there was no memory for it
-  pub printed_nothing : (v : Verb) (told : Option (List ℕ)) (images : List ℕ → Type 0) → idle → PrintsOver v status.Memory may told images rises idle left old new
+  pub printed_nothing : (v : Verb) (told : Option (List ℕ)) (images : List ℕ → Type 0) → idle → PrintsOver v status.Memory may told images rises idle left now old new
   printed_nothing v told images i = printed_refused v shelf.Memory told images i
 
   -- nor for the words
-  pub printed_no_words : (v : Verb) (content : List ℕ → Option (List ℕ)) (images : List ℕ → List ℕ → Type 0) (path : Option (List ℕ)) → idle → PrintsAt v status.Memory may content images path rises idle left old new
+  pub printed_no_words : (v : Verb) (content : List ℕ → Option (List ℕ)) (images : List ℕ → List ℕ → Type 0) (path : Option (List ℕ)) → idle → PrintsAt v status.Memory may content images path rises idle left now old new
   printed_no_words serves content images path i = shelf_lines (BeginsWith content path) (EndsWith may content images path) shelf.Memory i
   printed_no_words replays content images path i = λ tells members. shelf_prints members may (BeginsWith content path) (LeavesAt images path) rises idle left old new shelf.Memory i

@@ -12,7 +12,7 @@ use Rattle.gd_log.specs.Opening.{IsReadSame, IsKept}
 use Rattle.gd_writer.specs.Parts.{Tells}
 use Rattle.gd_caller.specs.Served.{StandsForState}
 use Rattle.gd_top.proofs.Settled.{told_on, some_tells}
-use Rattle.gd_top.specs.Kept.{IsLeft, Keeps}
+use Rattle.gd_top.specs.Kept.{IsLeft, Keeps, StaysTold, StaysAt}
 
 some_told : (now : Option (List ℕ)) (file : List ℕ) → now ≡ Some file → IsSome now
 some_told now file is = subst (λ (o : Option (List ℕ)). IsSome o) (sym is) refl
@@ -101,3 +101,34 @@ keeps_shelved told now told_out now_out images_old images_new images_out images_
       not_store = λ means c is. opened.fewer c (kept.not_store means c (back.fewer c is));
       damaged = λ at means c is. opened.fewer c (kept.damaged at means c (back.fewer c is));
     }
+
+-- ---- a run that did not begin
+
+-- where nothing was changed
+pub stays_same : (told now : Option (List ℕ)) (images_old images_new : List ℕ → Type 0) → now ≡ told → ((c : List ℕ) → images_new c → images_old c) → StaysTold told now images_old images_new
+stays_same told now images_old images_new same fewer file told_is = record {
+  told = some_told now file (same ∙ told_is);
+  read = λ later is. inl (some_same (sym is ∙ (same ∙ told_is)));
+  images = λ c is. (c, fewer c is, inl refl);
+}
+
+-- where the store was not opened
+pub stays_refused : {D : Type 0} (content : D → Option (List ℕ)) (moment : D → ℕ) (images : D → List ℕ → Type 0) (images_since : D → ℕ → List ℕ → Type 0) (old new : D)
+    → ForSome (content old) (λ file. IsKept content moment images images_since file old new) → StaysTold (content old) (content new) (images old) (images new)
+stays_refused content moment images images_since old new keeps file is = let kept = keeps file is in record { told = kept.told; read = kept.read; images = kept.stops }
+
+-- a device that was taken from a shelf and put back
+pub stays_shelved : (told now told_out now_out : Option (List ℕ)) (images_old images_new images_out images_back : List ℕ → Type 0) → HoldsSame told told_out images_old images_out → HoldsSame now_out now images_back images_new
+    → StaysTold told_out now_out images_out images_back → StaysTold told now images_old images_new
+stays_shelved told now told_out now_out images_old images_new images_out images_back opened back stays file told_is =
+    let kept = stays file (opened.content ∙ told_is) in
+    record {
+      told = subst (λ (o : Option (List ℕ)). IsSome o) (sym back.content) kept.told;
+      read = λ later is. kept.read later (sym back.content ∙ is);
+      images = λ c is. let (d, was, same) = kept.images c (back.fewer c is) in (d, opened.fewer d was, same);
+    }
+
+-- a shelf that was not touched
+pub stays_untouched : (content : List ℕ → Option (List ℕ)) (images : List ℕ → List ℕ → Type 0) (path : Option (List ℕ)) → StaysAt content content images images path
+stays_untouched content images None = tt
+stays_untouched content images (Some path) = stays_same (content path) (content path) (images path) (images path) refl (λ c is. is)

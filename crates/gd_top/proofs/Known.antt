@@ -1,5 +1,5 @@
 -- The same where the input is known, and nothing where it is not.
-use Rattle.std.proofs.Common.{◌≡◌, ℕ, ◌+◌, ◌*◌, ◌<◌, ◌≤◌, Bool, true, List, [], length, Option, Some, None, IfSome, refl, sym, subst, ap, ◌∙◌, arith, length-append, Result, Ok, Err, IsErrAnd}
+use Rattle.std.proofs.Common.{◌≡◌, false, ℕ, ◌+◌, ◌*◌, ◌<◌, ◌≤◌, Bool, true, List, [], Option, Some, None, IfSome, refl, sym, subst, ap, ◌∙◌, arith, Result, Ok, Err, IsErrAnd}
 use Rattle.std.specs.Io.KnownBytes.{prepend_known}
 use Rattle.std.proofs.KnownBytes.{Consumes-nil}
 use Rattle.gd_base.specs.Counts.{RoseBy}
@@ -8,7 +8,8 @@ use Rattle.gd_input.specs.declared.line.RoundLine.{RoundLine}
 use Rattle.gd_input.specs.declared.round.Round.{Round}
 use Rattle.gd_input.specs.Held.{Held, IsBounded}
 use Rattle.gd_input.specs.Pieces.{Known, Advances}
-use Rattle.gd_input.specs.Rounds.{AreKept, TakesRound}
+use Rattle.gd_input.specs.Rounds.{AreKept, TakesRound, StopsInRound}
+use Rattle.gd_input.proofs.Taken.{left_known}
 use Rattle.gd_prim.specs.Builtin.{builtin}
 use Rattle.gd_prim.specs.WellFormed.{all_follow}
 use Rattle.gd_runs.specs.Core.{State, opened}
@@ -29,24 +30,25 @@ module _ (loaded : List Batch) (may now : ℕ → Bool) (same : now ≡ may) (ol
   moved taken lines is answers texts kept = subst (λ (m : ℕ → Bool). Answers m s k t n texts mid new b c) same (answers texts (subst (λ (ls : List RoundLine). AreKept ls texts) (sym is) kept))
 
   -- one round more
-  pub more_known : (x y z : Option (List ℕ)) (taken : Round) (lines : List RoundLine) → lines ≡ taken.lines.items → Known x y (ServedUpto loaded may old mid a b s k) → Known y z (TakesRound taken)
-      → ((texts : List (List ℕ)) → AreKept lines texts → Answers now s k t n texts mid new b c) → Known x z (ServedUpto loaded may old new a c t n)
-  more_known None y z taken lines is upto takes answers = tt
-  more_known (Some x) None z taken lines is upto takes answers = absurd upto
-  more_known (Some x) (Some y) None taken lines is upto takes answers = absurd takes
-  more_known (Some x) (Some y) (Some z) taken lines is upto takes answers = served_more loaded may old mid new a b c s k t n x y z taken upto takes (moved taken lines is answers)
+  pub more_known : (x y z : Option (List ℕ)) (taken : Round) (lines : List RoundLine) → lines ≡ taken.lines.items → Known x y (ServedUpto false loaded may old mid a b s k) → Known y z (TakesRound taken)
+      → ((texts : List (List ℕ)) → AreKept lines texts → Answers now s k t n texts mid new b c) → taken.ended ≡ false → Known x z (ServedUpto false loaded may old new a c t n)
+  more_known None y z taken lines is upto takes answers going = tt
+  more_known (Some x) None z taken lines is upto takes answers going = absurd upto
+  more_known (Some x) (Some y) None taken lines is upto takes answers going = absurd takes
+  more_known (Some x) (Some y) (Some z) taken lines is upto takes answers going = subst (λ (over : Bool). ServedUpto over loaded may old new a c t n x z) going
+      (served_more loaded may old mid new a b c s k t n x y z taken upto takes (moved taken lines is answers))
 
   -- the last one
-  pub done_known : (x y z : Option (List ℕ)) (taken : Round) (lines : List RoundLine) → lines ≡ taken.lines.items → Known x y (ServedUpto loaded may old mid a b s k) → Known y z (TakesRound taken)
+  pub done_known : (x y z : Option (List ℕ)) (taken : Round) (lines : List RoundLine) → lines ≡ taken.lines.items → Known x y (ServedUpto false loaded may old mid a b s k) → Known y z (TakesRound taken)
       → ((texts : List (List ℕ)) → AreKept lines texts → Answers now s k t n texts mid new b c) → taken.ended ≡ true → IfSome x (Serves may (λ l. l ≡ loaded) (HoldsAs may t) (RoseBy a c) old new)
   done_known None y z taken lines is upto takes answers ended = tt
   done_known (Some x) None z taken lines is upto takes answers ended = absurd upto
   done_known (Some x) (Some y) None taken lines is upto takes answers ended = absurd takes
   done_known (Some x) (Some y) (Some z) taken lines is upto takes answers ended =
-      served_all loaded may old new a c t n x z (served_more loaded may old mid new a b c s k t n x y z taken upto takes (moved taken lines is answers)) (takes.ended ended)
+      served_all taken.ended loaded may old new a c t n x z (served_more loaded may old mid new a b c s k t n x y z taken upto takes (moved taken lines is answers)) (takes.ended ended)
 
   -- a part of one
-  pub part_known : (x y z : Option (List ℕ)) (taken : Round) (lines : List RoundLine) → lines ≡ taken.lines.items → Known x y (ServedUpto loaded may old mid a b s k) → Known y z (TakesRound taken)
+  pub part_known : (x y z : Option (List ℕ)) (taken : Round) (lines : List RoundLine) → lines ≡ taken.lines.items → Known x y (ServedUpto false loaded may old mid a b s k) → Known y z (TakesRound taken)
       → ((texts : List (List ℕ)) → AreKept lines texts → AnswersFront now s k t texts mid new b c) → IfSome x (ServesFront may (λ l. l ≡ loaded) (HoldsAs may t) (RoseBy a c) old new)
   part_known None y z taken lines is upto takes fronts = tt
   part_known (Some x) None z taken lines is upto takes fronts = absurd upto
@@ -56,18 +58,24 @@ module _ (loaded : List Batch) (may now : ℕ → Bool) (same : now ≡ may) (ol
 
 module _ (loaded : List Batch) (may : ℕ → Bool) (old new : Option (List ℕ)) (a b : ℕ) (s : State) (k : ℕ) where
   -- whole rounds
-  pub rounds_known : (x y : Option (List ℕ)) → Known x y (ServedUpto loaded may old new a b s k) → IfSome x (ServesRounds may (λ l. l ≡ loaded) (HoldsAs may s) (RoseBy a b) old new)
-  rounds_known None y upto = tt
-  rounds_known (Some x) None upto = absurd upto
-  rounds_known (Some x) (Some y) upto = served_rounds loaded may old new a b s k x y upto
+  pub rounds_known : (x y z : Option (List ℕ)) → Known x y (ServedUpto false loaded may old new a b s k) → Known y z StopsInRound → IfSome x (ServesRounds may (λ l. l ≡ loaded) (HoldsAs may s) (RoseBy a b) old new z)
+  rounds_known None y z upto stops = tt
+  rounds_known (Some x) None z upto stops = absurd upto
+  rounds_known (Some x) (Some y) None upto stops = absurd stops
+  rounds_known (Some x) (Some y) (Some z) upto stops = served_rounds false loaded may old new a b s k x y upto z refl stops
 
-  pub front_known : (x y : Option (List ℕ)) → Known x y (ServedUpto loaded may old new a b s k) → IfSome x (ServesFront may (λ l. l ≡ loaded) (HoldsAs may s) (RoseBy a b) old new)
+  -- at a stop of the input all that was taken is used up
+  pub rounds_stopped : (x y z : Option (List ℕ)) (held : List ℕ) → Known x y (ServedUpto false loaded may old new a b s k) → (held ≡ []) × Known y (prepend_known held z) StopsInRound
+      → IfSome x (ServesRounds may (λ l. l ≡ loaded) (HoldsAs may s) (RoseBy a b) old new z)
+  rounds_stopped x y z held upto (none, stops) = rounds_known x y z upto (left_known y z held StopsInRound none stops)
+
+  pub front_known : (x y : Option (List ℕ)) → Known x y (ServedUpto false loaded may old new a b s k) → IfSome x (ServesFront may (λ l. l ≡ loaded) (HoldsAs may s) (RoseBy a b) old new)
   front_known None y upto = tt
   front_known (Some x) None upto = absurd upto
   front_known (Some x) (Some y) upto = front_of_rounds loaded may old new a b s k x y upto
 
 -- before the first round
-start_known : (loaded : List Batch) (may : ℕ → Bool) → all_follow builtin 0 loaded ≡ true → (held : Option (List ℕ)) (n : ℕ) (s : State) (k : ℕ) (x : Option (List ℕ)) → k ≡ 0 → s ≡ opened loaded → Known x (prepend_known [] x) (ServedUpto loaded may held held n n s k)
+start_known : (loaded : List Batch) (may : ℕ → Bool) → all_follow builtin 0 loaded ≡ true → (held : Option (List ℕ)) (n : ℕ) (s : State) (k : ℕ) (x : Option (List ℕ)) → k ≡ 0 → s ≡ opened loaded → Known x (prepend_known [] x) (ServedUpto false loaded may held held n n s k)
 start_known loaded may follow held n s k None none is = tt
 start_known loaded may follow held n s k (Some x) none is = served_none loaded may follow held n s k x none is
 
@@ -75,14 +83,6 @@ start_known loaded may follow held n s k (Some x) none is = served_none loaded m
 pub advances_none : (a : Option (List ℕ)) → Advances a (prepend_known [] a) 0 0
 advances_none None = record { bytes = []; consumed = Consumes-nil None; counted = refl }
 advances_none (Some x) = record { bytes = []; consumed = Consumes-nil (Some x); counted = refl }
-
--- what was taken is no more than there was
-pub taken_known : (a b : Option (List ℕ)) (n m : ℕ) → Advances a b 0 n → m ≤ n → IfSome a (λ input. m ≤ length input)
-taken_known None b n m advances below = tt
-taken_known (Some x) None n m advances below = absurd advances.consumed
-taken_known (Some x) (Some y) n m advances below =
-    let parts = ap length advances.consumed in
-    omega (arith, parts, length-append advances.bytes y, advances.counted, below)
 
 -- the count of lines stays small
 pub counted_on : (lines few now before after : ℕ) → lines ≤ 256 * before → few ≤ 256 → before < after → now ≡ lines + few → now ≤ 256 * after
@@ -94,9 +94,14 @@ too_much_is input.Failed why is same = cc
 too_much_is input.TooMuch why is same = refl
 too_much_is input.Memory why is same = cc
 
+failed_is : (fault : InputFault) (why : Stop) → why ≡ stop_of fault → why ≡ stop.ReadFault → fault ≡ input.Failed
+failed_is input.Failed why is same = refl
+failed_is input.TooMuch why is same = cc
+failed_is input.Memory why is same = cc
+
 -- the start of the loop
 pub record Begun (loaded : List Batch) (may : ℕ → Bool) (held : Option (List ℕ)) (n : ℕ) (s : State) (k : ℕ) (reader : Held) (a : Option (List ℕ)) : Type 0 where
-  pub upto : Known a (prepend_known reader.bytes a) (ServedUpto loaded may held held n n s k)
+  pub upto : Known a (prepend_known reader.bytes a) (ServedUpto false loaded may held held n n s k)
   pub advances : Advances a (prepend_known reader.bytes a) 0 reader.consumed
   pub counted : k ≤ 256 * reader.consumed
   pub bounded : IsBounded reader
@@ -113,3 +118,7 @@ begun may held n r reader a new start = subst (λ (h : Held). Begun r.side.histo
 pub input_too_much : {T U : Type 0} (r : Result T Stop) (fault : InputFault) (s : Result U InputFault) → s ≡ Err fault → r ≡ Err stop.TooMuch → IsErrAnd r (λ why. why ≡ stop_of fault) → s ≡ Err input.TooMuch
 input_too_much (Ok x) fault s was is gives = cc
 input_too_much (Err why) fault s was is gives = let same : why ≡ stop.TooMuch = cc in was ∙ ap Err (too_much_is fault why gives same)
+
+pub input_failed : {T U : Type 0} (r : Result T Stop) (fault : InputFault) (s : Result U InputFault) → s ≡ Err fault → r ≡ Err stop.ReadFault → IsErrAnd r (λ why. why ≡ stop_of fault) → s ≡ Err input.Failed
+input_failed (Ok x) fault s was is gives = cc
+input_failed (Err why) fault s was is gives = let same : why ≡ stop.ReadFault = cc in was ∙ ap Err (failed_is fault why gives same)

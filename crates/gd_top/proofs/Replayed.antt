@@ -23,9 +23,9 @@ use Rattle.gd_top.specs.declared.status.Status.TheVariants as status
 use Rattle.gd_top.specs.Stops.{status_of_store, status_of_shelf, status_of_events}
 use Rattle.gd_top.specs.Ends.{IsHindered, IsIdle, Causes}
 use Rattle.gd_top.specs.Held.{Loads, MayMean, DoesMean}
-use Rattle.gd_top.specs.Kept.{Keeps}
+use Rattle.gd_top.specs.Kept.{Keeps, StaysTold}
 use Rattle.gd_top.specs.Replays.{PrintsEvents}
-use Rattle.gd_top.proofs.Kept.{keeps_refused}
+use Rattle.gd_top.proofs.Kept.{keeps_refused, stays_refused}
 
 -- ---- a status that is not one of these
 
@@ -127,15 +127,6 @@ module _ (members : MembersOf) (may : ℕ → Bool) (begins : List Batch → Typ
 pub idle_is : {S K : Type 0} (source_old source_new : S) (sink_old sink_new : K) → (source_new ≡ source_old) × (sink_new ≡ sink_old) → IsIdle source_old source_new sink_old sink_new
 idle_is source_old source_new sink_old sink_new same = record { source = same.0; sink = same.1 }
 
-pub ends_idle : (end : Result (Unit {0}) Stop) (a b c idle idle' : Type 0) → (idle → idle') → EndsAs end a b c idle → EndsAs end a b c idle'
-ends_idle (Ok u) a b c idle idle' still ends = ends
-ends_idle (Err stop.ReadFault) a b c idle idle' still ends = ends
-ends_idle (Err stop.TooMuch) a b c idle idle' still ends = ends
-ends_idle (Err stop.SinkFault) a b c idle idle' still ends = ends
-ends_idle (Err stop.Memory) a b c idle idle' still ends = ends
-ends_idle (Err (stop.Lost f)) a b c idle idle' still ends = ends
-ends_idle (Err (stop.Unopened f)) a b c idle idle' still ends = still ends
-
 pub events_at_end : (end : Result (Unit {0}) Stop) (P : Type 0) → OnOk end P → status_of_events end ≡ status.Done → P
 events_at_end (Ok u) P at_end is = at_end
 events_at_end (Err stop.ReadFault) P at_end is = absurd (cc)
@@ -182,6 +173,20 @@ Keeping content moment images images_since old new end = ForSome (content old) (
     (λ fault. IsKept content moment images images_since file old new × Refuses fault (meaning file)))
 
 module _ {D : Type 0} (content : D → Option (List ℕ)) (moment : D → ℕ) (images : D → List ℕ → Type 0) (images_since : D → ℕ → List ℕ → Type 0) (old new : D) (end : Result (Unit {0}) Stop) (keeping : Keeping content moment images images_since old new end) where
+  -- where it was not begun the file is as it was
+  pub ends_unbegun : (a b c idle idle' : Type 0) → (idle → idle') → EndsAs end a b c idle → EndsAs end a b c (idle' × StaysTold (content old) (content new) (images old) (images new))
+  ends_unbegun = unbegun end keeping
+    where
+      unbegun : (e : Result (Unit {0}) Stop) → Keeping content moment images images_since old new e → (a b c idle idle' : Type 0) → (idle → idle') → EndsAs e a b c idle
+          → EndsAs e a b c (idle' × StaysTold (content old) (content new) (images old) (images new))
+      unbegun (Ok u) kept a b c idle idle' still ends = ends
+      unbegun (Err stop.ReadFault) kept a b c idle idle' still ends = ends
+      unbegun (Err stop.TooMuch) kept a b c idle idle' still ends = ends
+      unbegun (Err stop.SinkFault) kept a b c idle idle' still ends = ends
+      unbegun (Err stop.Memory) kept a b c idle idle' still ends = ends
+      unbegun (Err (stop.Lost f)) kept a b c idle idle' still ends = ends
+      unbegun (Err (stop.Unopened f)) kept a b c idle idle' still ends = (still ends, stays_refused content moment images images_since old new (λ file is. (kept file is).0))
+
   module _ (reads : (disk : D) (file : List ℕ) → content disk ≡ Some file → images disk file) where
     pub events_keep : Keeps (content old) (content new) (images old) (images new)
     events_keep file is = ⊎_elim

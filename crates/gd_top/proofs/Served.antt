@@ -1,5 +1,5 @@
 -- How what is printed for the lines of rounds becomes what is printed for an input.
-use Rattle.std.proofs.Common.{◌≡◌, ℕ, zero, suc, ◌+◌, Bool, true, List, [], ◌∷◌, ◌++◌, length, Option, refl, sym, subst, ap, ◌∙◌, arith, append-nil, append_assoc, zero-add, length-append}
+use Rattle.std.proofs.Common.{◌≡◌, ℕ, zero, suc, ◌+◌, Bool, true, false, List, [], ◌∷◌, ◌++◌, length, Option, Some, refl, sym, subst, ap, ◌∙◌, arith, append-nil, append_assoc, zero-add, length-append}
 use Rattle.std.proofs.lemmas.List.{length-map}
 use Rattle.std.proofs.KnownBytes.{Appends-trans, Appends-nil, Appends-kept}
 use Rattle.std.specs.Io.KnownBytes.{Appends, Keeps}
@@ -8,10 +8,10 @@ use Rattle.gd_prim.specs.declared.Batch.{Batch}
 use Rattle.gd_prim.specs.Builtin.{builtin}
 use Rattle.gd_prim.specs.WellFormed.{all_follow}
 use Rattle.gd_runs.specs.Core.{State, opened}
-use Rattle.gd_runs.specs.Explained.{Numbered, pieces, numbered, lines_of, memory_line, fault_count}
+use Rattle.gd_runs.specs.Explained.{Numbered, pieces, numbered, lines_of, lines_within, memory_line, fault_count}
 use Rattle.gd_input.specs.declared.line.RoundLine.{RoundLine}
 use Rattle.gd_input.specs.declared.round.Round.{Round}
-use Rattle.gd_input.specs.Rounds.{AreKept, in_round, TakesRound}
+use Rattle.gd_input.specs.Rounds.{AreKept, in_round, whole_rounds, TakesRound, StopsInRound}
 use Rattle.gd_round_lines.specs.Replies.{no_memory}
 use Rattle.gd_round_laws.specs.Rounds.{ServesRound, RoundsStand, IsAccounted, passed}
 use Rattle.gd_round_laws.proofs.Rounds.{rounds_begin, rounds_go_on, rounds_are_accounted, rest_is_passed, first_rounds_are_within}
@@ -67,12 +67,15 @@ counts_then replies more k many = fault_count-append 0 replies more ∙ ap (λ (
 -- ---- whole rounds
 
 -- before the first round
-pub served_none : (loaded : List Batch) (may : ℕ → Bool) → all_follow builtin 0 loaded ≡ true → (held : Option (List ℕ)) (n : ℕ) (s : State) (k : ℕ) (input : List ℕ) → k ≡ 0 → s ≡ opened loaded → ServedUpto loaded may held held n n s k input input
+pub served_none : (loaded : List Batch) (may : ℕ → Bool) → all_follow builtin 0 loaded ≡ true → (held : Option (List ℕ)) (n : ℕ) (s : State) (k : ℕ) (input : List ℕ) → k ≡ 0 → s ≡ opened loaded → ServedUpto false loaded may held held n n s k input input
 served_none loaded may follow held n s k input none is = record {
   round = 0;
   given = [];
   replies = [];
   lines = refl;
+  taken = [];
+  parts = refl;
+  whole = λ going more. omega arith;
   stand = subst (λ (t : State). RoundsStand loaded may t 0 [] []) (sym is) (rounds_begin loaded may follow);
   many = none;
   each = refl;
@@ -90,9 +93,14 @@ stand_then loaded may given round texts replies more s t k place before here =
 length-in_round : (round : ℕ) (texts : List (List ℕ)) → length (in_round round texts) ≡ length texts
 length-in_round round texts = length-map texts (λ (text : List ℕ). record { bytes = text; round = round })
 
+-- the whole rounds of what was taken, with one more
+whole_then : (xs ys more : List ℕ) (round : ℕ) → ((zs : List ℕ) → whole_rounds (xs ++ zs) ≡ round + whole_rounds zs) → ((zs : List ℕ) → whole_rounds (ys ++ zs) ≡ 1 + whole_rounds zs) → whole_rounds ((xs ++ ys) ++ more) ≡ (round + 1) + whole_rounds more
+whole_then xs ys more round first later =
+    ap whole_rounds (append_assoc xs ys more) ∙ (first (ys ++ more) ∙ (ap (λ (n : ℕ). round + n) (later more) ∙ omega arith))
+
 -- one round more
-pub served_more : (loaded : List Batch) (may : ℕ → Bool) (old mid new : Option (List ℕ)) (a b c : ℕ) (s : State) (k : ℕ) (t : State) (n : ℕ) (input left after : List ℕ) (taken : Round) → ServedUpto loaded may old mid a b s k input left → TakesRound taken left after
-    → ((texts : List (List ℕ)) → AreKept taken.lines.items texts → Answers may s k t n texts mid new b c) → ServedUpto loaded may old new a c t n input after
+pub served_more : (loaded : List Batch) (may : ℕ → Bool) (old mid new : Option (List ℕ)) (a b c : ℕ) (s : State) (k : ℕ) (t : State) (n : ℕ) (input left after : List ℕ) (taken : Round) → ServedUpto false loaded may old mid a b s k input left → TakesRound taken left after
+    → ((texts : List (List ℕ)) → AreKept taken.lines.items texts → Answers may s k t n texts mid new b c) → ServedUpto taken.ended loaded may old new a c t n input after
 served_more loaded may old mid new a b c s k t n input left after taken upto takes answers =
     let here = answers takes.lines takes.kept in
     record {
@@ -100,6 +108,9 @@ served_more loaded may old mid new a b c s k t n input left after taken upto tak
       given = upto.given ++ in_round upto.round takes.lines;
       replies = upto.replies ++ here.replies;
       lines = upto.lines ∙ (ap (λ (ls : List Numbered). upto.given ++ ls) (takes.rounds upto.round) ∙ sym (append_assoc upto.given (in_round upto.round takes.lines) (numbered (upto.round + 1) 0 (pieces [] after))));
+      taken = upto.taken ++ takes.bytes;
+      parts = upto.parts ∙ (ap (λ (l : List ℕ). upto.taken ++ l) takes.parts ∙ sym (append_assoc upto.taken takes.bytes after));
+      whole = λ going more. whole_then upto.taken takes.bytes more upto.round (upto.whole refl) (takes.whole going);
       stand = stand_then loaded may upto.given upto.round takes.lines upto.replies here.replies s t k (omega (arith, upto.many, upto.each)) upto.stand here.answered.goes;
       many = omega (arith, upto.many, here.next, length-append upto.replies here.replies);
       each = omega (arith, upto.each, here.answered.many, length-append upto.replies here.replies, length-append upto.given (in_round upto.round takes.lines), length-in_round upto.round takes.lines);
@@ -122,19 +133,24 @@ accounts loaded may a b s lines output replies all prints each rose = record {
   counted = subst (RoseBy a b) (sym (told_is loaded may lines output s.history all.runs replies all.explained prints (sym each))) rose;
 }
 
-module _ (loaded : List Batch) (may : ℕ → Bool) (old new : Option (List ℕ)) (a b : ℕ) (s : State) (k : ℕ) (input left : List ℕ) (upto : ServedUpto loaded may old new a b s k input left) where
+module _ (over : Bool) (loaded : List Batch) (may : ℕ → Bool) (old new : Option (List ℕ)) (a b : ℕ) (s : State) (k : ℕ) (input left : List ℕ) (upto : ServedUpto over loaded may old new a b s k input left) where
   -- the rounds that were answered
   so_far : Accounts may (λ l. l ≡ loaded) (HoldsAs may s) (RoseBy a b) upto.given (printed upto.replies)
   so_far = accounts loaded may a b s upto.given (printed upto.replies) upto.replies (rounds_are_accounted loaded may s upto.round upto.given (printed upto.replies) upto.stand) refl upto.each upto.rose
 
-  pub served_rounds : ServesRounds may (λ l. l ≡ loaded) (HoldsAs may s) (RoseBy a b) old new input
-  served_rounds = record {
-    rounds = upto.round;
-    output = printed upto.replies;
-    accounts = subst (λ (lines : List Numbered). Accounts may (λ l. l ≡ loaded) (HoldsAs may s) (RoseBy a b) lines (printed upto.replies))
-        (sym (first_rounds_are_within loaded may s upto.round upto.given (printed upto.replies) input left upto.stand upto.lines)) so_far;
-    gained = upto.gained;
-  }
+  -- where the input is not over, these are all that lie wholly in what was taken
+  pub served_rounds : (after : List ℕ) → over ≡ false → StopsInRound left after → ServesRounds may (λ l. l ≡ loaded) (HoldsAs may s) (RoseBy a b) old new (Some after) input
+  served_rounds after going stops =
+      let many : whole_rounds (upto.taken ++ stops.bytes) ≡ upto.round = upto.whole going stops.bytes ∙ (ap (λ (n : ℕ). upto.round + n) stops.none ∙ omega arith) in
+      record {
+        taken = upto.taken ++ stops.bytes;
+        parts = upto.parts ∙ (ap (λ (l : List ℕ). upto.taken ++ l) stops.parts ∙ sym (append_assoc upto.taken stops.bytes after));
+        output = printed upto.replies;
+        accounts = subst (λ (n : ℕ). Accounts may (λ l. l ≡ loaded) (HoldsAs may s) (RoseBy a b) (lines_within n input) (printed upto.replies)) (sym many)
+            (subst (λ (lines : List Numbered). Accounts may (λ l. l ≡ loaded) (HoldsAs may s) (RoseBy a b) lines (printed upto.replies))
+            (sym (first_rounds_are_within loaded may s upto.round upto.given (printed upto.replies) input left upto.stand upto.lines)) so_far);
+        gained = upto.gained;
+      }
 
   -- at the end of the input
   pub served_all : left ≡ [] → Serves may (λ l. l ≡ loaded) (HoldsAs may s) (RoseBy a b) old new input
@@ -181,14 +197,14 @@ front_at loaded may old new a b input round given more output rest replies s lin
     }
 
 -- whole rounds and nothing of the next one
-pub front_of_rounds : (loaded : List Batch) (may : ℕ → Bool) (old new : Option (List ℕ)) (a b : ℕ) (s : State) (k : ℕ) (input left : List ℕ) → ServedUpto loaded may old new a b s k input left
+pub front_of_rounds : (loaded : List Batch) (may : ℕ → Bool) (old new : Option (List ℕ)) (a b : ℕ) (s : State) (k : ℕ) (input left : List ℕ) → ServedUpto false loaded may old new a b s k input left
     → ServesFront may (λ l. l ≡ loaded) (HoldsAs may s) (RoseBy a b) old new input
 front_of_rounds loaded may old new a b s k input left upto =
     front_at loaded may old new a b input upto.round upto.given (numbered upto.round 0 (pieces [] left)) (printed upto.replies) [] upto.replies s upto.lines upto.stand (append-nil (printed upto.replies)) upto.each upto.rose upto.gained
 
 -- whole rounds and a part of the next one
 pub front_in_round : (loaded : List Batch) (may : ℕ → Bool) (old mid new : Option (List ℕ)) (a b c : ℕ) (s : State) (k : ℕ) (t : State) (input left after : List ℕ) (taken : Round)
-    → ServedUpto loaded may old mid a b s k input left → TakesRound taken left after
+    → ServedUpto false loaded may old mid a b s k input left → TakesRound taken left after
     → ((texts : List (List ℕ)) → AreKept taken.lines.items texts → AnswersFront may s k t texts mid new b c) → ServesFront may (λ l. l ≡ loaded) (HoldsAs may t) (RoseBy a c) old new input
 front_in_round loaded may old mid new a b c s k t input left after taken upto takes fronts =
     let here = fronts takes.lines takes.kept in

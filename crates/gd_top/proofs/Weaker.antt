@@ -33,14 +33,14 @@ module _ (may : ℕ → Bool) (begins begins' : List Batch → Type 0) (leaves l
   serves_front old new None s = tt
   serves_front old new (Some input) s = record { output = s.output; rest = s.rest; accounts = accounts _ _ s.accounts; gained = s.gained }
 
-  serves_rounds : (old new known : Option (List ℕ)) → IfSome known (ServesRounds may begins leaves rises old new) → IfSome known (ServesRounds may begins' leaves' rises' old new)
-  serves_rounds old new None s = tt
-  serves_rounds old new (Some input) s = record { rounds = s.rounds; output = s.output; accounts = accounts _ s.output s.accounts; gained = s.gained }
+  serves_rounds : (old new now known : Option (List ℕ)) → IfSome known (ServesRounds may begins leaves rises old new now) → IfSome known (ServesRounds may begins' leaves' rises' old new now)
+  serves_rounds old new now None s = tt
+  serves_rounds old new now (Some input) s = record { taken = s.taken; parts = s.parts; output = s.output; accounts = accounts _ s.output s.accounts; gained = s.gained }
 
-  pub prints_weaker : (s : Status) (idle idle' : Type 0) (known old new : Option (List ℕ)) → (idle → idle') → PrintsLines s may begins leaves rises idle known old new → PrintsLines s may begins' leaves' rises' idle' known old new
-  prints_weaker s idle idle' known old new still p = record {
+  pub prints_weaker : (s : Status) (idle idle' : Type 0) (known now old new : Option (List ℕ)) → (idle → idle') → PrintsLines s may begins leaves rises idle known now old new → PrintsLines s may begins' leaves' rises' idle' known now old new
+  prints_weaker s idle idle' known now old new still p = record {
     done = λ is. serves old new known (p.done is);
-    rounds = λ is. serves_rounds old new known (p.rounds is);
+    rounds = λ is. serves_rounds old new now known (p.rounds is);
     front = λ is. serves_front old new known (p.front is);
     memory = λ is. ⊎_elim (λ i. inl (still i)) (λ f. inr (serves_front old new known f)) (p.memory is);
     nothing = λ is. still (p.nothing is);

@@ -1,11 +1,11 @@
 -- What was printed for lines so far, on the way to the end of an input.
-use Rattle.std.specs.Prelude.{◌≡◌, ℕ, ◌+◌, List, [], ◌++◌, length, Bool, Option}
+use Rattle.std.specs.Prelude.{◌≡◌, ℕ, ◌+◌, List, [], ◌++◌, length, Bool, false, Option}
 use Rattle.std.specs.Io.KnownBytes.{Appends}
 use Rattle.gd_base.specs.Counts.{RoseBy}
 use Rattle.gd_prim.specs.declared.Batch.{Batch}
 use Rattle.gd_runs.specs.Explained.{Numbered, pieces, numbered, lines_of, fault_count}
 use Rattle.gd_runs.specs.Core.{State}
-use Rattle.gd_input.specs.Rounds.{in_round}
+use Rattle.gd_input.specs.Rounds.{in_round, whole_rounds}
 use Rattle.gd_outside.specs.Gains.{GainsFront}
 use Rattle.gd_round_laws.specs.Rounds.{ServesRound, RoundsStand}
 use Rattle.gd_caller.specs.Served.{printed}
@@ -29,12 +29,15 @@ pub record AnswersFront (may : ℕ → Bool) (s : State) (k : ℕ) (t : State) (
   pub answered : Answered may s k t texts replies before after
   pub front : GainsFront old new (printed replies)
 
--- Before what is left of the input stand whole rounds: their lines were served, the next of which is line k, the sink gained what was printed for them, and the faults that it tells were counted.
-pub record ServedUpto (loaded : List Batch) (may : ℕ → Bool) (old new : Option (List ℕ)) (before after : ℕ) (s : State) (k : ℕ) (input left : List ℕ) : Type 0 where
+-- Before what is left of the input stand whole rounds: their lines were served, the next of which is line k, the sink gained what was printed for them, and the faults that it tells were counted. Where the input is not over, these are the rounds that lie wholly in what was taken, whatever follows.
+pub record ServedUpto (over : Bool) (loaded : List Batch) (may : ℕ → Bool) (old new : Option (List ℕ)) (before after : ℕ) (s : State) (k : ℕ) (input left : List ℕ) : Type 0 where
   pub round : ℕ
   pub given : List Numbered
   pub replies : List (List ℕ)
   pub lines : lines_of input ≡ given ++ numbered round 0 (pieces [] left)
+  pub taken : List ℕ
+  pub parts : input ≡ taken ++ left
+  pub whole : over ≡ false → (more : List ℕ) → whole_rounds (taken ++ more) ≡ round + whole_rounds more
   pub stand : RoundsStand loaded may s round given (printed replies)
   pub many : k ≡ length replies
   pub each : length replies ≡ length given

@@ -3,10 +3,11 @@ ghost use Rattle.std.specs.Prelude.{◌≡◌, ◌≢◌, ◌≤◌, ◌^◌, �
 ghost use Rattle.std.specs.Io.KnownBytes.{IsAtEnd};
 ghost use Rattle.gd_base.specs.Counts.{Rose, RoseBy};
 ghost use Rattle.gd_bytes.specs.Disk.{HoldsSame};
+ghost use Rattle.gd_input.specs.Pieces.{TakesAtLeast};
 ghost use Rattle.gd_words.specs.Verbs.{verb_in, file_of};
 ghost use Rattle.gd_top.specs.Ends.{IsIdle, Causes};
 ghost use Rattle.gd_top.specs.Held.{MayMean, MayMeanAt, DoesMean, told_at};
-ghost use Rattle.gd_top.specs.Kept.{Keeps};
+ghost use Rattle.gd_top.specs.Kept.{Keeps, StaysAt, StaysTold};
 ghost use Rattle.gd_top.specs.Verbs.{PrintsOver, PrintsAt};
 
 use crate::pace::Pace;
@@ -46,13 +47,14 @@ fn run_over<
 ) -> (Status, D)
     ensures prints { PrintsOver (verb_in command.now) result.0 (C.may clock)
         (D.content disk) (D.images result.1) (RoseBy (D.faults disk) (D.faults result.1))
-        (IsIdle source.old source.new sink.old sink.new)
-        (S.left source.old) (K.held sink.old) (K.held sink.new) }
+        (IsIdle source.old source.new sink.old sink.new
+        × StaysTold (D.content disk) (D.content result.1) (D.images disk) (D.images result.1))
+        (S.left source.old) (S.left source.new) (K.held sink.old) (K.held sink.new) }
     ensures at_end { result.0 ≡ Status.Done → IsAtEnd (S.left source.new) }
     ensures causes { Causes result.0 (Rose (S.faults source.old) (S.faults source.new))
         (Rose (K.faults sink.old) (K.faults sink.new))
         (Rose (D.faults disk) (D.faults result.1))
-        (IfSome (S.left source.old) (λ input. 2 ^ 40 ≤ length input))
+        (TakesAtLeast (2 ^ 40) (S.left source.old) (S.left source.new))
         (MayMean (D.content disk)) (DoesMean (D.content disk)) }
     ensures used { result.0 ≢ Status.Usage }
     ensures kept { Keeps (D.content disk) (D.content result.1)
@@ -92,13 +94,14 @@ fn run_in_file<
     ensures prints { PrintsAt (verb_in command.now) result (C.may clock)
         (F.content shelf.old) (F.images shelf.new) (Some path.now)
         (RoseBy (F.faults shelf.old) (F.faults shelf.new))
-        (IsIdle source.old source.new sink.old sink.new)
-        (S.left source.old) (K.held sink.old) (K.held sink.new) }
+        (IsIdle source.old source.new sink.old sink.new
+        × StaysAt (F.content shelf.old) (F.content shelf.new) (F.images shelf.old) (F.images shelf.new) (Some path.now))
+        (S.left source.old) (S.left source.new) (K.held sink.old) (K.held sink.new) }
     ensures at_end { result ≡ Status.Done → IsAtEnd (S.left source.new) }
     ensures causes { Causes result (Rose (S.faults source.old) (S.faults source.new))
         (Rose (K.faults sink.old) (K.faults sink.new))
         (Rose (F.faults shelf.old) (F.faults shelf.new))
-        (IfSome (S.left source.old) (λ input. 2 ^ 40 ≤ length input))
+        (TakesAtLeast (2 ^ 40) (S.left source.old) (S.left source.new))
         (MayMean (F.content shelf.old path.now)) (DoesMean (F.content shelf.old path.now)) }
     ensures used { result ≢ Status.Usage }
     ensures kept { Keeps (F.content shelf.old path.now) (F.content shelf.new path.now)
@@ -131,11 +134,11 @@ fn run_in_memory<R: Threads + Wait + Sync, S: Source, K: Sink, C: Clock + Send +
     ensures prints { PrintsOver (verb_in command.now) result (C.may clock)
         (Some []) (λ _. ⊥) (RoseBy 0 0)
         (IsIdle source.old source.new sink.old sink.new)
-        (S.left source.old) (K.held sink.old) (K.held sink.new) }
+        (S.left source.old) (S.left source.new) (K.held sink.old) (K.held sink.new) }
     ensures at_end { result ≡ Status.Done → IsAtEnd (S.left source.new) }
     ensures causes { Causes result (Rose (S.faults source.old) (S.faults source.new))
         (Rose (K.faults sink.old) (K.faults sink.new)) ⊥
-        (IfSome (S.left source.old) (λ input. 2 ^ 40 ≤ length input)) (λ _. ⊥) (λ _. ⊥) }
+        (TakesAtLeast (2 ^ 40) (S.left source.old) (S.left source.new)) (λ _. ⊥) (λ _. ⊥) }
     ensures used { result ≢ Status.Usage }
 {
     match SteadyDisk::new(alloc) {
@@ -166,15 +169,16 @@ pub fn run<R: Threads + Wait + Sync, S: Source, K: Sink, F: Shelf, C: Clock + Se
     ensures prints { PrintsAt (verb_in command.now) result (C.may clock)
         (F.content shelf.old) (F.images shelf.new) (file_of command.now)
         (RoseBy (F.faults shelf.old) (F.faults shelf.new))
-        (IsIdle source.old source.new sink.old sink.new)
-        (S.left source.old) (K.held sink.old) (K.held sink.new) }
+        (IsIdle source.old source.new sink.old sink.new
+        × StaysAt (F.content shelf.old) (F.content shelf.new) (F.images shelf.old) (F.images shelf.new) (file_of command.now))
+        (S.left source.old) (S.left source.new) (K.held sink.old) (K.held sink.new) }
     ensures at_end { result ≡ Status.Done → IsAtEnd (S.left source.new) }
 
     // Each status has its cause, and what is said of the file is so.
     ensures causes { Causes result (Rose (S.faults source.old) (S.faults source.new))
         (Rose (K.faults sink.old) (K.faults sink.new))
         (Rose (F.faults shelf.old) (F.faults shelf.new))
-        (IfSome (S.left source.old) (λ input. 2 ^ 40 ≤ length input))
+        (TakesAtLeast (2 ^ 40) (S.left source.old) (S.left source.new))
         (MayMeanAt (F.content shelf.old) (file_of command.now))
         (DoesMean (told_at (F.content shelf.old) (file_of command.now))) }
     ensures used { result ≢ Status.Usage }

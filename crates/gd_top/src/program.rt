@@ -4,13 +4,14 @@ ghost use Rattle.std.specs.Io.KnownBytes.{IsAtEnd};
 ghost use Rattle.gd_base.specs.Counts.{Rose, RoseBy};
 ghost use Rattle.gd_bytes.specs.Disk.{HoldsSame};
 ghost use Rattle.gd_bytes.specs.File.{not_store, damaged};
+ghost use Rattle.gd_input.specs.Pieces.{TakesAtLeast};
 ghost use Rattle.gd_runs.specs.Owed.{MembersOf};
 ghost use Rattle.gd_words.specs.Verbs as verb;
 ghost use Rattle.gd_words.specs.Verbs.{verb_of, path_of};
 ghost use Rattle.gd_words.specs.Words.{command_of};
 ghost use Rattle.gd_top.specs.Ends.{IsHindered, IsIdle};
 ghost use Rattle.gd_top.specs.Held.{BeginsWith, EndsWith, MayMeanAt, DoesMean, IsSoundAt, told_at};
-ghost use Rattle.gd_top.specs.Kept.{Keeps};
+ghost use Rattle.gd_top.specs.Kept.{Keeps, StaysAt};
 ghost use Rattle.gd_top.specs.Replays.{IsToldAt, LeavesAt, PrintsEvents};
 ghost use Rattle.gd_top.specs.Serves.{PrintsLines};
 
@@ -64,14 +65,17 @@ pub fn graphd<
     // Words that serve. Where the input was read to its end, one legal history explains the whole output for it (`done`).
     // It begins with what the file stood for; the file is left so that it stands for this history, with or without the
     // write that is in doubt; and the shelf counted at least as many faults as lines tell. Where the input could not be
-    // read further, the lines of whole rounds were answered so, and no other (`rounds`). At any stop what was printed is a
-    // front of an output that is explained so (`front`); without memory the run may also not have begun (`memory`). Where
-    // the run did not begin, nothing was read and nothing printed (`nothing`).
+    // read further, the lines of all rounds that lie wholly in what was taken of it were answered so, and no other
+    // (`rounds`). At any stop what was printed is a front of an output that is explained so (`front`); without memory the
+    // run may also not have begun (`memory`). Where the run did not begin, nothing was read and nothing printed, and the
+    // file stands for the same batches as before (`nothing`).
     ensures serves { verb_of words.now ≡ Some verb.serves → PrintsLines result (C.may clock)
         (BeginsWith (F.content shelf.old) (path_of words.now))
         (EndsWith (C.may clock) (F.content shelf.old) (F.images shelf.new) (path_of words.now))
-        (RoseBy (F.faults shelf.old) (F.faults shelf.new)) (IsIdle source.old source.new sink.old sink.new)
-        (S.left source.old) (K.held sink.old) (K.held sink.new) }
+        (RoseBy (F.faults shelf.old) (F.faults shelf.new))
+        (IsIdle source.old source.new sink.old sink.new
+        × StaysAt (F.content shelf.old) (F.content shelf.new) (F.images shelf.old) (F.images shelf.new) (path_of words.now))
+        (S.left source.old) (S.left source.new) (K.held sink.old) (K.held sink.new) }
 
     // Words that replay. Over a file that the shelf tells or without one, what was printed is what the definitions' core
     // replies to the lines, from the batches on for which the file stood, and the file is left so that it stands for the
@@ -80,7 +84,9 @@ pub fn graphd<
     ensures events { verb_of words.now ≡ Some verb.replays → IsToldAt (F.content shelf.old) (path_of words.now)
         → (members : MembersOf) → PrintsEvents result members (C.may clock)
         (BeginsWith (F.content shelf.old) (path_of words.now)) (LeavesAt (F.images shelf.new) (path_of words.now))
-        (RoseBy (F.faults shelf.old) (F.faults shelf.new)) (IsIdle source.old source.new sink.old sink.new)
+        (RoseBy (F.faults shelf.old) (F.faults shelf.new))
+        (IsIdle source.old source.new sink.old sink.new
+        × StaysAt (F.content shelf.old) (F.content shelf.new) (F.images shelf.old) (F.images shelf.new) (path_of words.now))
         (S.left source.old) (K.held sink.old) (K.held sink.new) }
 
     // What follows here holds with every verb. A run that is done has read its input to the end.
@@ -90,7 +96,7 @@ pub fn graphd<
     ensures read_fault { result ≡ Status.ReadFault → Rose (S.faults source.old) (S.faults source.new) }
     ensures sink_fault { result ≡ Status.SinkFault → Rose (K.faults sink.old) (K.faults sink.new) }
     ensures disk_fault { result ≡ Status.DiskFault → Rose (F.faults shelf.old) (F.faults shelf.new) }
-    ensures too_much { result ≡ Status.TooMuch → IfSome (S.left source.old) (λ input. 2 ^ 40 ≤ length input) }
+    ensures too_much { result ≡ Status.TooMuch → TakesAtLeast (2 ^ 40) (S.left source.old) (S.left source.new) }
 
     // What is said of the file is so, and is said where it is so, but for a failure of the disk or want of memory.
     ensures not_store { result ≡ Status.NotStore → MayMeanAt (F.content shelf.old) (path_of words.now) not_store }

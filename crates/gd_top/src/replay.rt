@@ -3,11 +3,12 @@ ghost use Rattle.std.specs.Prelude.{◌≡◌, ◌≢◌, ◌≤◌, ◌^◌, le
 ghost use Rattle.std.specs.Io.KnownBytes.{IsAtEnd};
 ghost use Rattle.gd_base.specs.Counts.{Rose, RoseBy};
 ghost use Rattle.gd_runs.specs.Owed.{MembersOf};
+ghost use Rattle.gd_input.specs.Pieces.{TakesAtLeast};
 ghost use Rattle.gd_writer.specs.Parts.{Tells};
 ghost use Rattle.gd_replay.specs.Stops.{Leaves};
 ghost use Rattle.gd_top.specs.Ends.{IsIdle, Causes};
 ghost use Rattle.gd_top.specs.Held.{Loads, MayMean, DoesMean};
-ghost use Rattle.gd_top.specs.Kept.{Keeps};
+ghost use Rattle.gd_top.specs.Kept.{Keeps, StaysTold};
 ghost use Rattle.gd_top.specs.Replays.{PrintsEvents};
 ghost use Rattle.gd_top.specs.Stops.{status_of_events};
 
@@ -46,11 +47,12 @@ pub(crate) fn replay_over<R: Wait, D: Disk, S: Source, K: Sink, C: Clock + Drop>
     clock: C,
 ) -> (Status, D)
     ensures prints { Tells (D.content disk) → (members : MembersOf) → PrintsEvents result.0 members (C.may clock) (Loads (D.content disk)) (Leaves (D.images result.1)) (RoseBy (D.faults disk) (D.faults result.1))
-        (IsIdle source.old source.new sink.old sink.new) (S.left source.old) (K.held sink.old) (K.held sink.new) }
+        (IsIdle source.old source.new sink.old sink.new × StaysTold (D.content disk) (D.content result.1) (D.images disk) (D.images result.1))
+        (S.left source.old) (K.held sink.old) (K.held sink.new) }
     ensures at_end { result.0 ≡ Status.Done → IsAtEnd (S.left source.new) }
     ensures causes { Causes result.0 (Rose (S.faults source.old) (S.faults source.new))
         (Rose (K.faults sink.old) (K.faults sink.new)) (Rose (D.faults disk) (D.faults result.1))
-        (IfSome (S.left source.old) (λ input. 2 ^ 40 ≤ length input)) (MayMean (D.content disk)) (DoesMean (D.content disk)) }
+        (TakesAtLeast (2 ^ 40) (S.left source.old) (S.left source.new)) (MayMean (D.content disk)) (DoesMean (D.content disk)) }
     ensures used { result.0 ≢ Status.Usage }
     ensures kept { Keeps (D.content disk) (D.content result.1) (D.images disk) (D.images result.1) }
 {

@@ -5,6 +5,7 @@ ghost use Rattle.std.specs.Option.{is_some};
 ghost use Rattle.std.specs.Io.KnownBytes.{IsAtEnd};
 ghost use Rattle.gd_base.specs.Counts.{Rose, RoseBy};
 ghost use Rattle.gd_input.specs.Line.{IsShort};
+ghost use Rattle.gd_input.specs.Pieces.{TakesAtLeast};
 ghost use Rattle.gd_threads.specs.Served.{state_at};
 ghost use Rattle.gd_top.specs.Lines.{AnswersLines};
 ghost use Rattle.gd_top.specs.Opened.{HoldsAs, IsAtStart};
@@ -74,10 +75,10 @@ pub fn serve_rounds<
     ensures at_end { OnOk result (IsAtEnd (S.left source.new)) }
     ensures rounds { result ≡ Err Stop.ReadFault → IfSome (S.left source.old) (ServesRounds (C.may rounds.old.side.clock)
         (λ loaded. loaded ≡ rounds.old.side.history.loaded) (HoldsAs (C.may rounds.old.side.clock) (state_at rounds.new.side))
-        (RoseBy (D.faults rounds.old.side.log.disk) (D.faults rounds.new.side.log.disk)) (K.held sink.old) (K.held sink.new)) }
+        (RoseBy (D.faults rounds.old.side.log.disk) (D.faults rounds.new.side.log.disk)) (K.held sink.old) (K.held sink.new) (S.left source.new)) }
     ensures rounds_taken { result ≡ Err Stop.TooMuch → IfSome (S.left source.old) (ServesRounds (C.may rounds.old.side.clock)
         (λ loaded. loaded ≡ rounds.old.side.history.loaded) (HoldsAs (C.may rounds.old.side.clock) (state_at rounds.new.side))
-        (RoseBy (D.faults rounds.old.side.log.disk) (D.faults rounds.new.side.log.disk)) (K.held sink.old) (K.held sink.new)) }
+        (RoseBy (D.faults rounds.old.side.log.disk) (D.faults rounds.new.side.log.disk)) (K.held sink.old) (K.held sink.new) (S.left source.new)) }
     ensures front { OnErr result (IfSome (S.left source.old) (ServesFront (C.may rounds.old.side.clock)
         (λ loaded. loaded ≡ rounds.old.side.history.loaded) (HoldsAs (C.may rounds.old.side.clock) (state_at rounds.new.side))
         (RoseBy (D.faults rounds.old.side.log.disk) (D.faults rounds.new.side.log.disk)) (K.held sink.old) (K.held sink.new))) }
@@ -85,7 +86,7 @@ pub fn serve_rounds<
     ensures told { is_some (D.content rounds.new.side.log.disk) ≡ is_some (D.content rounds.old.side.log.disk) }
     ensures read_fault { result ≡ Err Stop.ReadFault → Rose (S.faults source.old) (S.faults source.new) }
     ensures sink_fault { result ≡ Err Stop.SinkFault → Rose (K.faults sink.old) (K.faults sink.new) }
-    ensures too_much { result ≡ Err Stop.TooMuch → IfSome (S.left source.old) (λ input. 2 ^ 40 ≤ length input) }
+    ensures too_much { result ≡ Err Stop.TooMuch → TakesAtLeast (2 ^ 40) (S.left source.old) (S.left source.new) }
     ensures disk_later { D.faults rounds.old.side.log.disk ≤ D.faults rounds.new.side.log.disk }
 {
     let mut reader = Reader::new(alloc);

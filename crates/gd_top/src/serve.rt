@@ -3,10 +3,11 @@ ghost use Rattle.std.specs.Prelude.{◌≡◌, ◌≢◌, ◌≤◌, ◌^◌, le
 ghost use Rattle.std.specs.Option.{is_some};
 ghost use Rattle.std.specs.Io.KnownBytes.{IsAtEnd};
 ghost use Rattle.gd_base.specs.Counts.{Rose, RoseBy};
+ghost use Rattle.gd_input.specs.Pieces.{TakesAtLeast};
 ghost use Rattle.gd_threads.specs.Served.{state_at};
 ghost use Rattle.gd_top.specs.Ends.{IsIdle, Causes};
 ghost use Rattle.gd_top.specs.Held.{Loads, Leaves, MayMean, DoesMean};
-ghost use Rattle.gd_top.specs.Kept.{Keeps};
+ghost use Rattle.gd_top.specs.Kept.{Keeps, StaysTold};
 ghost use Rattle.gd_top.specs.Opened.{HoldsAs, IsAtStart};
 ghost use Rattle.gd_top.specs.Serves.{PrintsLines};
 
@@ -42,11 +43,11 @@ fn serve_all<
     requires { IsAtStart rounds.old }
     ensures prints { PrintsLines result (C.may rounds.old.side.clock) (λ loaded. loaded ≡ rounds.old.side.history.loaded)
         (HoldsAs (C.may rounds.old.side.clock) (state_at rounds.new.side)) (RoseBy (D.faults rounds.old.side.log.disk) (D.faults rounds.new.side.log.disk)) ⊥
-        (S.left source.old) (K.held sink.old) (K.held sink.new) }
+        (S.left source.old) (S.left source.new) (K.held sink.old) (K.held sink.new) }
     ensures at_end { result ≡ Status.Done → IsAtEnd (S.left source.new) }
     ensures causes { Causes result (Rose (S.faults source.old) (S.faults source.new))
         (Rose (K.faults sink.old) (K.faults sink.new)) ⊥
-        (IfSome (S.left source.old) (λ input. 2 ^ 40 ≤ length input)) (λ _. ⊥) (λ _. ⊥) }
+        (TakesAtLeast (2 ^ 40) (S.left source.old) (S.left source.new)) (λ _. ⊥) (λ _. ⊥) }
     ensures used { result ≢ Status.Usage }
     ensures loaded { rounds.new.side.history.loaded ≡ rounds.old.side.history.loaded }
     ensures told { is_some (D.content rounds.new.side.log.disk) ≡ is_some (D.content rounds.old.side.log.disk) }
@@ -78,12 +79,13 @@ pub(crate) fn serve_over<
     gate: &G,
 ) -> (Status, D)
     ensures prints { PrintsLines result.0 (C.may clock) (Loads (D.content disk)) (Leaves (C.may clock) (D.content disk) (D.images result.1))
-        (RoseBy (D.faults disk) (D.faults result.1)) (IsIdle source.old source.new sink.old sink.new)
-        (S.left source.old) (K.held sink.old) (K.held sink.new) }
+        (RoseBy (D.faults disk) (D.faults result.1))
+        (IsIdle source.old source.new sink.old sink.new × StaysTold (D.content disk) (D.content result.1) (D.images disk) (D.images result.1))
+        (S.left source.old) (S.left source.new) (K.held sink.old) (K.held sink.new) }
     ensures at_end { result.0 ≡ Status.Done → IsAtEnd (S.left source.new) }
     ensures causes { Causes result.0 (Rose (S.faults source.old) (S.faults source.new))
         (Rose (K.faults sink.old) (K.faults sink.new)) (Rose (D.faults disk) (D.faults result.1))
-        (IfSome (S.left source.old) (λ input. 2 ^ 40 ≤ length input)) (MayMean (D.content disk)) (DoesMean (D.content disk)) }
+        (TakesAtLeast (2 ^ 40) (S.left source.old) (S.left source.new)) (MayMean (D.content disk)) (DoesMean (D.content disk)) }
     ensures used { result.0 ≢ Status.Usage }
     ensures kept { Keeps (D.content disk) (D.content result.1) (D.images disk) (D.images result.1) }
 {

@@ -14,7 +14,7 @@ pub enum Status {
     Done,
     /// The words are not in the grammar. Nothing was read or printed.
     Usage,
-    /// The source failed. The lines of whole rounds before that were answered, and no other.
+    /// The source failed. The lines of all whole rounds that were read before that were answered, and no other.
     ReadFault,
     /// The sink failed. What was printed is a front of what was due.
     SinkFault,
@@ -26,7 +26,7 @@ pub enum Status {
     Damaged { offset: u64 },
     /// There was no memory to open the store or to read a round. What was printed is a front of what was due.
     Memory,
-    /// 2^40 bytes of input were taken. The lines of whole rounds before that were answered, and no other.
+    /// 2^40 bytes of input were taken. The lines of all whole rounds in them were answered, and no other.
     TooMuch,
 }
 

@@ -1,12 +1,13 @@
 use Rattle.std.proofs.Common.{◌^◌, Err, ap, arith}
 use Rattle.std.specs.Io.KnownBytes.{prepend_known}
+use Rattle.gd_input.proofs.Taken.{taken_known}
 use Rattle.gd_runs.specs.Legal.{batches}
 use Rattle.gd_sessions.specs.Running.{core_state}
 use Rattle.gd_replay.specs.Stops.{Leaves}
 use Rattle.gd_replay.proofs.Begun.{begun_upto, begun_advances, begun_bounded, begun_below, prints_by, stops_by}
 use Rattle.gd_replay.proofs.Carried.{along_same, along_then, tells_on}
 use Rattle.gd_replay.proofs.Kept.{leaves_has, has_earlier, keeps_more, input_keeps}
-use Rattle.gd_replay.proofs.Known.{more_known, done_known, stops_known, input_known, advances_then, taken_known, caused_ends, input_ends}
+use Rattle.gd_replay.proofs.Known.{more_known, done_known, stops_known, input_known, advances_then, caused_ends, input_ends}
 use Rattle.gd_replay.proofs.Taken.{rose_since, caused_since}
 use Rattle.gd_replay.proofs.replay.replay_lines.Goals as goal
 
@@ -153,4 +154,4 @@ returns-in-Err-clause-caused g c =
     rw c.stopped.ensures.parts
     (input_ends c.in-Err.fault _ _ _ _
     (λ e. rose_since (g.S.Source.faults c.args.source.now) (g.S.Source.faults c.loop-piece.source) (g.S.Source.faults c.read_line.new.source) inv.source_later (c.in-Err.ensures.failed (ap Err e)))
-    (λ e. taken_known x z c.read_line.new.self.consumed (2 ^ 40) (advances_then x y z c.loop-piece.reader.consumed c.read_line.new.self.consumed inv.advances c.read_line.ensures.advances) (c.in-Err.ensures.too_much (ap Err e))))
+    (λ e. taken_known x (g.S.Source.left c.read_line.new.source) c.read_line.new.self.bytes c.read_line.new.self.consumed (2 ^ 40) (advances_then x y z c.loop-piece.reader.consumed c.read_line.new.self.consumed inv.advances c.read_line.ensures.advances) (c.in-Err.ensures.too_much (ap Err e))))

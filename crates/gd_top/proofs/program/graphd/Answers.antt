@@ -5,9 +5,11 @@ use Rattle.gd_words.specs.Words.{command_of}
 use Rattle.gd_words.specs.Verbs as verb
 use Rattle.gd_words.specs.Verbs.{Verb, verb_in, file_of, path_of}
 use Rattle.gd_top.specs.Ends.{IsIdle}
+use Rattle.gd_top.specs.Kept.{StaysAt}
 use Rattle.gd_top.proofs.Commands.{verb_known, path_known, none_known}
 use Rattle.gd_top.proofs.Complete.{complete}
 use Rattle.gd_top.proofs.Framed.{printed_no_words}
+use Rattle.gd_top.proofs.Kept.{stays_untouched}
 use Rattle.gd_top.proofs.program.graphd.Goals as goal
 
 pub returns-in-Ok-Some-clause-serves : goal.returns-in-Ok-Some-clause-serves
@@ -17,8 +19,9 @@ returns-in-Ok-Some-clause-serves g c is =
     let source = c.args.source.now in
     let sink = c.args.sink.now in
     let words : command_of c.args.words.now ≡ Some c.in-Ok-Some.command = first_of (search rules, grind (arith, common_steps)) in
-    verb_known verb.serves run.result (g.C.Clock.may c.args.clock) (f.content c.args.shelf.now) (f.images run.new.shelf) (RoseBy (f.faults c.args.shelf.now) (f.faults run.new.shelf)) (IsIdle source run.new.source sink run.new.sink)
-    (g.S.Source.left source) (g.K.Sink.held sink) (g.K.Sink.held run.new.sink) c.args.words.now c.in-Ok-Some.command words is run.ensures.prints
+    verb_known verb.serves run.result (g.C.Clock.may c.args.clock) (f.content c.args.shelf.now) (f.images run.new.shelf) (RoseBy (f.faults c.args.shelf.now) (f.faults run.new.shelf))
+    (λ path. IsIdle source run.new.source sink run.new.sink × StaysAt (f.content c.args.shelf.now) (f.content run.new.shelf) (f.images c.args.shelf.now) (f.images run.new.shelf) path)
+    (g.S.Source.left source) (g.S.Source.left run.new.source) (g.K.Sink.held sink) (g.K.Sink.held run.new.sink) c.args.words.now c.in-Ok-Some.command words is run.ensures.prints
 
 pub returns-in-Ok-Some-clause-events : goal.returns-in-Ok-Some-clause-events
 returns-in-Ok-Some-clause-events g c is =
@@ -27,8 +30,9 @@ returns-in-Ok-Some-clause-events g c is =
     let source = c.args.source.now in
     let sink = c.args.sink.now in
     let words : command_of c.args.words.now ≡ Some c.in-Ok-Some.command = first_of (search rules, grind (arith, common_steps)) in
-    verb_known verb.replays run.result (g.C.Clock.may c.args.clock) (f.content c.args.shelf.now) (f.images run.new.shelf) (RoseBy (f.faults c.args.shelf.now) (f.faults run.new.shelf)) (IsIdle source run.new.source sink run.new.sink)
-    (g.S.Source.left source) (g.K.Sink.held sink) (g.K.Sink.held run.new.sink) c.args.words.now c.in-Ok-Some.command words is run.ensures.prints
+    verb_known verb.replays run.result (g.C.Clock.may c.args.clock) (f.content c.args.shelf.now) (f.images run.new.shelf) (RoseBy (f.faults c.args.shelf.now) (f.faults run.new.shelf))
+    (λ path. IsIdle source run.new.source sink run.new.sink × StaysAt (f.content c.args.shelf.now) (f.content run.new.shelf) (f.images c.args.shelf.now) (f.images run.new.shelf) path)
+    (g.S.Source.left source) (g.S.Source.left run.new.source) (g.K.Sink.held sink) (g.K.Sink.held run.new.sink) c.args.words.now c.in-Ok-Some.command words is run.ensures.prints
 
 pub returns-in-Ok-Some-clause-kept : goal.returns-in-Ok-Some-clause-kept
 returns-in-Ok-Some-clause-kept g c path is =
@@ -37,7 +41,7 @@ returns-in-Ok-Some-clause-kept g c path is =
 
 pub returns-in-Ok-Some-clause-complete : goal.returns-in-Ok-Some-clause-complete
 returns-in-Ok-Some-clause-complete g c given no_read no_sink no_disk sound short =
-    complete c.run.result _ _ _ (g.S.Source.left c.args.source.now) (g.F.Shelf.content c.args.shelf.now) _ c.run.ensures.used c.run.ensures.causes no_read no_sink no_disk (search rules) short
+    complete c.run.result _ _ _ (g.S.Source.left c.args.source.now) (g.S.Source.left c.run.new.source) (g.F.Shelf.content c.args.shelf.now) _ c.run.ensures.used c.run.ensures.causes no_read no_sink no_disk (search rules) short
 
 pub returns-in-Ok-None-clause-serves : goal.returns-in-Ok-None-clause-serves
 returns-in-Ok-None-clause-serves g c is =
@@ -55,8 +59,11 @@ returns-in-Err-clause-serves g c is =
     let source = c.args.source.now in
     let sink = c.args.sink.now in
     let faults = f.faults c.args.shelf.now in
-    printed_no_words (g.C.Clock.may c.args.clock) (RoseBy faults faults) (IsIdle source source sink sink) (g.S.Source.left source) (g.K.Sink.held sink) (g.K.Sink.held sink) verb.serves
-    (f.content c.args.shelf.now) (f.images c.args.shelf.now) (path_of c.args.words.now) (record { source = refl; sink = refl })
+    let path = path_of c.args.words.now in
+    let content = f.content c.args.shelf.now in
+    let images = f.images c.args.shelf.now in
+    printed_no_words (g.C.Clock.may c.args.clock) (RoseBy faults faults) (IsIdle source source sink sink × StaysAt content content images images path) (g.S.Source.left source) (g.S.Source.left source) (g.K.Sink.held sink) (g.K.Sink.held sink) verb.serves
+    content images path (record { source = refl; sink = refl }, stays_untouched content images path)
 
 pub returns-in-Err-clause-events : goal.returns-in-Err-clause-events
 returns-in-Err-clause-events g c is =
@@ -64,5 +71,8 @@ returns-in-Err-clause-events g c is =
     let source = c.args.source.now in
     let sink = c.args.sink.now in
     let faults = f.faults c.args.shelf.now in
-    printed_no_words (g.C.Clock.may c.args.clock) (RoseBy faults faults) (IsIdle source source sink sink) (g.S.Source.left source) (g.K.Sink.held sink) (g.K.Sink.held sink) verb.replays
-    (f.content c.args.shelf.now) (f.images c.args.shelf.now) (path_of c.args.words.now) (record { source = refl; sink = refl })
+    let path = path_of c.args.words.now in
+    let content = f.content c.args.shelf.now in
+    let images = f.images c.args.shelf.now in
+    printed_no_words (g.C.Clock.may c.args.clock) (RoseBy faults faults) (IsIdle source source sink sink × StaysAt content content images images path) (g.S.Source.left source) (g.S.Source.left source) (g.K.Sink.held sink) (g.K.Sink.held sink) verb.replays
+    content images path (record { source = refl; sink = refl }, stays_untouched content images path)

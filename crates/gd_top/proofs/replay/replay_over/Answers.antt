@@ -5,7 +5,8 @@ use Rattle.gd_replay.specs.Kept.{HasBatches}
 use Rattle.gd_replay.specs.Stops.{Leaves}
 use Rattle.gd_top.specs.Ends.{IsIdle}
 use Rattle.gd_top.specs.Held.{Loads}
-use Rattle.gd_top.proofs.Replayed.{events_print, ends_idle, idle_is, events_at_end, events_used, events_keep, events_causes}
+use Rattle.gd_top.specs.Kept.{StaysTold}
+use Rattle.gd_top.proofs.Replayed.{events_print, ends_unbegun, idle_is, events_at_end, events_used, events_keep, events_causes}
 use Rattle.gd_top.proofs.replay.replay_over.Goals as goal
 
 pub returns-clause-prints : goal.returns-clause-prints
@@ -13,10 +14,12 @@ returns-clause-prints g c = λ tells members.
     let run = c.replay-end in
     let source = c.args.source.now in
     let sink = c.args.sink.now in
+    let d = g.D.Disk in
     rw c.status_of.ensures
     (events_print members (g.C.Clock.may c.args.clock) (Loads (g.D.Disk.content c.args.disk)) (Leaves (g.D.Disk.images run.result.1))
-    (RoseBy (g.D.Disk.faults c.args.disk) (g.D.Disk.faults run.result.1)) (IsIdle source run.new.source sink run.new.sink) (g.S.Source.left source) (g.K.Sink.held sink) (g.K.Sink.held run.new.sink) run.result.0
-    (ends_idle run.result.0 _ _ _ _ _ (idle_is source run.new.source sink run.new.sink) (run.ensures.ends tells members)))
+    (RoseBy (g.D.Disk.faults c.args.disk) (g.D.Disk.faults run.result.1))
+    (IsIdle source run.new.source sink run.new.sink × StaysTold (d.content c.args.disk) (d.content run.result.1) (d.images c.args.disk) (d.images run.result.1)) (g.S.Source.left source) (g.K.Sink.held sink) (g.K.Sink.held run.new.sink) run.result.0
+    (ends_unbegun d.content d.moment d.images d.images_since c.args.disk run.result.1 run.result.0 run.ensures.kept _ _ _ _ _ (idle_is source run.new.source sink run.new.sink) (run.ensures.ends tells members)))
 
 pub returns-clause-at_end : goal.returns-clause-at_end
 returns-clause-at_end g c = λ is. events_at_end c.replay-end.result.0 _ c.replay-end.ensures.at_end (sym c.status_of.ensures ∙ is)

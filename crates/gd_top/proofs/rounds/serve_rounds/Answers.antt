@@ -1,8 +1,9 @@
-use Rattle.std.proofs.Common.{◌^◌, ◌∙◌, refl, arith}
+use Rattle.std.proofs.Common.{◌^◌, ◌∙◌, refl, inl, inr, arith}
 use Rattle.std.specs.Io.KnownBytes.{prepend_known}
 use Rattle.gd_threads.specs.Served.{state_at}
 use Rattle.gd_outside.proofs.Fronts.{at_err}
-use Rattle.gd_top.proofs.Known.{more_known, done_known, part_known, rounds_known, front_known, taken_known, counted_on, input_too_much, begun}
+use Rattle.gd_top.proofs.Known.{more_known, done_known, part_known, rounds_stopped, front_known, counted_on, input_too_much, input_failed, begun}
+use Rattle.gd_input.proofs.Taken.{taken_known}
 use Rattle.gd_top.proofs.rounds.serve_rounds.Goals as goal
 
 pub loop-round-init : goal.loop-round-init
@@ -23,15 +24,17 @@ loop-round-init g c =
 
 pub returns-in_err-round-clause-rounds : goal.returns-in_err-round-clause-rounds
 returns-in_err-round-clause-rounds g c is =
-    rounds_known c.args.rounds.now.side.history.loaded (g.C.Clock.may c.args.rounds.now.side.clock) (g.K.Sink.held c.args.sink.now) (g.K.Sink.held c.loop-round.sink)
+    rounds_stopped c.args.rounds.now.side.history.loaded (g.C.Clock.may c.args.rounds.now.side.clock) (g.K.Sink.held c.args.sink.now) (g.K.Sink.held c.loop-round.sink)
     (g.D.Disk.faults c.args.rounds.now.side.log.disk) (g.D.Disk.faults c.loop-round.rounds.side.log.disk) (state_at c.loop-round.rounds.side) c.loop-round.rounds.lines (g.S.Source.left c.args.source.now)
-    (prepend_known c.loop-round.reader.bytes (g.S.Source.left c.loop-round.source)) c.loop-round.invariant.upto
+    (prepend_known c.loop-round.reader.bytes (g.S.Source.left c.loop-round.source)) (g.S.Source.left c.read_round.new.source) c.read_round.new.self.bytes c.loop-round.invariant.upto
+    (c.in_err-round.ensures.stopped (inl (input_failed c.from_residual.result c.in_err-round.field-0.0 _ refl is c.from_residual.ensures.1)))
 
 pub returns-in_err-round-clause-rounds_taken : goal.returns-in_err-round-clause-rounds_taken
 returns-in_err-round-clause-rounds_taken g c is =
-    rounds_known c.args.rounds.now.side.history.loaded (g.C.Clock.may c.args.rounds.now.side.clock) (g.K.Sink.held c.args.sink.now) (g.K.Sink.held c.loop-round.sink)
+    rounds_stopped c.args.rounds.now.side.history.loaded (g.C.Clock.may c.args.rounds.now.side.clock) (g.K.Sink.held c.args.sink.now) (g.K.Sink.held c.loop-round.sink)
     (g.D.Disk.faults c.args.rounds.now.side.log.disk) (g.D.Disk.faults c.loop-round.rounds.side.log.disk) (state_at c.loop-round.rounds.side) c.loop-round.rounds.lines (g.S.Source.left c.args.source.now)
-    (prepend_known c.loop-round.reader.bytes (g.S.Source.left c.loop-round.source)) c.loop-round.invariant.upto
+    (prepend_known c.loop-round.reader.bytes (g.S.Source.left c.loop-round.source)) (g.S.Source.left c.read_round.new.source) c.read_round.new.self.bytes c.loop-round.invariant.upto
+    (c.in_err-round.ensures.stopped (inr (input_too_much c.from_residual.result c.in_err-round.field-0.0 _ refl is c.from_residual.ensures.1)))
 
 pub returns-in_err-round-clause-front : goal.returns-in_err-round-clause-front
 returns-in_err-round-clause-front g c = at_err c.from_residual.result
@@ -42,7 +45,7 @@ returns-in_err-round-clause-front g c = at_err c.from_residual.result
 pub returns-in_err-round-clause-too_much : goal.returns-in_err-round-clause-too_much
 returns-in_err-round-clause-too_much g c is =
     let advances = c.read_round.ensures.since (g.S.Source.left c.args.source.now) 0 c.loop-round.invariant.advances in
-    taken_known (g.S.Source.left c.args.source.now) (prepend_known c.read_round.new.self.bytes (g.S.Source.left c.read_round.new.source)) c.read_round.new.self.consumed (2 ^ 40) advances
+    taken_known (g.S.Source.left c.args.source.now) (g.S.Source.left c.read_round.new.source) c.read_round.new.self.bytes c.read_round.new.self.consumed (2 ^ 40) advances
     (c.in_err-round.ensures.too_much (input_too_much c.from_residual.result c.in_err-round.field-0.0 _ refl is c.from_residual.ensures.1))
 
 pub returns-in_err-answer_round-clause-front : goal.returns-in_err-answer_round-clause-front
@@ -79,7 +82,7 @@ loop-round-preserved g c = record {
       (g.D.Disk.faults c.args.rounds.now.side.log.disk) (g.D.Disk.faults c.loop-round.rounds.side.log.disk) (g.D.Disk.faults c.answer_round.new.rounds.side.log.disk)
       (state_at c.loop-round.rounds.side) c.loop-round.rounds.lines (state_at c.answer_round.new.rounds.side) c.answer_round.new.rounds.lines (g.S.Source.left c.args.source.now)
       (prepend_known c.loop-round.reader.bytes (g.S.Source.left c.loop-round.source)) (prepend_known c.read_round.new.self.bytes (g.S.Source.left c.read_round.new.source))
-      c.in_ok-round.round c.deref.result.now c.deref.ensures.value c.loop-round.invariant.upto c.in_ok-round.ensures.round c.in_ok-answer_round.ensures.all;
+      c.in_ok-round.round c.deref.result.now c.deref.ensures.value c.loop-round.invariant.upto c.in_ok-round.ensures.round c.in_ok-answer_round.ensures.all c.if-round.false;
   advances = c.read_round.ensures.since (g.S.Source.left c.args.source.now) 0 c.loop-round.invariant.advances;
   counted = counted_on c.loop-round.rounds.lines _ _ c.loop-round.reader.consumed c.read_round.new.self.consumed c.loop-round.invariant.counted (omega (arith, c.deref.ensures.len, c.in_ok-round.ensures.few)) (c.in_ok-round.ensures.forward c.if-round.false) c.in_ok-answer_round.ensures.next;
   loaded = c.answer_round.ensures.loaded ∙ c.loop-round.invariant.loaded;

@@ -1,4 +1,4 @@
-use Rattle.std.proofs.Common.{◌≡◌, ◌≤◌, ◌+◌, ◌-◌, ◌*◌, ◌^◌}
+use Rattle.std.proofs.Common.{◌≡◌, false, ◌≤◌, ◌+◌, ◌-◌, ◌*◌, ◌^◌}
 use Rattle.std.specs.Option.{is_some}
 use Rattle.std.specs.Io.KnownBytes.{prepend_known}
 use Rattle.gd_input.specs.Held.{IsBounded}
@@ -9,7 +9,7 @@ use Rattle.gd_top.proofs.rounds.serve_rounds.Given as goal
 
 abbrev pub invariant-loop-round : goal.invariant-loop-round
 invariant-loop-round g l = record {
-  upto : Known (g.S.Source.left l.fn.source) (prepend_known l.reader.bytes (g.S.Source.left l.source)) (ServedUpto l.fn.rounds.side.history.loaded (g.C.Clock.may l.fn.rounds.side.clock) (g.K.Sink.held l.fn.sink) (g.K.Sink.held l.sink)
+  upto : Known (g.S.Source.left l.fn.source) (prepend_known l.reader.bytes (g.S.Source.left l.source)) (ServedUpto false l.fn.rounds.side.history.loaded (g.C.Clock.may l.fn.rounds.side.clock) (g.K.Sink.held l.fn.sink) (g.K.Sink.held l.sink)
       (g.D.Disk.faults l.fn.rounds.side.log.disk) (g.D.Disk.faults l.rounds.side.log.disk) (state_at l.rounds.side) l.rounds.lines);
   advances : Advances (g.S.Source.left l.fn.source) (prepend_known l.reader.bytes (g.S.Source.left l.source)) 0 l.reader.consumed;
   counted : l.rounds.lines ≤ 256 * l.reader.consumed;
