@@ -8,8 +8,9 @@
             print(row["guid"])
 
 A query is a value as JSON has it: dicts, lists, texts, whole numbers, True, False and None. Where a request is refused the call
-raises a `Refused`, of the class that has the name of the error. Threads may share a store: each has a session of its own, and what
-several ask at the same time goes to the program in one round. docs/CLIENT.md shows all of it at work; this file needs Python alone.
+raises a `Refused`, of the class that has the name of the error; where a write has no answer and may be stored all the same, an
+`Unanswered`. Threads may share a store: each has a session of its own, and what several ask at the same time goes to the program in
+one round. docs/CLIENT.md shows all of it at work; this file needs Python alone.
 """
 from __future__ import annotations
 
@@ -19,6 +20,7 @@ import os
 import re
 import subprocess
 import threading
+import time
 from typing import Any, Dict, Iterable, Iterator, List, Optional, Sequence, Union
 
 Query = Union[Dict[str, Any], List[Any]]
@@ -57,8 +59,10 @@ MEANINGS = {
     "TooWideAnswer": "the answer is too wide; ask for less",
     "ReplyTooLarge": "the reply is too large; ask for less",
     "Full": "a limit of the store would be passed",
-    "DiskFault": "the disk failed",
-    "Memory": "there was no memory",
+    "DiskFault": "the disk failed, and the write was not tried: nothing of it is stored",
+    "DiskDoubt": "the disk failed while the write was written: it is stored or is not, and the next write ends the doubt",
+    "MemoryLate": "the write is stored, and there was no memory to show it to readers yet",
+    "Memory": "there was no memory, and nothing was stored",
     "envelope": "a member of the line is wrong",
     "list_form": "a list here is empty or has one form",
     "bad_word": "this name has no meaning here",
@@ -112,15 +116,25 @@ class Ended(GraphdError):
         self.status = status
 
 
-class Refused(GraphdError):
-    """A request was refused.
+class NotShown(GraphdError):
+    """The store did not come to show the dateline that was `asked`; it shows `have`."""
 
-    `error` is the name of the error, `info` what it tells, and each member of `info` is a field as well. `dateline` is the one over
-    which the request was refused, None where the line alone was wrong. `request` is what was asked.
+    def __init__(self, asked: int, have: int) -> None:
+        super().__init__("the store does not show dateline %d yet; it shows %d" % (asked, have))
+        self.asked, self.have = asked, have
+
+
+class Failed(GraphdError):
+    """A request has no answer.
+
+    `error` is the name of the error, `info` what it tells, and each member of `info` is a field as well. `stored` says whether a write
+    is stored: "no", "maybe" or "yes". `dateline` is the one over which the request was refused, None where there is none. `request` is
+    what was asked.
     """
 
     error: str
     info: Dict[str, Any]
+    stored: str
     dateline: Optional[int]
     request: Optional[Request]
 
@@ -128,17 +142,48 @@ class Refused(GraphdError):
         self.error, self.info = reply["error"], reply["info"]
         self.dateline, self.request = reply.get("dateline"), request
         self.__dict__.update(self.info)
-        super().__init__(self.meaning + (" " + json.dumps(self.info, ensure_ascii=False) if self.info else ""))
+        super().__init__(meaning_of(reply) + (" " + json.dumps(self.info, ensure_ascii=False) if self.info else ""))
 
     @property
     def meaning(self) -> str:
         """What the error says, in words."""
-        return MEANINGS.get(self.info.get("code", self.error), self.error)
+        return meaning_of({"error": self.error, "info": self.info})
 
     @staticmethod
-    def of(reply: Reply, request: Optional[Request] = None) -> Refused:
-        """The exception of a refusal, of the class that has the name of its error."""
-        return KINDS.get(reply["error"], Refused)(reply, request)
+    def of(reply: Reply, request: Optional[Request] = None) -> Failed:
+        """The exception of a reply that is no answer, of the class that has the name of its error."""
+        return KINDS.get(name_of(reply), Refused)(reply, request)
+
+
+class Refused(Failed):
+    """A request was refused: nothing of it was stored."""
+
+    stored = "no"
+
+
+class Unanswered(Failed):
+    """A write has no answer, and is stored, or may be."""
+
+    stored = "maybe"
+
+
+class MemoryLate(Unanswered):
+    """The write is stored, as the entry of this number, and there was no memory to show it to readers yet.
+
+    Entries are counted from 0, so the write is in the store from the dateline on that is one more, which is `dateline` here;
+    `Store.wait` waits for it.
+    """
+
+    stored = "yes"
+    entry: int
+
+    def __init__(self, reply: Reply, request: Optional[Request] = None) -> None:
+        super().__init__(reply, request)
+        self.dateline = self.entry + 1
+
+
+class DiskDoubt(Unanswered):
+    """The disk failed while the write was written: it is stored whole or not at all. The next write, or opening the file, ends the doubt."""
 
 
 class LineTooLong(Refused):
@@ -173,9 +218,7 @@ class BadQuery(Refused):
 
 
 class DiskFault(Refused):
-    """The disk failed; `stored` is "no" or "maybe"."""
-
-    stored: str
+    """The disk failed before the write was tried."""
 
 
 class BadCursor(Refused):
@@ -246,7 +289,21 @@ class Memory(Refused):
     """There was no memory for the request; nothing was stored."""
 
 
-KINDS = {kind.__name__: kind for kind in Refused.__subclasses__()}
+KINDS = {kind.__name__: kind for base in (Refused, Unanswered) for kind in base.__subclasses__()}
+
+
+def name_of(reply: Reply) -> str:
+    """The name of an error; a write that the disk left in doubt has one of its own.
+
+    >>> name_of({"error": "DiskFault", "info": {"stored": "maybe"}}), name_of({"error": "DiskFault", "info": {"stored": "no"}})
+    ('DiskDoubt', 'DiskFault')
+    """
+    return "DiskDoubt" if reply["error"] == "DiskFault" and reply["info"].get("stored") == "maybe" else reply["error"]
+
+
+def meaning_of(reply: Reply) -> str:
+    """What a reply that is no answer says, in words."""
+    return MEANINGS.get(reply["info"].get("code", name_of(reply)), reply["error"])
 
 
 def line_of(request: Request, sid: int = 0) -> bytes:
@@ -282,8 +339,8 @@ class Pipe:
 
     def __init__(self, command: Sequence[str]) -> None:
         try:
-            self.child = subprocess.Popen(list(command), stdin=subprocess.PIPE, stdout=subprocess.PIPE, bufsize=BUFFER,
-                                          start_new_session=True)
+            self.child: Any = subprocess.Popen(list(command), stdin=subprocess.PIPE, stdout=subprocess.PIPE, bufsize=BUFFER,
+                                               start_new_session=True)
         except OSError:
             raise NoProgram(command[0]) from None
         # (an interrupt while lines are sent may leave half a line behind; then nothing more can be said)
@@ -330,7 +387,7 @@ class Asked:
 
     def __init__(self, lines: List[bytes]) -> None:
         self.lines = lines
-        self.replies: List[Optional[bytes]] = [None] * len(lines)
+        self.replies: List[Any] = [None] * len(lines)
         self.missing = len(lines)
 
 
@@ -381,7 +438,8 @@ class Store:
     def write(self, query: Dict[str, Any], scope: Optional[str] = None) -> Any:
         """Carries out a write, and gives its query with what was done; it is stored whole, or refused and not at all.
 
-        `scope` is the id of the object that stands behind what is made.
+        `scope` is the id of the object that stands behind what is made. An `Unanswered` is raised where the write is stored and not
+        shown yet, or in doubt.
         """
         asked: Dict[str, Any] = {"query": query}
         if scope is not None:
@@ -396,6 +454,18 @@ class Store:
         """The dateline of the store: how many writes it has taken."""
         return self.answer({"read": {"query": {"id": "/", "guid": None}}})["dateline"]
 
+    def wait(self, dateline: int, seconds: float = 10.0) -> int:
+        """Waits until the store shows this dateline, and gives the one that it shows; a `NotShown` after so many seconds without it."""
+        until, pause = time.monotonic() + seconds, 0.001
+        while True:
+            shown = self.dateline()
+            if shown >= dateline:
+                return shown
+            if time.monotonic() + pause > until:
+                raise NotShown(dateline, shown)
+            time.sleep(pause)
+            pause = min(2 * pause, 0.1)
+
     def result(self, request: Request) -> Any:
         """The result of a request as the line has it; raises what it was refused by."""
         return self.answer(request)["result"]
@@ -404,7 +474,7 @@ class Store:
         """The whole reply to a request, with its dateline and maybe a cursor; raises what it was refused by."""
         reply = self.ask(request)
         if "error" in reply:
-            raise Refused.of(reply, request)
+            raise Failed.of(reply, request)
         return reply
 
     def ask(self, request: Request) -> Reply:
