@@ -294,7 +294,8 @@ def main():
         print_order()
         return 0
     if sys.argv[1:] not in ([], ["--check"]):
-        sys.exit(__doc__)
+        print("definitions.py: no such words; definitions.py --help shows them", file=sys.stderr)
+        return 2
     stale = 0
     for path, text in pages().items():
         if not sys.argv[1:]:

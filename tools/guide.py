@@ -6,7 +6,9 @@
 
 A session is a block of four blanks that begins with `$ `: a command, and under it what it prints. Below `tools/shell` the lines that
 somebody typed stand behind its prompts. A block that begins with `>>> ` is a session of Python. Those of a page all run in one new
-folder, where `tools`, `examples` and `graphd` are those of the repository; what they print to standard error is not shown.
+folder, where `tools`, `examples` and `graphd` are those of the repository; what they print to standard error is not shown. GRAPHD names
+another program than the one that is built here, and then no session runs any other. The status is 0 where all pages are as wanted, 1
+where one is not, and 2 where the words are wrong.
 """
 import os
 import re
@@ -14,9 +16,12 @@ import subprocess
 import sys
 import tempfile
 
+TOP = os.path.dirname(os.path.dirname(os.path.abspath(__file__)))
+# Sessions run in another folder, so the program is named by its whole path, and what it is is settled before anything asks for it.
+PROGRAM = os.environ["GRAPHD"] = os.path.abspath(os.environ.get("GRAPHD", os.path.join(TOP, "graphd")))
+
 import python_sessions
 
-TOP = os.path.dirname(os.path.dirname(os.path.abspath(__file__)))
 PAGES = ("docs/GUIDE.md", "docs/CLIENT.md")
 SESSION = re.compile(r"(?m)^    \$ .*\n(?:    .*\n|\n(?=    ))*")
 PROMPT = re.compile(r"(?:graphd> |   \.\.\.> )(.*)")
@@ -39,7 +44,10 @@ def printed(command, below, folder):
     typed = "".join(found.group(1) + "\n" for found in map(PROMPT.fullmatch, below) if found)
     if command.startswith("tools/shell") and typed:
         command = command.replace("tools/shell", "tools/shell --echo", 1)
-    done = subprocess.run(["sh", "-c", command], cwd=folder, input=typed, stdout=subprocess.PIPE, stderr=subprocess.DEVNULL, text=True)
+    done = subprocess.run(["sh", "-c", command], cwd=folder, input=typed, stdout=subprocess.PIPE, stderr=subprocess.PIPE, text=True)
+    if done.returncode != 0:
+        # (a page that draws is as wanted also where nothing is there that draws)
+        print("guide.py: %s ended with status %d: %s" % (command, done.returncode, done.stderr.strip()), file=sys.stderr)
     return done.stdout
 
 
@@ -63,8 +71,9 @@ def checked(name, is_check):
     with open(os.path.join(TOP, name), encoding="utf-8") as text:
         before = text.read()
     with tempfile.TemporaryDirectory() as folder:
-        for linked in ("tools", "examples", "graphd"):
+        for linked in ("tools", "examples"):
             os.symlink(os.path.join(TOP, linked), os.path.join(folder, linked))
+        os.symlink(PROGRAM, os.path.join(folder, "graphd"))
         after = python_sessions.rewritten(rewritten(before, folder), folder)
     fault = differs(name, before, after) if is_check else None
     if fault:
@@ -77,11 +86,18 @@ def checked(name, is_check):
 
 def main():
     words = sys.argv[1:]
-    if words[:1] == ["--help"]:
+    if "--help" in words or "-h" in words:
         print(__doc__.strip())
         return 0
     is_check = words[:1] == ["--check"]
     names = [os.path.relpath(os.path.abspath(name), TOP) for name in words[is_check:]] or PAGES
+    unknown = [name for name in names if not os.path.isfile(os.path.join(TOP, name))]
+    if unknown:
+        print("guide.py: %s is no page; guide.py --help shows the words" % unknown[0], file=sys.stderr)
+        return 2
+    if not os.path.exists(PROGRAM):
+        print("guide.py: %s is not there: ./graphd build at the top of the repository builds the program" % PROGRAM, file=sys.stderr)
+        return 1
     return 0 if all([checked(name, is_check) for name in names]) else 1
 
 

@@ -202,14 +202,17 @@ def print_words():
 def main(arguments):
     if "--help" in arguments or "-h" in arguments:
         print(__doc__.strip())
-        return
+        return 0
     if arguments == ["--words"]:
         print_words()
-        return
+        return 0
     listed = "--list" in arguments
     start = []
     for name in [word for word in arguments if word != "--list"] or [first()]:
         file = os.path.join(TOP, name)
+        if not os.path.isfile(file):
+            print("rests_on.py: %s is no file; rests_on.py --help shows the words" % name, file=sys.stderr)
+            return 2
         start += imports(file) if file.endswith(".rt") else [file]
     files = rests_on(start)
     found = sorted(file for file in files if file.endswith(".antt"))
@@ -220,7 +223,8 @@ def main(arguments):
             if os.path.relpath(file, CRATES).startswith(crate + os.sep):
                 print("    " + os.path.relpath(file, TOP))
     print(f"{len(found)} files of specs, and {len(files) - len(found)} source files of types")
+    return 0
 
 
 if __name__ == "__main__":
-    main(sys.argv[1:])
+    sys.exit(main(sys.argv[1:]))

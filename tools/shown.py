@@ -49,9 +49,12 @@ def shown(found):
 
 
 def main():
-    if sys.argv[1:] not in ([], ["--check"]):
+    if sys.argv[1:] == ["--help"]:
         print(__doc__.strip())
-        return 0 if sys.argv[1:] == ["--help"] else 2
+        return 0
+    if sys.argv[1:] not in ([], ["--check"]):
+        print("shown.py: no such words; shown.py --help shows them", file=sys.stderr)
+        return 2
     with open(PAGE, encoding="utf-8") as text:
         before = text.read()
     after = BLOCK.sub(shown, before)
