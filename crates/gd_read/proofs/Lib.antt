@@ -9,6 +9,8 @@ pub mod Built
 pub mod Gathered
 pub mod Printed
 pub mod Begun
+pub mod Fronts
+pub mod States
 pub mod Left
 pub mod Starting
 pub mod Going

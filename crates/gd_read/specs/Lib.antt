@@ -11,3 +11,4 @@ pub mod Rows
 pub mod Rounds
 pub mod Reading
 pub mod Left
+pub mod Session

@@ -17,6 +17,7 @@ pub mod reading;
 mod roots;
 mod rows;
 mod scanning;
+pub mod session;
 mod sources;
 mod stage;
 mod subject;
