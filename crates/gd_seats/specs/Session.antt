@@ -1,9 +1,9 @@
 -- What contracts see of a session, and what it keeps.
-use Rattle.std.specs.Prelude.{ℕ, ◌≤◌, List, take, length, max, Option, None, Some, option_map}
-use Rattle.gd_prim.specs.declared.Batch.{Batch}
+use Rattle.std.specs.Prelude.{ℕ, length, max, Option, option_map}
 use Rattle.gd_runs.specs.Core as core
 use Rattle.gd_shared.specs.Shared.{SeatValue}
-use Rattle.gd_read.specs.Reading.{reading_view, IsGoing}
+use Rattle.gd_read.specs.Reading.{reading_view}
+use Rattle.gd_read.specs.Session.{session_left}
 use Rattle.gd_read.specs.declared.reading.Reading.{Reading}
 
 -- the seat of a session, and the reading that it holds
@@ -19,11 +19,6 @@ reads session = option_map reading_view session.held
 abbrev pub seen_of : SeatValue → ℕ
 seen_of seat = max (length seat.entered) (length seat.told)
 
--- a reading goes on over the batches of a list that are below its dateline
-abbrev pub GoesOn : List Batch → Reading → Type 0
-GoesOn batches r = ((reading_view r).dateline ≤ length batches) × IsGoing (take (reading_view r).dateline batches) r
-
--- the reading that is held goes on over a list
-abbrev pub HoldsGoing : List Batch → Option Reading → Type 0
-HoldsGoing batches None = Unit {0}
-HoldsGoing batches (Some r) = GoesOn batches r
+-- how much is left of the reading that is held, at most: nothing where none is; `n` is a number that no id reaches
+abbrev pub left_of : ℕ → SessionValue → ℕ
+left_of n session = session_left n session.seat.entered (record { reading = session.held })

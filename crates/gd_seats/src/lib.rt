@@ -2,5 +2,4 @@
 #![tactic(auto)]
 
 pub mod fault;
-mod over;
 pub mod session;

@@ -1,20 +1,22 @@
 //! A session over a seat. No call waits.
-ghost use Rattle.std.specs.Prelude.{◌≡◌, ◌≢◌, ◌+◌, ◌-◌, ◌<◌, ◌≤◌, ◌^◌, true, None, Some, length, max, min, option_map, IfOk, IfSome, MatchBool};
+ghost use Rattle.std.specs.Prelude.{◌≡◌, ◌≢◌, ◌+◌, ◌-◌, ◌<◌, ◌≤◌, ◌^◌, ℕ, true, None, Some, length, max, min, option_map, Ok, Err, IfOk, IfErr, IfSome, MatchBool};
 ghost use mathlib.Core.List.{IsPrefix};
 ghost use Rattle.gd_mql.specs.Requests.{read_view};
 ghost use Rattle.gd_shared.specs.Shared.{longer};
+ghost use Rattle.gd_read.specs.Left.{IsPastIds};
 ghost use Rattle.gd_read.specs.Reading.{is_unfinished};
-ghost use Rattle.gd_seats.specs.Session.{reads, seen_of, GoesOn};
+ghost use Rattle.gd_seats.specs.Session.{reads, seen_of, left_of};
 ghost use Rattle.gd_seats.specs.Calls.{IsLater, BeginsAs, SlicesAs, MeetsAs};
 
 use crate::fault::SessionFault;
-use crate::over::{begin_over, slice_over};
 use core::mem::{replace, replace_with};
+use gd_base::memory::Memory;
 use gd_base::steps::Steps;
 use gd_mql::request::ReadRequest;
-use gd_shared::{Receipt, Seat};
 use gd_read::fault::ReadFault;
-use gd_read::reading::{Progress, Reading};
+use gd_read::reading::Progress;
+use gd_read::session::SessionState;
+use gd_shared::{Receipt, Seat};
 use std::alloc::Global;
 use std::marker::Model;
 
@@ -23,21 +25,23 @@ use std::marker::Model;
 #[derive(Drop)]
 pub struct Session {
     seat: Seat,
-    reading: Option<Reading>,
+    state: SessionState,
 }
 
 impl Model for Session {
+    ghost use Rattle.std.specs.Prelude.{length};
     ghost use Rattle.std.specs.Coded.{codes};
     ghost use Rattle.gd_read.specs.contracts.reading.Reading as reading_row;
-    ghost use Rattle.gd_seats.specs.Session.{SessionValue, HoldsGoing};
+    ghost use Rattle.gd_read.specs.Session.{HoldsGoing};
+    ghost use Rattle.gd_seats.specs.Session.{SessionValue};
 
     ghost Value = { SessionValue };
 
     ghost coded = { Prim.hlevel (codes, reading_row.the_row.coded) };
 
-    ghost view = { λ session. record { seat = session.seat; held = session.reading } };
+    ghost view = { λ session. record { seat = session.seat; held = session.state.reading } };
 
-    ghost invariant = { λ session. HoldsGoing session.seat.entered session.reading };
+    ghost invariant = { λ session. HoldsGoing session.seat.entered (length session.seat.entered) session.state };
 }
 
 /// What is to be read, by a session that is let in, and the steps that were taken.
@@ -57,38 +61,17 @@ struct Slicing<L> {
     steps: Steps<L>,
 }
 
-impl Session {
-    /// A session of this seat, which holds this reading.
-    fn holding(seat: Seat, reading: Reading) -> Session
-        requires { GoesOn seat.entered reading }
-        ensures { result ≡ record { seat = seat; held = Some reading } }
-    {
-        Session {
-            seat,
-            reading: Some(reading),
-        }
-    }
-
-    /// A session of a seat that was left, whose reading has ended.
-    fn ended(left: Seat, reading: Reading) -> Session
-        ensures { result ≡ record { seat = left; held = None } }
-    {
-        drop(reading);
-        Session::new(left)
-    }
-}
-
 /// Enters and leaves. What the session reads stays.
 fn meet_in(session: Session, _nothing: ()) -> (Session, Result<(), SessionFault>)
     ensures { MeetsAs session result.0 result.1 }
 {
-    let Session { seat, reading } = session;
+    let Session { seat, state } = session;
     match seat.enter() {
         Ok(entered) => {
             let seat = entered.leave();
-            (Session { seat, reading }, Ok(()))
+            (Session { seat, state }, Ok(()))
         }
-        Err(seat) => (Session { seat, reading }, Err(SessionFault::Shut)),
+        Err(seat) => (Session { seat, state }, Err(SessionFault::Shut)),
     }
 }
 
@@ -101,10 +84,7 @@ fn begin_in<L>(
     ensures begins { BeginsAs session result.0 (read_view beginning.request) result.1.1 }
     ensures steps { beginning.steps ≤ result.1.0 }
 {
-    let Session {
-        seat,
-        reading: held,
-    } = session;
+    let Session { seat, state: held } = session;
     drop(held);
     let Beginning {
         alloc,
@@ -113,12 +93,13 @@ fn begin_in<L>(
     } = beginning;
     match seat.enter() {
         Ok(entered) => {
-            let begun = begin_over(alloc, entered.store(), request, &mut steps);
+            let store = entered.store();
+            let begun = SessionState::begin(alloc, store, store.requests(), request, &mut steps);
             let seat = entered.leave();
             match begun {
-                Ok(begun) => {
-                    let dateline = begun.dateline();
-                    (Session::holding(seat, begun), (steps, Ok(dateline)))
+                Ok(state) => {
+                    let dateline = state.dateline().unwrap();
+                    (Session { seat, state }, (steps, Ok(dateline)))
                 }
                 Err(fault) => (Session::new(seat), (steps, Err(SessionFault::Read(fault)))),
             }
@@ -127,6 +108,17 @@ fn begin_in<L>(
             drop(request);
             (Session::new(seat), (steps, Err(SessionFault::Shut)))
         }
+    }
+}
+
+/// What a session that was let in answers, by what its slice came to.
+fn answer_of(sliced: Result<Progress, Memory>) -> Result<Progress, SessionFault>
+    ensures ok { IfOk sliced (λ progress. result ≡ Ok progress) }
+    ensures err { IfErr sliced (λ _. result ≡ Err (SessionFault.Read ReadFault.Memory)) }
+{
+    match sliced {
+        Ok(progress) => Ok(progress),
+        Err(refused) => Err(SessionFault::Read(ReadFault::from(refused))),
     }
 }
 
@@ -140,10 +132,11 @@ fn slice_in<L>(
     requires line { slicing.line < 2 ^ 63 }
     ensures slices { SlicesAs session result.0 slicing.line result.1.1 }
     ensures reached { IfOk result.1.1 (λ progress. is_unfinished progress ≡ true → min (slicing.steps + slicing.budget) (2 ^ 64 - 1) ≤ result.1.0) }
+    ensures less { (n : ℕ) → IsPastIds n → result.1.0 + left_of n result.0 ≤ slicing.steps + left_of n session }
     ensures work { result.1.0 ≤ slicing.steps + slicing.budget + 1024 }
     ensures steps { slicing.steps ≤ result.1.0 }
 {
-    let Session { seat, reading } = session;
+    let Session { seat, mut state } = session;
     let Slicing {
         alloc,
         budget,
@@ -152,32 +145,11 @@ fn slice_in<L>(
     } = slicing;
     match seat.enter() {
         Ok(entered) => {
-            let mut reading = reading.unwrap();
-            let sliced = slice_over(
-                alloc,
-                entered.store(),
-                &mut reading,
-                budget,
-                line,
-                &mut steps,
-            );
+            let sliced = state.slice(alloc, entered.store(), budget, line, &mut steps);
             let seat = entered.leave();
-            match sliced {
-                Ok(Progress::Unfinished) => {
-                    let session = Session::holding(seat, reading);
-                    (session, (steps, Ok(Progress::Unfinished)))
-                }
-                Ok(Progress::Reply(bytes)) => {
-                    let session = Session::ended(seat, reading);
-                    (session, (steps, Ok(Progress::Reply(bytes))))
-                }
-                Err(refused) => {
-                    let fault = SessionFault::Read(ReadFault::from(refused));
-                    (Session::ended(seat, reading), (steps, Err(fault)))
-                }
-            }
+            (Session { seat, state }, (steps, answer_of(sliced)))
         }
-        Err(seat) => (Session { seat, reading }, (steps, Err(SessionFault::Shut))),
+        Err(seat) => (Session { seat, state }, (steps, Err(SessionFault::Shut))),
     }
 }
 
@@ -188,7 +160,7 @@ impl Session {
     {
         Session {
             seat,
-            reading: None,
+            state: SessionState::none(),
         }
     }
 
@@ -211,10 +183,7 @@ impl Session {
         ensures at { result ≡ option_map (λ r. r.dateline) (reads self.now) }
         ensures below { IfSome (reads self.now) (λ r. r.dateline ≤ length self.now.seat.entered) }
     {
-        match &self.reading {
-            Some(reading) => Some(reading.dateline()),
-            None => None,
-        }
+        self.state.dateline()
     }
 
     /// Whether the list of a receipt begins with all that it has seen. If not, it is shorter than that. The receipt is of the
@@ -241,7 +210,7 @@ impl Session {
     pub fn end(&mut self)
         ensures { self.new ≡ record self.old { held = None } }
     {
-        self.reading = None;
+        self.state.end();
     }
 
     /// Enters the published store and leaves it; the reading that is held stays. `Shut`: the session was not let in, and is as
@@ -294,6 +263,9 @@ impl Session {
         requires line { line < 2 ^ 63 }
         ensures slices { SlicesAs self.old self.new line result }
         ensures reached { IfOk result (λ progress. is_unfinished progress ≡ true → min (steps.old + budget) (2 ^ 64 - 1) ≤ steps.new) }
+
+        // What is left falls by at least the steps of the slice, whatever it comes to; `n` is a number that no id reaches.
+        ensures less { (n : ℕ) → IsPastIds n → steps.new + left_of n self.new ≤ steps.old + left_of n self.old }
         ensures work { steps.new ≤ steps.old + budget + 1024 }
         ensures later { IsLater self.old.seat self.new.seat }
         ensures steps { steps.old ≤ steps.new }

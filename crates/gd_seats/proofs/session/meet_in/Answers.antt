@@ -17,4 +17,4 @@ pub invariant_of-result : goal.invariant_of-result
 invariant_of-result c =
     let old = c.session.inside.seat.entered in
     let new = c.leave-seat.result.entered in
-    holds_later c.session.inside.reading old new (subst (λ l. IsPrefix old l) (sym (ap (λ s. s.entered) c.leave-seat.ensures)) c.in-Ok.ensures.2) c.session.invariant
+    holds_later c.session.inside.state old new (subst (λ l. IsPrefix old l) (sym (ap (λ s. s.entered) c.leave-seat.ensures)) c.in-Ok.ensures.2) c.session.invariant

@@ -1,46 +1,36 @@
-use Rattle.std.proofs.Common.{Some, refl, sym, ap, subst, ◌∙◌, option_map}
+use Rattle.std.proofs.Common.{◌+◌, ◌≤◌, List, length, sym, ap, subst, ◌∙◌}
 use mathlib.Core.List.{IsPrefix}
-use Rattle.gd_runs.specs.Core as core
-use Rattle.gd_read.specs.Reading.{reading_view, Replies}
-use Rattle.gd_seats.specs.Session.{reads, GoesOn, HoldsGoing}
-use Rattle.gd_seats.specs.Calls.{HasEntered}
+use Rattle.gd_prim.specs.declared.Batch.{Batch}
+use Rattle.gd_read.specs.Session.{HoldsGoing}
+use Rattle.gd_seats.specs.Session.{SessionValue, left_of}
+use Rattle.gd_seats.specs.Calls.{SlicesAs}
 use Rattle.gd_seats.proofs.Later.{has_entered}
-use Rattle.gd_seats.proofs.Readings.{goes_later, has_replied}
+use Rattle.gd_seats.proofs.Readings.{holds_later, slices_in, less_in}
 use Rattle.gd_seats.proofs.session.slice_in.Goals as goal
 
-pub returns-in-Ok-Unfinished-clause-slices : goal.returns-in-Ok-Unfinished-clause-slices
-returns-in-Ok-Unfinished-clause-slices g c =
+pub returns-in-Ok-clause-slices : goal.returns-in-Ok-clause-slices
+returns-in-Ok-clause-slices g c =
+    let old = c.session.inside.seat in
     let seat = c.leave-seat.result in
-    rw c.holding-session.ensures (
-      subst (λ s. HasEntered s.seat seat) c.session.view_is (has_entered c.session.inside.seat seat c.in-Ok.entered c.in-Ok.ensures c.leave-seat.ensures),
-      ap Some c.slice_over-sliced.ensures.same ∙ (sym (ap (option_map reading_view) c.unwrap-reading.ensures) ∙ ap reads c.session.view_is),
-    )
+    subst (λ (s : SessionValue). SlicesAs s (record { seat = seat; held = c.slice-sliced.new.self.reading }) c.args.slicing.line c.answer_of.result) c.session.view_is
+    (slices_in old seat c.store.result.now c.session.inside.state c.slice-sliced.new.self c.args.slicing.line c.slice-sliced.result c.answer_of.result c.session.invariant (c.store.ensures ∙ sym (ap (λ s. s.entered) c.leave-seat.ensures))
+    (has_entered old seat c.in-Ok.entered c.in-Ok.ensures c.leave-seat.ensures) c.slice-sliced.ensures.slices c.answer_of.ensures.ok c.answer_of.ensures.err)
 
-pub returns-in-Ok-Reply-clause-slices : goal.returns-in-Ok-Reply-clause-slices
-returns-in-Ok-Reply-clause-slices g c =
+pub returns-in-Ok-clause-less : goal.returns-in-Ok-clause-less
+returns-in-Ok-clause-less g c = λ n past.
+    let old = c.session.inside.seat in
     let seat = c.leave-seat.result in
+    subst (λ (s : SessionValue). c.slice-sliced.new.steps + left_of n (record { seat = seat; held = c.slice-sliced.new.self.reading }) ≤ c.args.slicing.steps + left_of n s) c.session.view_is
+    (less_in n old seat c.store.result.now c.session.inside.state c.slice-sliced.new.self c.args.slicing.steps c.slice-sliced.new.steps c.session.invariant (c.store.ensures ∙ sym (ap (λ s. s.entered) c.leave-seat.ensures))
+    (subst (λ (l : List Batch). IsPrefix old.entered l) (sym c.store.ensures) c.in-Ok.ensures.2) (c.slice-sliced.ensures.less n past))
+
+pub slice-sliced-requires-clause-going : goal.slice-sliced-requires-clause-going
+slice-sliced-requires-clause-going g c =
     let old = c.session.inside.seat.entered in
-    let reading = c.unwrap-reading.result in
-    let going : GoesOn old reading = subst (λ held. HoldsGoing old held) c.unwrap-reading.ensures c.session.invariant in
-    rw c.ended-session.ensures (
-      subst (λ s. HasEntered s.seat seat) c.session.view_is (has_entered c.session.inside.seat seat c.in-Ok.entered c.in-Ok.ensures c.leave-seat.ensures),
-      has_replied c.args.session seat c.store.result.now reading c.args.slicing.line c.in-Ok-Reply.bytes.items (sym (ap (λ s. s.held) c.session.view_is) ∙ c.unwrap-reading.ensures)
-          (subst (λ s. GoesOn s.seat.entered reading) c.session.view_is going) (c.store.ensures ∙ sym (ap (λ s. s.entered) c.leave-seat.ensures))
-          (subst (λ p. Replies (core.owed_line c.store.result.now c.args.slicing.line (reading_view reading)) p) c.in-Ok-Reply.field-0-is c.in-Ok-Reply.ensures.reply),
-    )
+    holds_later c.session.inside.state old c.store.result.now (subst (λ (l : List Batch). IsPrefix old l) (sym c.store.ensures) c.in-Ok.ensures.2) c.session.invariant
 
-pub returns-in-Err-sliced-clause-slices : goal.returns-in-Err-sliced-clause-slices
-returns-in-Err-sliced-clause-slices g c =
-    let seat = c.leave-seat.result in
-    rw c.ended.ensures (
-      subst (λ s. HasEntered s.seat seat) c.session.view_is (has_entered c.session.inside.seat seat c.in-Ok.entered c.in-Ok.ensures c.leave-seat.ensures),
-      refl,
-      c.from.ensures,
-    )
-
-pub slice_over-sliced-requires-clause-going : goal.slice_over-sliced-requires-clause-going
-slice_over-sliced-requires-clause-going g c =
+pub invariant_of-result : goal.invariant_of-result
+invariant_of-result g c =
     let old = c.session.inside.seat.entered in
-    let reading = c.unwrap-reading.result in
-    let going : GoesOn old reading = subst (λ held. HoldsGoing old held) c.unwrap-reading.ensures c.session.invariant in
-    goes_later reading old c.store.result.now (subst (λ l. IsPrefix old l) (sym c.store.ensures) c.in-Ok.ensures.2) going
+    let going = holds_later c.session.inside.state old c.store.result.now (subst (λ (l : List Batch). IsPrefix old l) (sym c.store.ensures) c.in-Ok.ensures.2) c.session.invariant in
+    subst (λ (l : List Batch). HoldsGoing l (length l) c.slice-sliced.new.self) (c.store.ensures ∙ sym (ap (λ s. s.entered) c.leave-seat.ensures)) (c.slice-sliced.ensures.still (length c.store.result.now) going)
