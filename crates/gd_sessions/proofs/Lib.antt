@@ -1,5 +1,4 @@
 pub mod Steps
-pub mod Fronts
 pub mod Begun
 pub mod Growing
 pub mod Table

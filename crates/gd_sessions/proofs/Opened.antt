@@ -13,7 +13,7 @@ use Rattle.gd_writer.specs.Parts.{Tells}
 use Rattle.gd_writer.specs.Side.{SideValue, state_of, KeepsAll, Begins}
 use Rattle.gd_sessions.specs.declared.held.Held.{Held}
 use Rattle.gd_sessions.specs.Sessions.{new_session}
-use Rattle.gd_sessions.specs.Held.{session_view, sessions_of, HoldsGoing}
+use Rattle.gd_sessions.specs.Held.{session_view, sessions_of, IsGoingOn}
 use Rattle.gd_sessions.specs.Running.{RunningValue, core_state, Answers}
 use Rattle.gd_sessions.specs.Opened.{IsNew}
 use Rattle.gd_sessions.proofs.Table.{all_weaker}
@@ -28,11 +28,11 @@ new_at (h ∷ hs) (suc i) all = new_at hs i all.1
 pub new_sessions : (hs : List Held) → AllByRecursion IsNew hs → sessions_of hs ≡ (λ i. new_session)
 new_sessions hs all = λ k i. new_at hs i all k
 
-pub new_going : (bs : List Batch) (shown : ℕ) (hs : List Held) → AllByRecursion IsNew hs → AllByRecursion (HoldsGoing bs shown) hs
-new_going bs shown hs all = all_weaker IsNew (HoldsGoing bs shown) (λ h is. subst (HoldsGoing bs shown) (sym is) tt) hs all
+pub new_going : (bs : List Batch) (shown : ℕ) (hs : List Held) → AllByRecursion IsNew hs → AllByRecursion (IsGoingOn bs shown) hs
+new_going bs shown hs all = all_weaker IsNew (IsGoingOn bs shown) (λ h is. subst (IsGoingOn bs shown) (sym is) tt) hs all
 
 -- one more
-pub one_more_new : (hs more : List Held) (h : Held) → more ≡ hs ++ h ∷ [] → h ≡ record { seen = 0; reading = None } → AllByRecursion IsNew hs → AllByRecursion IsNew more
+pub one_more_new : (hs more : List Held) (h : Held) → more ≡ hs ++ h ∷ [] → h ≡ record { seen = 0; state = record { reading = None } } → AllByRecursion IsNew hs → AllByRecursion IsNew more
 one_more_new hs more h is new all = subst (AllByRecursion IsNew) (sym is) (push hs all)
   where
     push : (xs : List Held) → AllByRecursion IsNew xs → AllByRecursion IsNew (xs ++ h ∷ [])

@@ -1,5 +1,5 @@
 -- What an event of a session does to a core.
-use Rattle.std.proofs.Common.{◌≡◌, ℕ, ◌<◌, ◌≤◌, List, [], length, Bool, true, None, Result, Ok, Err, IfOk, OnErr, ◌⊎◌, inl, inr, ⊎_elim, refl, sym, ap, subst, ◌∙◌, arith}
+use Rattle.std.proofs.Common.{◌≡◌, ◌≢◌, ℕ, ◌+◌, ◌-◌, ◌^◌, ◌<◌, ◌≤◌, min, List, [], length, Bool, true, None, Result, Ok, Err, IfOk, OnErr, ◌⊎◌, inl, inr, ⊎_elim, refl, sym, ap, subst, ◌∙◌, arith}
 use Rattle.std.specs.Prelude.{get_or, set}
 use Rattle.std.specs.Global.{Vec}
 use Rattle.gd_base.specs.Counts.{Rose}
@@ -20,18 +20,20 @@ use Rattle.gd_replay_laws.proofs.Faults.{quiet_counted}
 use Rattle.gd_core_laws.proofs.Laws.{kept_writes_are_steps}
 use Rattle.gd_writer.specs.Side.{SideValue, state_of}
 use Rattle.gd_sessions.specs.declared.held.Held.{Held}
-use Rattle.gd_sessions.specs.Sessions.{in_session, BeginsAs, SlicesAs, LearnsAs}
-use Rattle.gd_sessions.specs.Held.{session_view, sessions_of, HoldsGoing}
+use Rattle.gd_read.specs.Left.{IsPastIds}
+use Rattle.gd_read.specs.Session.{reads, session_left}
+use Rattle.gd_sessions.specs.Sessions.{new_session, in_session, BeginsAs, SlicesAs, LearnsAs}
+use Rattle.gd_sessions.specs.Held.{session_view, sessions_of, IsGoingOn}
 use Rattle.gd_sessions.specs.Writes.{IsToldKept, WritesFor}
-use Rattle.gd_sessions.specs.Running.{IsRunning, Answers}
+use Rattle.gd_sessions.specs.Running.{IsRunning, IsSliced, Answers}
 use Rattle.gd_sessions.proofs.Steps.{session_stays, begin_step, slice_step, learn_step}
 use Rattle.gd_sessions.proofs.Growing.{write_grows}
-use Rattle.gd_sessions.proofs.Table.{state_set, all_at, all_set, all_weaker, going_more}
-use Rattle.gd_sessions.proofs.Told.{at_session, told_state}
+use Rattle.gd_sessions.proofs.Table.{state_set, mapped_at, mapped_set, all_at, all_set, all_weaker, going_more}
+use Rattle.gd_sessions.proofs.Told.{told_state}
 
--- a session that holds the same reading
-same_reading : (bs : List Batch) (shown : ℕ) (before after : Held) → after.reading ≡ before.reading → HoldsGoing bs shown before → HoldsGoing bs shown after
-same_reading bs shown before after same holds = rw same holds
+-- a session that holds the same
+same_state : (bs : List Batch) (shown : ℕ) (before after : Held) → after.state ≡ before.state → IsGoingOn bs shown before → IsGoingOn bs shown after
+same_state bs shown before after same holds = rw same holds
 
 -- the reply to a write tells a failure of the disk only where one is kept
 kept_counted : (k : ℕ) (kept : Kept) (before after : ℕ) → (is_fault kept ≡ true → Rose before after) → IsCounted k (kept_reply k kept) before after
@@ -51,7 +53,7 @@ module _ {D C : Type 0} (side : SideValue D C) (hs : List Held) (i : ℕ) (befor
 
   -- the session stays, and so does the state
   pub run_stays : session_view after ≡ session_view before → new_state ≡ old_state
-  run_stays same = state_set side hs i after lt ∙ session_stays old_state i (session_view after) (same ∙ at_session hs i before lt is)
+  run_stays same = state_set side hs i after lt ∙ session_stays old_state i (session_view after) (same ∙ mapped_at session_view hs i before new_session lt is)
 
   -- or it has entered, and holds nothing
   pub run_ends : session_view after ≡ in_session (length side.shown) None → new_state ≡ entered old_state i None
@@ -62,12 +64,12 @@ module _ {D C : Type 0} (side : SideValue D C) (hs : List Held) (i : ℕ) (befor
 
   pub run_slices : (members : MembersOf) (k : ℕ) (line : List ℕ) → SlicesAs (batches side.history) (length side.shown) k (session_view before) line (session_view after) → SliceStep members old_state k i line new_state
   run_slices members k line slices =
-      let at_i = subst (λ (x : Session). SlicesAs (batches side.history) (length side.shown) k x line (session_view after)) (at_session hs i before lt is) slices in
+      let at_i = subst (λ (x : Session). SlicesAs (batches side.history) (length side.shown) k x line (session_view after)) (mapped_at session_view hs i before new_session lt is) slices in
       slice_step members old_state new_state k i line (session_view after) at_i (state_set side hs i after lt)
 
   pub run_learns : (k m : ℕ) (line : List ℕ) → LearnsAs (length side.shown) k m (session_view before) line (session_view after) → LearnStep old_state k i m line new_state
   run_learns k m line learns =
-      let at_i = subst (λ (x : Session). LearnsAs (length side.shown) k m x line (session_view after)) (at_session hs i before lt is) learns in
+      let at_i = subst (λ (x : Session). LearnsAs (length side.shown) k m x line (session_view after)) (mapped_at session_view hs i before new_session lt is) learns in
       learn_step old_state new_state k i m line (session_view after) at_i (state_set side hs i after lt)
 
   -- the same, of the reply of a call
@@ -94,44 +96,57 @@ module _ {D C : Type 0} (side : SideValue D C) (hs : List Held) (i : ℕ) (befor
   learns_ok shown k m (Ok bytes) count told = run_learns k m bytes.items (subst (λ (n : ℕ). LearnsAs n k m (session_view before) bytes.items (session_view after)) count told)
   learns_ok shown k m (Err e) count told = tt
 
-  -- what the core keeps
-  pub run_held : IsRunning side hs → HoldsGoing (batches side.history) (length side.shown) before
-  run_held keeps = subst (HoldsGoing (batches side.history) (length side.shown)) (sym is) (all_at (HoldsGoing (batches side.history) (length side.shown)) hs i before keeps.going lt)
+  -- a slice: what it took, and what is left
+  pub run_sliced : (budget s u : ℕ) → (reads after.state ≢ None → min (s + budget) (2 ^ 64 - 1) ≤ u) → u ≤ s + budget + 1024
+      → ((n : ℕ) → IsPastIds n → u + session_left n (batches side.history) after.state ≤ s + session_left n (batches side.history) before.state)
+      → IsSliced i budget (record { side = side; held = hs }) (record { side = side; held = set hs i after }) s u
+  run_sliced budget s u reached work less = record {
+    reached = λ holds. reached (subst (λ (x : Session). x.reading ≢ None) (mapped_set session_view hs i after new_session lt) holds);
+    work = work;
+    less = λ n most. by _ _ _ _ (mapped_at (λ (h : Held). session_left n (batches side.history) h.state) hs i before 0 lt is) (mapped_set (λ (h : Held). session_left n (batches side.history) h.state) hs i after 0 lt) (less n most);
+  }
+    where
+      by : (a b c d : ℕ) → a ≡ b → d ≡ c → u + c ≤ s + a → u + d ≤ s + b
+      by a b c d first second third = omega (arith, first, second, third)
 
-  pub run_keeps : IsRunning side hs → HoldsGoing (batches side.history) (length side.shown) after → IsRunning side (set hs i after)
+  -- what the core keeps
+  pub run_held : IsRunning side hs → IsGoingOn (batches side.history) (length side.shown) before
+  run_held keeps = subst (IsGoingOn (batches side.history) (length side.shown)) (sym is) (all_at (IsGoingOn (batches side.history) (length side.shown)) hs i before keeps.going lt)
+
+  pub run_keeps : IsRunning side hs → IsGoingOn (batches side.history) (length side.shown) after → IsRunning side (set hs i after)
   run_keeps keeps holds = record {
     many = length-set hs i after ∙ keeps.many;
     outcomes = keeps.outcomes;
-    going = all_set (HoldsGoing (batches side.history) (length side.shown)) hs i after keeps.going holds;
+    going = all_set (IsGoingOn (batches side.history) (length side.shown)) hs i after keeps.going holds;
   }
 
   -- a write: the side is another one, and the session was told
   pub run_writes : (new : SideValue D C) (may : ℕ → Bool) (k bytes : ℕ) (w : WriteRequest) (kept : Kept) → ((sessions : ℕ → Session) → WriteKeeps may (state_of side sessions) k bytes w kept (state_of new sessions))
       → IsToldKept kept (length new.shown) before after → WriteStep may old_state k bytes i w (kept_reply k kept) (state_of new (sessions_of (set hs i after)))
   run_writes new may k bytes w kept step told =
-      subst (λ (t : State). WriteStep may old_state k bytes i w (kept_reply k kept) t) (told_state new hs i before after kept lt (at_session hs i before lt is) told)
+      subst (λ (t : State). WriteStep may old_state k bytes i w (kept_reply k kept) t) (told_state new hs i before after kept lt (mapped_at session_view hs i before new_session lt is) told)
       (kept_writes_are_steps may old_state k bytes i w kept (state_of new (sessions_of hs)) (step (sessions_of hs)))
 
-  told_reading : (kept : Kept) (shown : ℕ) → IsToldKept kept shown before after → after.reading ≡ before.reading
-  told_reading (kept_stored e r) shown told = ap (λ (h : Held). h.reading) told
-  told_reading (kept_late e) shown told = ap (λ (h : Held). h.reading) told
-  told_reading (kept_refused f n) shown told = ap (λ (h : Held). h.reading) told
-  told_reading (kept_doubt n) shown told = ap (λ (h : Held). h.reading) told
-  told_reading kept_unsettled shown told = ap (λ (h : Held). h.reading) told
-  told_reading kept_memory shown told = ap (λ (h : Held). h.reading) told
+  told_held : (kept : Kept) (shown : ℕ) → IsToldKept kept shown before after → after.state ≡ before.state
+  told_held (kept_stored e r) shown told = ap (λ (h : Held). h.state) told
+  told_held (kept_late e) shown told = ap (λ (h : Held). h.state) told
+  told_held (kept_refused f n) shown told = ap (λ (h : Held). h.state) told
+  told_held (kept_doubt n) shown told = ap (λ (h : Held). h.state) told
+  told_held kept_unsettled shown told = ap (λ (h : Held). h.state) told
+  told_held kept_memory shown told = ap (λ (h : Held). h.state) told
 
   pub run_written : (new : SideValue D C) (may : ℕ → Bool) (k bytes : ℕ) (w : WriteRequest) (kept : Kept) → length side.shown ≤ length (batches side.history) → IsRunning side hs
       → ((sessions : ℕ → Session) → WriteKeeps may (state_of side sessions) k bytes w kept (state_of new sessions)) → IsToldKept kept (length new.shown) before after → new.outcomes ≡ [] → IsRunning new (set hs i after)
   run_written new may k bytes w kept within keeps step told none =
       let grows = write_grows may old_state (state_of new (sessions_of hs)) k bytes w kept (let long = length_batches side.history in omega (arith, long, within)) (step (sessions_of hs)) in
-      let weaker : (h : Held) → HoldsGoing (batches side.history) (length side.shown) h → HoldsGoing (batches new.history) (length new.shown) h =
-      λ h holds. subst (λ (bs : List Batch). HoldsGoing bs (length new.shown) h) (sym grows.batches) (going_more (batches side.history) grows.more (length side.shown) (length new.shown) h within grows.shown holds) in
+      let weaker : (h : Held) → IsGoingOn (batches side.history) (length side.shown) h → IsGoingOn (batches new.history) (length new.shown) h =
+      λ h holds. subst (λ (bs : List Batch). IsGoingOn bs (length new.shown) h) (sym grows.batches) (going_more (batches side.history) grows.more (length side.shown) (length new.shown) h within grows.shown holds) in
       let held = weaker before (run_held keeps) in
       record {
         many = length-set hs i after ∙ keeps.many;
         outcomes = none;
-        going = all_set (HoldsGoing (batches new.history) (length new.shown)) hs i after (all_weaker (HoldsGoing (batches side.history) (length side.shown)) (HoldsGoing (batches new.history) (length new.shown)) weaker hs keeps.going)
-            (same_reading (batches new.history) (length new.shown) before after (told_reading kept (length new.shown) told) held);
+        going = all_set (IsGoingOn (batches new.history) (length new.shown)) hs i after (all_weaker (IsGoingOn (batches side.history) (length side.shown)) (IsGoingOn (batches new.history) (length new.shown)) weaker hs keeps.going)
+            (same_state (batches new.history) (length new.shown) before after (told_held kept (length new.shown) told) held);
       }
 
   pub writes_ok : (new : SideValue D C) (may : ℕ → Bool) (faults : D → ℕ) (k bytes : ℕ) (w : WriteRequest) (result : Result (Vec ℕ) Memory) → WritesFor may faults side k bytes w new before after result

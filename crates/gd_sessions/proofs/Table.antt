@@ -1,17 +1,30 @@
 -- The sessions of a core, by their numbers.
-use Rattle.std.proofs.Common.{◌≡◌, ℕ, zero, suc, ◌<◌, ◌≤◌, List, [], ◌∷◌, ◌++◌, length, map, Bool, true, false, Option, Some, None, ◌==◌, refl, sym, ap, subst, ◌∙◌, arith}
+use Rattle.std.proofs.Common.{◌≡◌, ℕ, zero, suc, ◌<◌, ◌≤◌, List, [], ◌∷◌, ◌++◌, length, map, Bool, true, false, ◌==◌, refl, ap, subst, ◌∙◌, arith}
 use Rattle.std.specs.Prelude.{if◌then◌else◌, get_or, set}
 use Rattle.std.specs.List.{AllByRecursion}
 use Rattle.std.proofs.lemmas.Bool.{eqb-true}
-use Rattle.std.proofs.lemmas.List.{map-set, get_or-set_same, get_or-set_other, length-map, take-append-le}
+use Rattle.std.proofs.lemmas.List.{map-set, get_or-set_same, get_or-set_other, length-map}
 use Rattle.gd_prim.specs.declared.Batch.{Batch}
 use Rattle.gd_runs.specs.Core.{Session, with_session}
-use Rattle.gd_read.specs.Reading.{reading_view, IsGoing}
-use Rattle.gd_read.specs.declared.reading.Reading.{Reading}
+use Rattle.gd_read.proofs.States.{holds_more}
 use Rattle.gd_sessions.specs.Sessions.{new_session}
 use Rattle.gd_sessions.specs.declared.held.Held.{Held}
-use Rattle.gd_sessions.specs.Held.{session_view, sessions_of, HoldsGoing}
+use Rattle.gd_sessions.specs.Held.{session_view, sessions_of, IsGoingOn}
 use Rattle.gd_writer.specs.Side.{SideValue, state_of}
+
+-- ---- what is said of one session
+
+-- that of the session of a number
+pub mapped_at : {X Y : Type 0} (f : X → Y) (xs : List X) (i : ℕ) (x : X) (d : Y) → i < length xs → x ≡ get_or xs i x → f x ≡ get_or (map f xs) i d
+mapped_at f [] i x d lt is = absurd (omega arith)
+mapped_at f (y ∷ ys) zero x d lt is = ap f is
+mapped_at f (y ∷ ys) (suc i) x d lt is = mapped_at f ys i x d (omega arith) is
+
+-- and where that session is another one
+pub mapped_set : {X Y : Type 0} (f : X → Y) (xs : List X) (i : ℕ) (x : X) (d : Y) → i < length xs → get_or (map f (set xs i x)) i d ≡ f x
+mapped_set f [] i x d lt = absurd (omega arith)
+mapped_set f (y ∷ ys) zero x d lt = refl
+mapped_set f (y ∷ ys) (suc i) x d lt = mapped_set f ys i x d (omega arith)
 
 -- ---- one session anew
 
@@ -52,11 +65,5 @@ all_weaker P Q weaker [] all = tt
 all_weaker P Q weaker (x ∷ xs) all = (weaker x all.0, all_weaker P Q weaker xs all.1)
 
 -- a reading goes on over more batches, of which no fewer are shown
-pub going_more : (bs more : List Batch) (shown most : ℕ) (h : Held) → shown ≤ length bs → shown ≤ most → HoldsGoing bs shown h → HoldsGoing (bs ++ more) most h
-going_more bs more shown most h long less holds = by h.reading refl
-  where
-    by : (r : Option Reading) → h.reading ≡ r → HoldsGoing (bs ++ more) most h
-    by None is = rw is tt
-    by (Some r) is =
-        let old = rw is at holds in
-        rw is (omega (arith, old.0, less), subst (λ (front : List Batch). IsGoing front r) (sym (take-append-le (reading_view r).dateline bs more (omega (arith, old.0, long)))) old.1)
+pub going_more : (bs more : List Batch) (shown most : ℕ) (h : Held) → shown ≤ length bs → shown ≤ most → IsGoingOn bs shown h → IsGoingOn (bs ++ more) most h
+going_more bs more shown most h = holds_more bs more shown most h.state

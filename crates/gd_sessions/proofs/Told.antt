@@ -1,6 +1,6 @@
 -- A session that was told what is kept of its write.
-use Rattle.std.proofs.Common.{◌≡◌, ℕ, zero, suc, ◌+◌, ◌<◌, List, [], ◌∷◌, length, sym, ap, ◌∙◌, arith}
-use Rattle.std.specs.Prelude.{get_or, set, min, max}
+use Rattle.std.proofs.Common.{◌≡◌, ℕ, ◌+◌, ◌<◌, List, length, sym, ap, ◌∙◌}
+use Rattle.std.specs.Prelude.{set, min, max}
 use Rattle.gd_runs.specs.Core.{Session, with_session}
 use Rattle.gd_runs.specs.Side.{Kept, kept_stored, kept_late, kept_refused, kept_doubt, kept_unsettled, kept_memory}
 use Rattle.gd_core_laws.specs.Writes.{after_kept}
@@ -10,12 +10,6 @@ use Rattle.gd_sessions.specs.Held.{session_view, sessions_of}
 use Rattle.gd_sessions.specs.Writes.{IsToldKept}
 use Rattle.gd_sessions.proofs.Steps.{session_stays}
 use Rattle.gd_sessions.proofs.Table.{state_set}
-
--- the session that stands at a number
-pub at_session : (hs : List Held) (i : ℕ) (h : Held) → i < length hs → h ≡ get_or hs i h → session_view h ≡ sessions_of hs i
-at_session [] i h lt is = absurd (omega arith)
-at_session (x ∷ xs) zero h lt is = ap session_view is
-at_session (x ∷ xs) (suc i) h lt is = at_session xs i h (omega arith) is
 
 stays : {D C : Type 0} (side : SideValue D C) (hs : List Held) (i : ℕ) (before after : Held) → i < length hs → session_view before ≡ sessions_of hs i → after ≡ before
     → state_of side (sessions_of hs) ≡ state_of side (sessions_of (set hs i after))

@@ -7,7 +7,7 @@ use Rattle.gd_sessions.specs.declared.held.Held.{Held}
 
 -- a session that has seen nothing, and holds nothing
 abbrev pub IsNew : Held → Type 0
-IsNew h = h ≡ record { seen = 0; reading = None }
+IsNew h = h ≡ record { seen = 0; state = record { reading = None } }
 
 -- A store was opened over a disk, or was not: the disk goes on to tell its content, what a stop leaves means what it might have meant before, the file is kept, and the disk's count does not fall.
 pub record Opens {D : Type 0} (content : D → Option (List ℕ)) (moment : D → ℕ) (images : D → List ℕ → Type 0) (images_since : D → ℕ → List ℕ → Type 0) (faults : D → ℕ) (old new : D) : Type 0 where

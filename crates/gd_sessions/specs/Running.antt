@@ -1,5 +1,5 @@
 -- What contracts see of a core that is open, and what it keeps.
-use Rattle.std.specs.Prelude.{◌≡◌, ℕ, ◌<◌, ◌≤◌, List, [], length, Option, Result, Ok, Err, MatchResult, IfOk}
+use Rattle.std.specs.Prelude.{◌≡◌, ◌≢◌, ℕ, ◌+◌, ◌-◌, ◌^◌, ◌<◌, ◌≤◌, min, List, [], length, Option, None, Result, Ok, Err, MatchResult, IfOk}
 use Rattle.std.specs.List.{AllByRecursion}
 use Rattle.std.specs.Global.{Vec}
 use Rattle.gd_base.specs.declared.memory.Memory.{Memory}
@@ -8,9 +8,10 @@ use Rattle.gd_runs.specs.Explained.{memory_line}
 use Rattle.gd_runs.specs.Core.{State, Event, begin, slice, write, learn, freeze, thaw, reopen}
 use Rattle.gd_bytes.specs.File.{MayStandFor}
 use Rattle.gd_runs.specs.Side.{IsFresh, doubt_groups}
+use Rattle.gd_read.specs.Left.{IsPastIds}
 use Rattle.gd_writer.specs.Side.{SideValue, state_of}
 use Rattle.gd_sessions.specs.declared.held.Held.{Held}
-use Rattle.gd_sessions.specs.Held.{sessions_of, HoldsGoing}
+use Rattle.gd_sessions.specs.Held.{sessions_of, IsGoingOn, left_at}
 
 -- the write side, and the sessions in the order of their numbers
 pub record RunningValue (D C : Type 0) : Type 0 where
@@ -29,7 +30,7 @@ StandsForState s file = MayStandFor (batches s.history) (doubt_groups s.doubt) f
 pub record IsRunning {D C : Type 0} (side : SideValue D C) (held : List Held) : Type 0 where
   pub many : length held ≡ 64
   pub outcomes : side.outcomes ≡ []
-  pub going : AllByRecursion (HoldsGoing (batches side.history) (length side.shown)) held
+  pub going : AllByRecursion (IsGoingOn (batches side.history) (length side.shown)) held
 
 -- a reply that is so, or no memory for one that is due
 abbrev pub Answers : (List ℕ → Type 0) → Result (Vec ℕ) Memory → Type 0
@@ -54,3 +55,16 @@ MayTake h doubt k reopen = Unit {0}
 abbrev pub GoesBy : Event → Type 0
 GoesBy reopen = ⊥
 GoesBy _ = Unit {0}
+
+-- ---- how far a slice goes
+
+-- a session has gone on with its reading for a budget: where it holds one still, the steps reach the budget, or their count stands at its end; they are at most 1,024 more than the budget; and what is left of the reading fell by at least the steps. `n` is a number that no id reaches
+pub record IsSliced {D C : Type 0} (i budget : ℕ) (old new : RunningValue D C) (steps steps_now : ℕ) : Type 0 where
+  pub reached : ((core_state new).sessions i).reading ≢ None → min (steps + budget) (2 ^ 64 - 1) ≤ steps_now
+  pub work : steps_now ≤ steps + budget + 1024
+  pub less : (n : ℕ) → IsPastIds n → steps_now + left_at n (batches new.side.history) new.held i ≤ steps + left_at n (batches old.side.history) old.held i
+
+-- so it is with an event that is a slice
+abbrev pub SlicesBy : {D C : Type 0} → Event → RunningValue D C → RunningValue D C → ℕ → ℕ → Type 0
+SlicesBy (slice i budget) old new steps steps_now = IsSliced i budget old new steps steps_now
+SlicesBy _ old new steps steps_now = Unit {0}

@@ -17,7 +17,7 @@ IsShown shown _ = Unit {0}
 
 -- a session is told what is kept of its write: it has seen an entry that is shown
 abbrev pub IsToldKept : Kept → ℕ → Held → Held → Type 0
-IsToldKept (kept_stored e r) shown old new = new ≡ record { seen = min shown (max (e + 1) old.seen); reading = old.reading }
+IsToldKept (kept_stored e r) shown old new = new ≡ record { seen = min shown (max (e + 1) old.seen); state = old.state }
 IsToldKept _ shown old new = new ≡ old
 
 -- a write of line k of so many bytes is carried out and its session is told, and the reply is the one to what was kept

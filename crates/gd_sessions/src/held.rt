@@ -1,52 +1,58 @@
 //! A session of the core.
-ghost use Rattle.std.specs.Prelude.{◌≡◌, ◌+◌, ◌<◌, ◌≤◌, ◌^◌, ◌⊎◌, length, max, min, None, IfOk, OnErr};
+ghost use Rattle.std.specs.Prelude.{◌≡◌, ◌≢◌, ◌+◌, ◌-◌, ◌<◌, ◌≤◌, ◌^◌, ◌⊎◌, ℕ, length, max, min, None, IfOk, IfSome, OnErr};
 ghost use Rattle.gd_mql.specs.Requests.{read_view};
+ghost use Rattle.gd_runs.specs.Core as core;
+ghost use Rattle.gd_read.specs.Left.{IsPastIds};
+ghost use Rattle.gd_read.specs.Session.{reads, session_left};
 ghost use Rattle.gd_sessions.specs.Sessions.{in_session, BeginsAs, SlicesAs, LearnsAs};
-ghost use Rattle.gd_sessions.specs.Held.{session_view, HoldsGoing};
+ghost use Rattle.gd_sessions.specs.Held.{session_view, IsGoingOn};
 
 use crate::lines::{no_reading_line, said};
 use gd_base::memory::Memory;
 use gd_base::steps::Steps;
 use gd_mql::request::ReadRequest;
+use gd_read::reading::Progress;
+use gd_read::session::SessionState;
 use gd_reply::lines::err_line;
 use gd_reply::refusal::Refusal;
 use gd_store::store::Store;
-use gd_read::fault::ReadFault;
-use gd_read::reading::{Progress, Reading};
 use std::alloc::Global;
 
-/// A session: how much it has seen, and the reading that it holds.
+/// A session: how much it has seen, and what it holds of its reading.
 #[derive(Drop)]
 pub(crate) struct Held {
     pub(crate) seen: u32,
-    pub(crate) reading: Option<Reading>,
+    pub(crate) state: SessionState,
+}
+
+/// The reply line that says with this word at which dateline a reading is that is held.
+fn said_of(alloc: Global, state: &SessionState, line: u64, word: &str) -> Result<Vec<u8>, Memory>
+    requires held { reads state.now ≢ None }
+    ensures { IfOk result (λ bytes. IfSome (reads state.now) (λ r. bytes.items ≡ core.said r.dateline line word.now)) }
+{
+    match state.dateline() {
+        Some(dateline) => said(alloc, dateline, line, word),
+        None => unreachable!(),
+    }
 }
 
 impl Held {
     /// A session that has seen nothing, and holds nothing.
     pub(crate) fn new() -> Held
-        ensures { result ≡ record { seen = 0; reading = None } }
+        ensures { result ≡ record { seen = 0; state = record { reading = None } } }
     {
         Held {
             seen: 0,
-            reading: None,
+            state: SessionState::none(),
         }
     }
 
-    /// The session has entered where so much is shown, and holds this reading.
-    fn enter(&mut self, shown: u32, reading: Option<Reading>)
-        ensures { self.new ≡ record { seen = shown; reading = reading } }
+    /// The session has entered where so much is shown, and holds this.
+    fn enter(&mut self, shown: u32, state: SessionState)
+        ensures { self.new ≡ record { seen = shown; state = state } }
     {
         self.seen = shown;
-        self.reading = reading;
-    }
-
-    /// The session has entered where so much is shown, and its reading has ended.
-    fn finish(&mut self, shown: u32)
-        ensures { self.new ≡ record { seen = shown; reading = None } }
-    {
-        self.seen = shown;
-        self.reading = None;
+        self.state = state;
     }
 
     /// Begins a read over the requests of the store that are shown, and tells so, or tells why it does not begin. What the
@@ -64,19 +70,18 @@ impl Held {
         requires shown { shown ≤ length store.now }
         ensures begins { IfOk result (λ reply. BeginsAs store.now shown line (read_view request) reply.items (session_view self.new)) }
         ensures err { OnErr result (self.new ≡ self.old) }
-        ensures held { HoldsGoing store.now shown self.old → HoldsGoing store.now shown self.new }
+        ensures held { IsGoingOn store.now shown self.old → IsGoingOn store.now shown self.new }
         ensures later { steps.old ≤ steps.new }
     {
-        let view = store.view(shown);
-        match Reading::begin(alloc, &view, request, steps) {
-            Ok(reading) => {
-                let reply = said(alloc, reading.dateline(), line, "begun")?;
-                self.enter(shown, Some(reading));
+        match SessionState::begin(alloc, store, shown, request, steps) {
+            Ok(state) => {
+                let reply = said_of(alloc, &state, line, "begun")?;
+                self.enter(shown, state);
                 Ok(reply)
             }
             Err(fault) => {
                 let reply = fault.line(alloc, shown, line)?;
-                self.enter(shown, None);
+                self.enter(shown, SessionState::none());
                 Ok(reply)
             }
         }
@@ -97,21 +102,23 @@ impl Held {
         requires line { line < 2 ^ 63 }
         requires shown { shown ≤ length store.now }
         requires budget { 0 < budget }
-        requires held { HoldsGoing store.now shown self.old }
+        requires held { IsGoingOn store.now shown self.old }
         ensures slices { IfOk result (λ reply. SlicesAs store.now shown line (session_view self.old) reply.items (session_view self.new)) }
         ensures err { OnErr result ((session_view self.new ≡ session_view self.old) ⊎ (session_view self.new ≡ in_session shown None)) }
-        ensures held { HoldsGoing store.now shown self.new }
+        ensures held { IsGoingOn store.now shown self.new }
+
+        // A reading is held still only where the budget was reached.
+        ensures reached { reads self.new.state ≢ None → min (steps.old + budget) (2 ^ 64 - 1) ≤ steps.new }
+        ensures less { (n : ℕ) → IsPastIds n → steps.new + session_left n store.now self.new.state ≤ steps.old + session_left n store.now self.old.state }
         ensures work { steps.new ≤ steps.old + budget + 1024 }
         ensures later { steps.old ≤ steps.new }
     {
-        let Some(reading) = &mut self.reading else {
+        let Some(dateline) = self.state.dateline() else {
             return no_reading_line(alloc, line);
         };
-        let dateline = reading.dateline();
-        let view = store.view(dateline);
-        match reading.slice(alloc, &view, budget, line, steps) {
+        match self.state.slice(alloc, store, budget, line, steps) {
             Ok(Progress::Reply(bytes)) => {
-                self.finish(shown);
+                self.seen = shown;
                 Ok(bytes)
             }
             Ok(Progress::Unfinished) => {
@@ -119,16 +126,16 @@ impl Held {
                 self.seen = shown;
                 Ok(reply)
             }
-            Err(fault) => {
-                self.finish(shown);
-                Err(fault)
+            Err(refused) => {
+                self.seen = shown;
+                Err(refused)
             }
         }
     }
 
     /// Has seen at least this dateline, and at most what is shown.
     pub(crate) fn see(&mut self, shown: u32, dateline: u32)
-        ensures { self.new ≡ record { seen = min shown (max dateline self.old.seen); reading = self.old.reading } }
+        ensures { self.new ≡ record { seen = min shown (max dateline self.old.seen); state = self.old.state } }
     {
         self.seen = shown.min(dateline.max(self.seen));
     }
@@ -144,7 +151,7 @@ impl Held {
         requires line { line < 2 ^ 63 }
         ensures learns { IfOk result (λ reply. LearnsAs shown line dateline (session_view self.old) reply.items (session_view self.new)) }
         ensures err { OnErr result (self.new ≡ self.old) }
-        ensures reading { self.new.reading ≡ self.old.reading }
+        ensures state { self.new.state ≡ self.old.state }
     {
         if shown < dateline {
             let refusal = Refusal::CursorAhead {

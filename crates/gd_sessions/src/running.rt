@@ -19,7 +19,7 @@ ghost use Rattle.gd_sessions.specs.Opened.{IsNew, Opens};
 ghost use Rattle.gd_replay_laws.specs.Built.{Takes, IsUnbuilt};
 ghost use Rattle.gd_replay_laws.specs.Faults.{IsCounted};
 ghost use Rattle.gd_sessions.specs.Held.{session_view, sessions_of};
-ghost use Rattle.gd_sessions.specs.Running.{core_state, StandsForState, Answers, OrMemory, MayTake, GoesBy};
+ghost use Rattle.gd_sessions.specs.Running.{core_state, StandsForState, Answers, OrMemory, MayTake, GoesBy, IsSliced, SlicesBy};
 
 use crate::held::Held;
 use crate::lines::{memory_line, said, unbuilt_line};
@@ -257,7 +257,7 @@ impl<D: Disk, C: Clock> Running<D, C> {
         ensures step { IfOk result (λ reply. (members : MembersOf) → SliceStep members (core_state self.old) line sid reply.items (core_state self.new)) }
         ensures err { OnErr result ((core_state self.new ≡ core_state self.old) ⊎ (core_state self.new ≡ entered (core_state self.old) sid None)) }
         ensures side { self.new.side ≡ self.old.side }
-        ensures work { steps.new ≤ steps.old + budget + 1024 }
+        ensures sliced { IsSliced sid budget self.old self.new steps.old steps.new }
         ensures later { steps.old ≤ steps.new }
     {
         let shown = shown_of(&self.side);
@@ -344,7 +344,7 @@ impl<D: Disk, C: Clock> Running<D, C> {
         ensures takes { (members : MembersOf) (may : ℕ → Bool) (bytes : ℕ)
             → Answers (λ reply. Takes members may (core_state self.old) line bytes (core.slice sid budget) reply (core_state self.new)) result }
         ensures side { self.new.side ≡ self.old.side }
-        ensures work { steps.new ≤ steps.old + budget + 1024 }
+        ensures sliced { IsSliced sid budget self.old self.new steps.old steps.new }
         ensures later { steps.old ≤ steps.new }
     {
         let reply = self.try_slice(alloc, line, sid, budget, steps);
@@ -402,6 +402,9 @@ impl<D: Disk, C: Clock> Running<D, C> {
 
         // What the disk holds stays what the core has; a stop leaves what it had before or has after.
         ensures goes { GoesOn D.content D.moment D.images D.images_since D.faults C.may self.old.side self.new.side }
+
+        // A slice leaves a reading only where its budget was reached, and what is left of the reading falls by its steps.
+        ensures sliced { SlicesBy (event_view event) self.old self.new steps.old steps.new }
         ensures later { steps.old ≤ steps.new }
     {
         // It is said here what the write side keeps.

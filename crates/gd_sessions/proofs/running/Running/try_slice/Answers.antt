@@ -1,9 +1,11 @@
-use Rattle.std.proofs.Common.{◌<◌, length, subst, arith, IfOk}
+use Rattle.std.proofs.Common.{◌<◌, ◌≤◌, ◌+◌, List, length, subst, arith, IfOk}
 use Rattle.std.specs.Prelude.{set}
+use Rattle.gd_prim.specs.declared.Batch.{Batch}
 use Rattle.gd_runs.specs.Owed.{MembersOf}
 use Rattle.gd_runs.specs.Core.{SliceStep}
-use Rattle.gd_sessions.specs.Running.{RunningValue, core_state}
-use Rattle.gd_sessions.proofs.Ran.{slices_ok, slices_err}
+use Rattle.gd_read.specs.Session.{session_left}
+use Rattle.gd_sessions.specs.Running.{RunningValue, core_state, IsSliced}
+use Rattle.gd_sessions.proofs.Ran.{slices_ok, slices_err, run_sliced}
 use Rattle.gd_sessions.proofs.running.Running.try_slice.Goals as goal
 
 pub returns-clause-step : goal.returns-clause-step
@@ -20,3 +22,13 @@ returns-clause-err g c =
     let lt : c.args.sid < length hs = let many = c.self.invariant.many in let small = c.requires.sid in omega (arith, many, small) in
     rw (← c.self.view_is)
     (slices_err c.self.inside.side hs c.args.sid c.index_mut-held.result.now c.slice.new.self lt c.index_mut-held.ensures.value c.shown_of-shown.result c.slice.result c.shown_of-shown.ensures.count c.slice.ensures.err)
+
+pub returns-clause-sliced : goal.returns-clause-sliced
+returns-clause-sliced g c =
+    let hs = c.self.inside.held.items in
+    let lt : c.args.sid < length hs = let many = c.self.invariant.many in let small = c.requires.sid in omega (arith, many, small) in
+    let before = c.index_mut-held.result.now in
+    let after = c.slice.new.self in
+    subst (λ (r : RunningValue _ _). IsSliced c.args.sid c.args.budget r (record { side = c.self.inside.side; held = set hs c.args.sid after }) c.args.steps.now c.slice.new.steps) c.self.view_is
+    (run_sliced c.self.inside.side hs c.args.sid before after lt c.index_mut-held.ensures.value c.args.budget c.args.steps.now c.slice.new.steps c.slice.ensures.reached c.slice.ensures.work
+    (λ n past. subst (λ (bs : List Batch). c.slice.new.steps + session_left n bs after.state ≤ c.args.steps.now + session_left n bs before.state) c.store.ensures (c.slice.ensures.less n past)))
