@@ -5,3 +5,4 @@ pub mod Outcomes
 pub mod Parts
 pub mod Side
 pub mod Judged
+pub mod Opened

@@ -3,16 +3,16 @@ ghost use Rattle.std.specs.Prelude.{◌≡◌, ◌≤◌, ◌<◌, ◌^◌, [], 
 ghost use Rattle.std.specs.List.{All, AllByRecursion};
 ghost use Rattle.std.specs.Option.{ForSome, is_some};
 ghost use Rattle.gd_base.specs.Counts.{Rose};
-ghost use Rattle.gd_bytes.specs.Disk.{LeavesOnly};
 ghost use Rattle.gd_bytes.specs.File.{meaning, StandsFor};
 ghost use Rattle.gd_log.specs.State.{IsHeld};
 ghost use Rattle.gd_writer.specs.Parts.{Tells};
-ghost use Rattle.gd_log.specs.Opening.{MeansOneOf, Refuses, IsKept};
+ghost use Rattle.gd_log.specs.Opening.{Refuses};
 ghost use Rattle.gd_runs.specs.Legal.{batches, size};
 ghost use Rattle.gd_runs.specs.Side.{IsLeft, IsFresh};
 ghost use Rattle.gd_core_laws.specs.Bounds.{kept_of};
 ghost use Rattle.gd_mql.specs.Requests.{write_view};
 ghost use Rattle.gd_shared.specs.Shared.{IsNewSeat};
+ghost use Rattle.gd_writer.specs.Opened.{Opens};
 ghost use Rattle.gd_writer.specs.Outcomes.{kept_view, is_stored, told_view, IsTold};
 ghost use Rattle.gd_writer.specs.Side.{KeepsAll, ShowsStored, GoesOn, Writes, Begins, BeginsOver};
 
@@ -106,17 +106,8 @@ impl<D: Disk, C: Clock> WriteSide<D, C> {
         ensures seats { IfOk result (λ both. (vec_len both.1 ≡ SEATS) × All (IsNewSeat both.0.table both.0.shown) both.1.items) }
         ensures refused { IfErr result (λ refused. ForSome (D.content disk) (λ file. Refuses refused.0 (meaning file))) }
         ensures clock { IfErr result (λ refused. refused.2 ≡ clock) }
-        ensures moments { MatchResult result
-            (λ both. ForSome (D.content disk) (λ file. LeavesOnly D.moment D.images D.images_since disk both.0.log.disk (MeansOneOf (D.images disk))))
-            (λ refused. ForSome (D.content disk) (λ file. LeavesOnly D.moment D.images D.images_since disk refused.1 (MeansOneOf (D.images disk)))) }
-        ensures kept { MatchResult result
-            (λ both. ForSome (D.content disk) (λ file. IsKept D.content D.moment D.images D.images_since file disk both.0.log.disk))
-            (λ refused. ForSome (D.content disk) (λ file. IsKept D.content D.moment D.images D.images_since file disk refused.1)) }
-        ensures told { MatchResult result
-            (λ both. is_some (D.content both.0.log.disk) ≡ is_some (D.content disk))
-            (λ refused. is_some (D.content refused.1) ≡ is_some (D.content disk)) }
-        ensures later { MatchResult result
-            (λ both. D.faults disk ≤ D.faults both.0.log.disk) (λ refused. D.faults disk ≤ D.faults refused.1) }
+        ensures disk { MatchResult result (λ both. Opens D.content D.moment D.images D.images_since D.faults disk both.0.log.disk)
+            (λ refused. Opens D.content D.moment D.images D.images_since D.faults disk refused.1) }
         ensures cause { IfErr result (λ refused. refused.0 ≡ JournalFault.DiskFault → Rose (D.faults disk) (D.faults refused.1)) }
     {
         match open_log(alloc, disk) {
