@@ -1,18 +1,20 @@
 -- What a write line comes to, with what goes on beside it.
-use Rattle.std.proofs.Common.{◌≡◌, ◌≢◌, refl, ℕ, ◌+◌, ◌≤◌, ◌⊎◌, Bool, true, false, List, [], ◌∷◌, ◌++◌, length, Option, None, Some, Ok, Err, sym, subst, ap, ◌∙◌, arith}
+use Rattle.std.proofs.Common.{◌≡◌, refl, ℕ, ◌+◌, ◌≤◌, ◌⊎◌, Bool, true, false, List, [], ◌∷◌, ◌++◌, length, Option, None, Some, Ok, Err, sym, subst, ap, ◌∙◌, arith}
 use Rattle.std.specs.Option.{is_some}
+use Rattle.std.specs.Global.{Vec}
+use Rattle.core.specs.declared.snapshot.Snapshot.{Snapshot}
 use Rattle.gd_base.specs.Counts.{Rose}
 use Rattle.gd_prim.specs.declared.Batch.{Batch}
 use Rattle.gd_json.specs.View.{view}
-use Rattle.gd_defs.specs.Lines.{ok_line}
+use Rattle.gd_defs.specs.Lines.{ok_line, err_line}
 use Rattle.gd_defs.specs.Write.{WriteRequest}
 use Rattle.gd_bytes.specs.Disk.{LeavesOnly}
 use Rattle.gd_journal.specs.Causes.{HasReason}
 use Rattle.gd_journal.specs.declared.fault.JournalFault.{JournalFault}
 use Rattle.gd_journal.specs.declared.fault.JournalFault.TheVariants.{DiskFault, NotStore, Damaged, Memory}
-use Rattle.gd_change.specs.Fault.{fault_of, IsSmall}
+use Rattle.gd_change.specs.Fault.{fault_of}
 use Rattle.gd_carry.specs.declared.fault.ChangeFault.{ChangeFault}
-use Rattle.gd_carry.specs.declared.fault.ChangeFault.TheVariants as fault
+use Rattle.gd_runs.specs.Request.{change_refusal}
 use Rattle.gd_runs.specs.Legal.{Entry, size, exec_line}
 use Rattle.gd_runs.specs.Core.{State, Session, Settles}
 use Rattle.gd_runs.specs.Explained.{MayBe}
@@ -21,7 +23,7 @@ use Rattle.gd_writer.specs.declared.judge.Next.{Next}
 use Rattle.gd_writer.specs.declared.outcome.Outcome.{Outcome}
 use Rattle.gd_writer.specs.declared.outcome.Outcome.TheVariants as outcome
 use Rattle.gd_writer.specs.Entries.{entry_view}
-use Rattle.gd_writer.specs.Outcomes.{kept_view, IsTold}
+use Rattle.gd_writer.specs.Outcomes.{kept_view, IsTold, IsRefusedNow}
 use Rattle.gd_writer.specs.Judged.{IsStorable}
 use Rattle.gd_writer.specs.Parts.{LedgerValue, CopiesValue, Backs, AppendsAs, StandsForLedger, Tells}
 use Rattle.gd_writer.specs.Carried.{IsAligned, desk_state, GoesAlong, Carries, Changes, failed_as}
@@ -66,22 +68,25 @@ module _ {D C : Type 0} (content : D → Option (List ℕ)) (moment : D → ℕ)
         → Changes content moment images images_since faults may ledger copies was line bytes w after shows ticks o
     changes_ticked was after shows ticks o same changes = record {
       step = λ s ends. subst (λ (m : ℕ → Bool). WriteKeeps m s line bytes w (kept_view o) (desk_state after shows s.sessions)) same (changes.step s ends);
+      refusal = subst (λ (m : ℕ → Bool). IsRefusedNow m after.history bytes w (kept_view o)) same changes.refusal;
       along = record { told = changes.along.told; fault = changes.along.fault; table = changes.along.table; ticking = changes.along.ticking ∙ same; backs = changes.along.backs };
     }
 
     module _ (none : ledger.doubt ≡ None) where
       -- it is refused
-      pub changes_refused : ((disk : D) (c : List ℕ) → images_since disk (moment disk) c → images disk c) → Stand ledger → (ticks : C) → may ticks ≡ may clock → (at : ℕ) → at ≡ size ledger.history → (m : ℕ) (f : ChangeFault)
-          → exec_line ledger.history w m bytes ≡ Err (fault_of f) → IsSmall f → f ≢ fault.Memory → ChangesTo ledger copies ticks (outcome.Refused f at)
-      changes_refused only stand ticks ticking at is m f does small other = record {
-        step = step_refused (may clock) ledger.history (length copies.shown) ledger.doubt none line bytes w m (fault_of f) at does is;
-        along = along_nothing only ledger copies clock ticks line (outcome.Refused f at) stand (small, other) refl ticking;
+      pub changes_refused : ((disk : D) (c : List ℕ) → images_since disk (moment disk) c → images disk c) → Stand ledger → (ticks : C) → may ticks ≡ may clock → (at : ℕ) → at ≡ size ledger.history → (m : ℕ) → MayBe (may clock) m → (f : Snapshot ChangeFault) (reply : Vec ℕ)
+          → exec_line ledger.history w m bytes ≡ Err (fault_of f.value) → reply.items ≡ err_line (size ledger.history) line (change_refusal (fault_of f.value)) → ChangesTo ledger copies ticks (outcome.Refused f at reply)
+      changes_refused only stand ticks ticking at is m given f reply does says = record {
+        step = step_refused (may clock) ledger.history (length copies.shown) ledger.doubt none line bytes w m (fault_of f.value) at does is;
+        refusal = (m, given, does);
+        along = along_nothing only ledger copies clock ticks line (outcome.Refused f at reply) stand (says ∙ ap (λ (k : ℕ). err_line k line (change_refusal (fault_of f.value))) (sym is)) refl ticking;
       }
 
       -- no memory was found for it
       pub changes_memory : (ticks : C) (after : LedgerValue D) → may ticks ≡ may clock → after.history ≡ ledger.history → after.doubt ≡ ledger.doubt → BacksNow ledger after → ChangesTo after copies ticks outcome.Memory
       changes_memory ticks after ticking history doubt backs = record {
         step = step_memory (may clock) ledger.history (length copies.shown) ledger.doubt none line bytes w after.history (length copies.shown) after.doubt history refl doubt;
+        refusal = tt;
         along = along_quiet ledger copies clock line after copies ticks outcome.Memory tt refl refl ticking backs;
       }
 
@@ -96,6 +101,7 @@ module _ {D C : Type 0} (content : D → Option (List ℕ)) (moment : D → ℕ)
         changes_stored batch shows (same, is_after) aligned shown table = record {
           step = step_stored (may clock) ledger.history (length copies.shown) ledger.doubt none line bytes w m next can given at is after.history (length shows.shown) after.doubt
               (ap (λ (l : LedgerValue D). l.history) is_after) (grown_size copies.all shows.shown ledger.history batch aligned shown) (ap (λ (l : LedgerValue D). l.doubt) is_after);
+          refusal = tt;
           along = along_quiet ledger copies clock line after shows clock (outcome.Stored at next.answer next.reply) (can.reply_is ∙ ap (λ (k : ℕ). ok_line (k + 1) line (view next.answer)) (sym is)) refl table refl backs;
         }
 
@@ -105,6 +111,7 @@ module _ {D C : Type 0} (content : D → Option (List ℕ)) (moment : D → ℕ)
         changes_late batch shows (same, is_after) shown table = record {
           step = step_late (may clock) ledger.history (length copies.shown) ledger.doubt none line bytes w m next can given at is after.history (length shows.shown) after.doubt
               (ap (λ (l : LedgerValue D). l.history) is_after) (ap length shown) (ap (λ (l : LedgerValue D). l.doubt) is_after);
+          refusal = tt;
           along = along_quiet ledger copies clock line after shows clock (outcome.Late at) tt refl table refl backs;
         }
 
@@ -113,6 +120,7 @@ module _ {D C : Type 0} (content : D → Option (List ℕ)) (moment : D → ℕ)
         changes_doubt is_after rose = record {
           step = step_doubt (may clock) ledger.history (length copies.shown) ledger.doubt none line bytes w m next can given at is after.history (length copies.shown) after.doubt
               (ap (λ (l : LedgerValue D). l.history) is_after) refl (ap (λ (l : LedgerValue D). l.doubt) is_after);
+          refusal = tt;
           along = record { told = tt; fault = λ tells. rose; table = refl; ticking = refl; backs = backs };
         }
 
@@ -135,6 +143,7 @@ module _ {D C : Type 0} (content : D → Option (List ℕ)) (moment : D → ℕ)
     carries_then mid between began after shows ticks o settles backs table same changes = record {
       step = λ sessions. subst (λ (m : ℕ → Bool). WriteKeeps m (desk_state ledger copies sessions) line bytes w (kept_view o) (desk_state after shows sessions)) (ap may same)
           (changes.step (desk_state ledger copies sessions) (settles sessions));
+      refusal = subst (λ (m : ℕ → Bool). IsRefusedNow m after.history bytes w (kept_view o)) (ap may same) changes.refusal;
       along = record {
         told = changes.along.told;
         fault = λ tells. let rose = changes.along.fault tells in let later = backs.later in omega (arith, rose, later);
@@ -149,6 +158,7 @@ module _ {D C : Type 0} (content : D → Option (List ℕ)) (moment : D → ℕ)
         → Rose (faults ledger.log.disk) (faults after.log.disk) → CarriesTo after shows ticks outcome.Unsettled
     carries_unsettled after shows ticks some is same ticking backs rose = record {
       step = λ sessions. subst (WriteKeeps (may clock) (desk_state ledger copies sessions) line bytes w (kept_view outcome.Unsettled)) (unchanged sessions) (let (e, at) = some_of ledger.doubt some in leaves_doubt e at);
+      refusal = tt;
       along = record { told = tt; fault = λ tells. rose; table = ap (λ (c : CopiesValue). c.table) same; ticking = ap may ticking; backs = backs };
     }
       where
@@ -162,6 +172,7 @@ module _ {D C : Type 0} (content : D → Option (List ℕ)) (moment : D → ℕ)
     carries_nothing after shows ticks history doubt shown table ticking backs = record {
       step = λ sessions. subst (WriteKeeps (may clock) (desk_state ledger copies sessions) line bytes w (kept_view outcome.Memory))
           (states ledger.history after.history (length copies.shown) (length shows.shown) ledger.doubt after.doubt sessions (sym history) (sym (ap length shown)) (sym doubt)) lacks_memory;
+      refusal = tt;
       along = along_quiet ledger copies clock line after shows ticks outcome.Memory tt refl table (ap may ticking) backs;
     }
 
@@ -190,6 +201,7 @@ carries_roomy content moment images images_since faults may ledger roomy copies 
       (states roomy.history ledger.history (length more.shown) (length copies.shown) roomy.doubt ledger.doubt sessions
       (ap (λ (l : LedgerValue _). l.history) is) (ap (λ (c : CopiesValue). length c.shown) same) (ap (λ (l : LedgerValue _). l.doubt) is))
       (carries.step sessions);
+  refusal = carries.refusal;
   along = record {
     told = carries.along.told;
     fault = λ tells. subst (λ (l : LedgerValue _). Rose (faults l.log.disk) (faults after.log.disk)) is (carries.along.fault tells);

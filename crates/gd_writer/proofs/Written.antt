@@ -20,6 +20,7 @@ module _ {D C : Type 0} (content : D → Option (List ℕ)) (moment : D → ℕ)
     kept = kept_view o.outcome;
     outcomes = ap (map told_view) is ∙ map-append told_view outcomes (o ∷ []) ∙ ap (λ (n : ℕ). map told_view outcomes ++ record { line = n; kept = kept_view o.outcome } ∷ []) line_is;
     step = carries.step;
+    refusal = carries.refusal;
     fault = carries.along.fault;
   })
 

@@ -9,7 +9,7 @@ use Rattle.gd_runs.specs.Core.{State, Session, Settles}
 use Rattle.gd_runs.specs.Side.{WriteKeeps, is_fault}
 use Rattle.gd_writer.specs.declared.outcome.Outcome.{Outcome}
 use Rattle.gd_writer.specs.declared.outcome.Outcome.TheVariants as outcome
-use Rattle.gd_writer.specs.Outcomes.{kept_view, IsTold}
+use Rattle.gd_writer.specs.Outcomes.{kept_view, IsTold, IsRefusedNow}
 use Rattle.gd_writer.specs.Parts.{LedgerValue, CopiesValue, Backs}
 
 -- all that the ledger has the copies have, or are to show
@@ -33,12 +33,14 @@ pub record GoesAlong {D C : Type 0} (content : D → Option (List ℕ)) (moment 
 pub record Carries {D C : Type 0} (content : D → Option (List ℕ)) (moment : D → ℕ) (images : D → List ℕ → Type 0) (images_since : D → ℕ → List ℕ → Type 0) (faults : D → ℕ) (may : C → ℕ → Bool)
     (ledger : LedgerValue D) (copies : CopiesValue) (clock : C) (line bytes : ℕ) (w : WriteRequest) (after : LedgerValue D) (shows : CopiesValue) (ticks : C) (outcome : Outcome) : Type 0 where
   pub step : (sessions : ℕ → Session) → WriteKeeps (may clock) (desk_state ledger copies sessions) line bytes w (kept_view outcome) (desk_state after shows sessions)
+  pub refusal : IsRefusedNow (may clock) after.history bytes w (kept_view outcome)
   pub along : GoesAlong content moment images images_since faults may ledger copies clock line after shows ticks outcome
 
 -- A write line came to this outcome, whichever state settled as the one that it was carried out over.
 pub record Changes {D C : Type 0} (content : D → Option (List ℕ)) (moment : D → ℕ) (images : D → List ℕ → Type 0) (images_since : D → ℕ → List ℕ → Type 0) (faults : D → ℕ) (may : C → ℕ → Bool)
     (ledger : LedgerValue D) (copies : CopiesValue) (clock : C) (line bytes : ℕ) (w : WriteRequest) (after : LedgerValue D) (shows : CopiesValue) (ticks : C) (outcome : Outcome) : Type 0 where
   pub step : (s : State) → Settles s (desk_state ledger copies s.sessions) → WriteKeeps (may clock) s line bytes w (kept_view outcome) (desk_state after shows s.sessions)
+  pub refusal : IsRefusedNow (may clock) after.history bytes w (kept_view outcome)
   pub along : GoesAlong content moment images images_since faults may ledger copies clock line after shows ticks outcome
 
 -- what a write came to whose append failed over so many requests

@@ -14,7 +14,7 @@ use Rattle.gd_runs.specs.Legal.{Entry, History, batches, size}
 use Rattle.gd_runs.specs.Core.{State, Session}
 use Rattle.gd_runs.specs.Side.{Kept, kept_stored, Told, Keeps, KeepsHistory, WriteKeeps, told_of, doubt_groups, is_fault}
 use Rattle.gd_writer.specs.declared.outcome.WriteOf.{WriteOf}
-use Rattle.gd_writer.specs.Outcomes.{told_view, IsTold}
+use Rattle.gd_writer.specs.Outcomes.{told_view, IsTold, IsRefusedNow}
 use Rattle.gd_writer.specs.Parts.{LedgerValue, CopiesValue, Tells}
 
 -- the history, the group in doubt, what is kept of write lines, the history of the published copies and the list that is shown, the log, and the clock
@@ -76,11 +76,12 @@ StandsForSide side file = MayStandFor (batches side.history) (doubt_groups side.
 abbrev pub StandsForEither : {D C : Type 0} → SideValue D C → SideValue D C → List ℕ → Type 0
 StandsForEither a b file = StandsForSide a file ⊎ StandsForSide b file
 
--- A write of line k, of so many bytes, keeps one outcome more, and the side comes to the state that goes with it, whichever sessions there are. Only where the disk's count rose does the outcome tell a failure of it.
+-- A write of line k, of so many bytes, keeps one outcome more, and the side comes to the state that goes with it, whichever sessions there are. A refusal is of a moment that the clock may give. Only where the disk's count rose does the outcome tell a failure of it.
 pub record Writes {D C : Type 0} (may : ℕ → Bool) (faults : D → ℕ) (old : SideValue D C) (k bytes : ℕ) (w : WriteRequest) (new : SideValue D C) : Type 0 where
   pub kept : Kept
   pub outcomes : new.outcomes ≡ old.outcomes ++ told_of k kept ∷ []
   pub step : (sessions : ℕ → Session) → WriteKeeps may (state_of old sessions) k bytes w kept (state_of new sessions)
+  pub refusal : IsRefusedNow may new.history bytes w kept
   pub fault : is_fault kept ≡ true → Rose (faults old.log.disk) (faults new.log.disk)
 
 -- The table and the moments of the clock stay, a disk that tells its content goes on to tell it, a stop leaves what stands for the one side or the other, and the disk's count does not fall.

@@ -54,6 +54,7 @@ impl<D: Disk, C: Clock> Desk<D, C> {
     pub(crate) fn write<R: Wait>(&mut self, rt: &R, asked: Asked<'_>) -> Outcome
         requires aligned { IsAligned self.old.ledger self.old.copies }
         requires bytes { asked.bytes ≤ 262_144 }
+        requires line { asked.line < 2 ^ 63 }
         ensures aligned { IsAligned self.new.ledger self.new.copies }
         ensures carries { Carries D.content D.moment D.images D.images_since D.faults C.may self.old.ledger self.old.copies self.old.clock
             asked.entry.line asked.entry.bytes (write_view asked.entry.request.now) self.new.ledger self.new.copies self.new.clock result }
@@ -70,6 +71,7 @@ impl<D: Disk, C: Clock> Desk<D, C> {
         requires aligned { IsAligned self.old.ledger self.old.copies }
         requires room { (2 ≤ self.old.ledger.spare) × (2 ≤ self.old.copies.spare) }
         requires bytes { asked.bytes ≤ 262_144 }
+        requires line { asked.line < 2 ^ 63 }
         ensures aligned { IsAligned self.new.ledger self.new.copies }
         ensures carries { Carries D.content D.moment D.images D.images_since D.faults C.may self.old.ledger self.old.copies self.old.clock
             asked.entry.line asked.entry.bytes (write_view asked.entry.request.now) self.new.ledger self.new.copies self.new.clock result }
@@ -114,6 +116,7 @@ impl<D: Disk, C: Clock> Desk<D, C> {
         requires room { (1 ≤ self.old.ledger.spare) × (1 ≤ self.old.copies.spare) }
         requires none { self.old.ledger.doubt ≡ None }
         requires bytes { asked.bytes ≤ 262_144 }
+        requires line { asked.line < 2 ^ 63 }
         ensures aligned { IsAligned self.new.ledger self.new.copies }
         ensures changes { Changes D.content D.moment D.images D.images_since D.faults C.may self.old.ledger self.old.copies self.old.clock
             asked.entry.line asked.entry.bytes (write_view asked.entry.request.now) self.new.ledger self.new.copies self.new.clock result }
@@ -121,7 +124,7 @@ impl<D: Disk, C: Clock> Desk<D, C> {
         let at = self.ledger.requests();
         let moment = moment(&mut self.clock);
         match judge(self.alloc, &self.ledger, asked, moment) {
-            Ok(Verdict::Refused(fault)) => Outcome::Refused { fault, at },
+            Ok(Verdict::Refused { fault, reply }) => Outcome::Refused { fault, at, reply },
             Ok(Verdict::Storable(next)) => self.store(rt, asked, moment, next),
             Err(_) => Outcome::Memory,
         }

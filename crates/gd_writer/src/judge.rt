@@ -1,18 +1,19 @@
 //! What a write comes to over the store as it is, before anything is stored.
-ghost use Rattle.std.specs.Prelude.{◌≡◌, ◌≤◌, ◌<◌, ◌+◌, ◌∷◌, ◌^◌, [], Ok, IfOk, IfErr, length};
+ghost use Rattle.std.specs.Prelude.{◌≡◌, ◌≢◌, ◌≤◌, ◌<◌, ◌+◌, ◌∷◌, ◌^◌, [], Ok, Err, IfOk, IfErr, OnErr, length};
 ghost use Rattle.gd_tree.specs.Json.{compact};
 ghost use Rattle.gd_json.specs.View.{view};
 ghost use Rattle.gd_log.specs.Stored.{MayAppend};
 ghost use Rattle.gd_runs.specs.Request.{exec_after};
 ghost use Rattle.gd_runs.specs.Explained.{MayBe};
-ghost use Rattle.gd_runs.specs.Legal.{batches, history_bytes};
+ghost use Rattle.gd_runs.specs.Legal.{batches, history_bytes, exec_line};
 ghost use Rattle.gd_mql.specs.Requests.{write_view};
-ghost use Rattle.gd_change.specs.Fault.{GivesChange, IsSmall};
+ghost use Rattle.gd_change.specs.Fault.{GivesChange, IsSmall, fault_of};
 ghost use Rattle.gd_writer.specs.Judged.{IsJudged};
 
 use crate::entry::Entry;
 use crate::ledger::Ledger;
 use crate::made::Made;
+use crate::refused::refused_line;
 use gd_base::memory::Memory;
 use gd_change::fault::ChangeFault;
 use gd_change::write::evaluate;
@@ -23,6 +24,7 @@ use gd_outside::clock::Clock;
 use gd_prim::{Batch, What};
 use gd_reply::lines::ok_line;
 use std::alloc::Global;
+use std::snapshot::Snapshot;
 
 /// The last moment, in milliseconds since 1970-01-01 in UTC: the end of the year 9999.
 const LAST_MOMENT: u64 = 253_402_300_799_999;
@@ -30,8 +32,8 @@ const LAST_MOMENT: u64 = 253_402_300_799_999;
 /// How many bytes the stored lines and their results may have.
 const HISTORY_LIMIT: u64 = 134_217_728;
 
-/// No text has more bytes than this.
-const TEXT_LIMIT: u64 = 1 << 40;
+/// How many bytes a result may have.
+const RESULT_LIMIT: u64 = 1 << 40;
 
 /// A write line: its number, its request, and how many bytes it has.
 #[derive(Clone, Copy)]
@@ -49,10 +51,13 @@ pub(crate) struct Next {
     pub(crate) reply: Vec<u8>,
 }
 
-/// What a write comes to over the store as it is: it is refused, or it may be stored.
+/// What a write comes to over the store as it is: it is refused, with the reply line that says why, or it may be stored.
 #[derive(Drop)]
 pub(crate) enum Verdict {
-    Refused(ChangeFault),
+    Refused {
+        fault: Snapshot<ChangeFault>,
+        reply: Vec<u8>,
+    },
     Storable(Next),
 }
 
@@ -65,13 +70,14 @@ pub(crate) fn moment<C: Clock>(clock: &mut C) -> u64
     clock.now_ms().min(LAST_MOMENT)
 }
 
-/// How many bytes a line and its result have. A result of more than 2^40 bytes counts as want of memory.
+/// How many bytes a line and its result have. `Memory`: the result has more than 2^40 bytes.
 fn bytes_with(line: u64, outcome: usize) -> Result<u64, Memory>
     requires { line ≤ 262_144 }
     ensures sum { IfOk result (λ kept. kept ≡ line + outcome) }
     ensures bound { IfOk result (λ kept. kept < 2 ^ 62) }
+    ensures long { OnErr result (RESULT_LIMIT < outcome) }
 {
-    if outcome as u64 > TEXT_LIMIT {
+    if outcome as u64 > RESULT_LIMIT {
         return Err(Memory);
     }
     Ok(line + outcome as u64)
@@ -101,6 +107,25 @@ fn made<D: Disk>(
     evaluate(alloc, ledger.store(), request, moment)
 }
 
+/// What a write line comes to that is refused.
+fn refused<D: Disk>(
+    alloc: Global,
+    ledger: &Ledger<D>,
+    asked: Asked<'_>,
+    moment: u64,
+    fault: ChangeFault,
+) -> Result<Verdict, Memory>
+    requires line { asked.line < 2 ^ 63 }
+    requires small { IsSmall fault }
+    requires memory { fault ≢ ChangeFault.Memory }
+    requires does { exec_line ledger.now.history (write_view asked.request.now) moment asked.bytes ≡ Err (fault_of fault) }
+    ensures { IfOk result (IsJudged ledger.now.history asked.entry.line asked.entry.bytes (write_view asked.entry.request.now) moment) }
+{
+    let why = Snapshot::of(&fault);
+    let reply = refused_line(alloc, ledger.requests(), asked.line, fault)?;
+    Ok(Verdict::Refused { fault: why, reply })
+}
+
 /// What a write line comes to at a moment, over the batches of a ledger.
 pub(crate) fn judge<D: Disk>(
     alloc: Global,
@@ -110,12 +135,13 @@ pub(crate) fn judge<D: Disk>(
 ) -> Result<Verdict, Memory>
     requires moment { moment ≤ LAST_MOMENT }
     requires bytes { asked.bytes ≤ 262_144 }
+    requires line { asked.line < 2 ^ 63 }
     ensures { IfOk result (IsJudged ledger.now.history asked.entry.line asked.entry.bytes (write_view asked.entry.request.now) moment) }
 {
     match made(alloc, ledger, asked.request, moment) {
         Ok((batch, answer)) => judge_done(alloc, ledger, asked, moment, batch, answer),
         Err(ChangeFault::Memory) => Err(Memory),
-        Err(fault) => Ok(Verdict::Refused(fault)),
+        Err(fault) => refused(alloc, ledger, asked, moment, fault),
     }
 }
 
@@ -129,6 +155,7 @@ fn judge_done<D: Disk>(
     answer: Json,
 ) -> Result<Verdict, Memory>
     requires bytes { asked.bytes ≤ 262_144 }
+    requires line { asked.line < 2 ^ 63 }
     requires may { MayAppend (batches ledger.now.history) (batch ∷ []) }
     requires does { exec_after (batches ledger.now.history) (write_view asked.request.now) moment ≡ Ok (batch, view answer) }
     ensures { IfOk result (IsJudged ledger.now.history asked.entry.line asked.entry.bytes (write_view asked.entry.request.now) moment) }
@@ -137,10 +164,11 @@ fn judge_done<D: Disk>(
     let kept = bytes_with(asked.bytes, reply.outcome)?;
     let count = count_with(ledger, kept);
     if count > HISTORY_LIMIT {
-        return Ok(Verdict::Refused(ChangeFault::Full {
+        let fault = ChangeFault::Full {
             what: What::History,
             count,
-        }));
+        };
+        return refused(alloc, ledger, asked, moment, fault);
     }
     let request = asked.request.copy()?;
     let stored = answer.copy()?;

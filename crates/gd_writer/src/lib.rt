@@ -8,5 +8,7 @@ mod judge;
 mod ledger;
 mod made;
 pub mod outcome;
+mod refused;
 mod roomy;
 pub mod side;
+mod telling;

@@ -1,6 +1,7 @@
 //! What is kept of write lines.
 use gd_change::fault::ChangeFault;
 use gd_json::value::Json;
+use std::snapshot::Snapshot;
 
 /// What a write line came to. Contracts see it as the definitions have it, `kept_view`.
 #[derive(Drop)]
@@ -15,10 +16,11 @@ pub enum Outcome {
     Late {
         entry: u32,
     },
-    /// It was refused over so many requests.
+    /// It was refused over so many requests: why, which clauses alone read, and the reply line that says so.
     Refused {
-        fault: ChangeFault,
+        fault: Snapshot<ChangeFault>,
         at: u32,
+        reply: Vec<u8>,
     },
     /// The disk failed when it was appended over so many requests: it is in doubt.
     Doubt {
@@ -26,7 +28,7 @@ pub enum Outcome {
     },
     /// The disk failed while an earlier doubt was to be ended: it was not tried.
     Unsettled,
-    /// No memory was found for it: nothing was stored.
+    /// No memory was found for it, or its result has more than 2^40 bytes: nothing was stored.
     Memory,
 }
 

@@ -7,14 +7,11 @@ use Rattle.gd_mql.specs.Requests.{write_view}
 use Rattle.gd_writer.proofs.Judged.{full_line, done_line}
 use Rattle.gd_writer.proofs.judge.judge_done.Goals as goal
 
-pub returns-then-count-gt-HISTORY_LIMIT : goal.returns-then-count-gt-HISTORY_LIMIT
-returns-then-count-gt-HISTORY_LIMIT g c =
-    let h = c.args.ledger.now.history in (
-      full_line h (write_view c.args.asked.request.now) c.args.moment c.args.asked.bytes c.args.batch (view c.args.answer) c.count_with-count.result c.requires.does
-          (c.count_with-count.ensures.count ∙ ap (λ (n : ℕ). history_bytes h + n) (c.in_ok-kept.ensures.sum ∙ ap (λ (n : ℕ). c.args.asked.bytes + n) c.in_ok-reply.ensures.outcome)) c.if-count-gt-HISTORY_LIMIT.true,
-      c.count_with-count.ensures.small,
-      λ is. cc is,
-    )
+pub refused-requires-clause-does : goal.refused-requires-clause-does
+refused-requires-clause-does g c =
+    let h = c.args.ledger.now.history in
+    full_line h (write_view c.args.asked.request.now) c.args.moment c.args.asked.bytes c.args.batch (view c.args.answer) c.count_with-count.result c.requires.does
+    (c.count_with-count.ensures.count ∙ ap (λ (n : ℕ). history_bytes h + n) (c.in_ok-kept.ensures.sum ∙ ap (λ (n : ℕ). c.args.asked.bytes + n) c.in_ok-reply.ensures.outcome)) c.if-count-gt-HISTORY_LIMIT.true
 
 pub returns : goal.returns
 returns g c =

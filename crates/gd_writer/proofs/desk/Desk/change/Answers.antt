@@ -10,8 +10,8 @@ returns-in-Ok-Refused-clause-changes g c =
     let old = c.args.self.now in
     let judged = rw c.in-Ok-Refused.field-0-is at c.in-Ok-Refused.ensures in
     changes_refused d.content d.moment d.images d.images_since d.faults g.C.Clock.may old.ledger old.copies old.clock c.args.asked.line c.args.asked.bytes (write_view c.args.asked.request.now) c.requires.none
-    g.met.D.Disk.only_now c.requests-at.ensures.holds c.moment-moment.new.clock c.moment-moment.ensures.same c.requests-at.result c.requests-at.ensures.count c.moment-moment.result c.in-Ok-Refused.fault
-    judged.0 judged.1 judged.2
+    g.met.D.Disk.only_now c.requests-at.ensures.holds c.moment-moment.new.clock c.moment-moment.ensures.same c.requests-at.result c.requests-at.ensures.count c.moment-moment.result c.moment-moment.ensures.given
+    c.in-Ok-Refused.fault c.in-Ok-Refused.reply judged.0 judged.1
 
 pub store-requires-clause-moment : goal.store-requires-clause-moment
 store-requires-clause-moment g c = subst (λ (m : ℕ → Bool). MayBe m c.moment-moment.result) (sym c.moment-moment.ensures.same) c.moment-moment.ensures.given
