@@ -19,7 +19,7 @@ use Rattle.gd_core_laws.specs.Round.{kept_reply}
 use Rattle.gd_core_laws.proofs.Lock.{same_numbers}
 use Rattle.gd_core_laws.proofs.Reading.{same_number}
 use Rattle.gd_core_laws.proofs.Quiet.{Quiet, read_quiet, fault_quiet, memory_quiet}
-use Rattle.gd_caller.specs.Told.{MayForget, Forgets, reply_or}
+use Rattle.gd_caller.specs.Told.{reply_or}
 use Rattle.gd_round_lines.specs.Works.{IsFirstReply}
 
 module _ (k : ℕ) where
@@ -157,23 +157,3 @@ quiet_or k line was (Some kept) quiet none = kept_quiet k line kept (by (is_faul
 
 pub first_quiet : (k : ℕ) (bytes was : List ℕ) → IsFirstReply k bytes was → tells_fault k was ≡ false
 first_quiet k bytes was first = ⊎_elim (λ (f, asks, is). ap (tells_fault k) is ∙ fault_quiet k k f) (λ is. ap (tells_fault k) is ∙ memory_quiet k k) first
-
--- what is told of writes tells as many as what was kept of them
-forget_fault : (was told : Kept) → MayForget was told → is_fault told ≡ is_fault was
-forget_fault (kept_stored e r) told is = ap is_fault is
-forget_fault (kept_late e) told is = ap is_fault is
-forget_fault (kept_refused f n) told may = ⊎_elim (λ is. ap is_fault is) (λ is. ap is_fault is) may
-forget_fault (kept_doubt n) told is = ap is_fault is
-forget_fault kept_unsettled told is = ap is_fault is
-forget_fault kept_memory told is = ap is_fault is
-
-pub forgets_faults : (o p : List Told) → Forgets o p → kept_faults p ≡ kept_faults o
-forgets_faults [] [] none = refl
-forgets_faults [] (b ∷ bs) never = absurd never
-forgets_faults (a ∷ us) [] never = absurd never
-forgets_faults (a ∷ us) (b ∷ bs) (line, kept, rest) =
-    let one : one_if (is_fault b.kept) ≡ one_if (is_fault a.kept) = ap one_if (forget_fault a.kept b.kept kept) in
-    let more = forgets_faults us bs rest in
-    let first_p = faults_first b bs in
-    let first_o = faults_first a us in
-    omega (arith, one, more, first_p, first_o)

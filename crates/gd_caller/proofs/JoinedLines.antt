@@ -21,7 +21,7 @@ use Rattle.gd_core_laws.proofs.SideWrites.{walk_keeps}
 use Rattle.gd_core_laws.proofs.Threads.{stands_shown}
 use Rattle.gd_core_laws.proofs.Bounds.{worked_by, read_again_by}
 use Rattle.gd_round_lines.specs.Some.{IsSomeOf}
-use Rattle.gd_caller.specs.Told.{Forgets, reply_or}
+use Rattle.gd_caller.specs.Told.{reply_or}
 use Rattle.gd_caller.specs.Served.{printed, AreOf, LeftAreFresh}
 use Rattle.gd_round_lines.specs.Works.{IsFirstReply}
 use Rattle.gd_round_lines.specs.Fresh.{IsFreshFrom}
@@ -29,7 +29,6 @@ use Rattle.gd_caller.specs.Writes.{RoseBy}
 use Rattle.gd_round_lines.proofs.Some.{some_there}
 use Rattle.gd_caller.proofs.Callers.{callers_some, callers_fresh}
 use Rattle.gd_caller.proofs.Came.{kept_from, left_from, came_all}
-use Rattle.gd_caller.proofs.ForgottenLock.{history_forgets, lock_forgets, callers_forget_all}
 
 -- ---- what a line came to
 
@@ -200,7 +199,7 @@ module _ (loaded : List Batch) (may : ℕ → Bool) (before : List Numbered) (ou
     (st : StandsAt loaded may before output s.history s.shown s.doubt runs) (here : AreOf round given) (above : s.shown ≤ begun) (below : begun ≤ size s.history)
     (joined : State) (joined_faults most : ℕ) (at_join : List Told) (new : List Entry) (history : KeepsHistory may joined.history joined.doubt at_join)
     (lock : KeepsRound (begun_at s.history begun s.doubt faults (length runs) given) joined.history joined.shown joined.doubt joined_faults most at_join new) (within : joined.shown ≤ size joined.history)
-    (writes : List WriteLine) (some : IsSomeOf writes (write_lines (length runs) given)) (t : State) (outcomes outs : List Told) (run : CallerWrites may joined at_join writes t outcomes) (forgets : Forgets outcomes outs)
+    (writes : List WriteLine) (some : IsSomeOf writes (write_lines (length runs) given)) (t : State) (outs : List Told) (run : CallerWrites may joined at_join writes t outs)
     (of : (i : ℕ) (u : Told) → slice_get outs i ≡ Some u → (x : ℕ) × (a : WriteLine) × (slice_get writes x ≡ Some a) × (a.line ≡ u.line))
     (tells : ℕ → ℕ → ℕ → Type 0) where
   -- what each line came to, at its place
@@ -228,10 +227,8 @@ module _ (loaded : List Batch) (may : ℕ → Bool) (before : List Numbered) (ou
       → (more : List Run) × RoundServed may s runs round given (printed replies) t more
   joined_round_served replies many each =
       let l = begun_at s.history begun s.doubt faults (length runs) given in
-      let (told, front, caller) = callers_forget_all may (write_lines (length runs) given) joined t at_join outcomes outs (callers_some may (write_lines (length runs) given) writes joined t at_join outcomes some run) forgets in
-      let told_history = history_forgets may joined.history joined.doubt at_join told front history in
-      let told_lock = lock_forgets l joined.history joined.shown joined.doubt joined_faults most at_join told new front lock in
-      let order = joined_order may l (length runs) given refl joined joined_faults most told new told_history told_lock within t outs caller in
+      let caller = callers_some may (write_lines (length runs) given) writes joined t at_join outs some run in
+      let order = joined_order may l (length runs) given refl joined joined_faults most at_join new history lock within t outs caller in
       let r = gather Came given replies many (each order) in
       let of_round = λ (j : ℕ) (q : Run) (at : slice_get r.more j ≡ Some q). here j q.line (subst (λ (ls : List Numbered). slice_get ls j ≡ Some q.line) r.lines_are (got_line r.more j q at)) in (
         r.more,
@@ -244,10 +241,10 @@ module _ (loaded : List Batch) (may : ℕ → Bool) (before : List Numbered) (ou
           joined = joined;
           joined_faults = joined_faults;
           joined_most = most;
-          at_join = told;
+          at_join = at_join;
           new = new;
-          history = told_history;
-          lock = told_lock;
+          history = history;
+          lock = lock;
           most = within;
           outcomes = outs;
           caller = caller;

@@ -24,7 +24,7 @@ use Rattle.gd_writer.specs.Side.{SideValue, state_of}
 use Rattle.gd_round_lines.specs.declared.work.ReadLine.{ReadLine}
 use Rattle.gd_round_lines.specs.declared.work.WriteLine.{WriteLine as Written}
 use Rattle.gd_round_lines.specs.declared.work.Works.{Works}
-use Rattle.gd_caller.specs.Told.{Forgets, reply_or}
+use Rattle.gd_caller.specs.Told.{reply_or}
 use Rattle.gd_caller.specs.Served.{printed, AreOf}
 use Rattle.gd_round_lines.specs.Fresh.{IsFreshFrom}
 use Rattle.gd_reply.specs.Replies.{reply_text}
@@ -34,8 +34,7 @@ use Rattle.gd_caller.specs.Writes.{RoseBy, faults_kept}
 use Rattle.gd_caller.specs.Joined.{IsOfWrites, SessionAt, JoinedReply, by_kept, by_caller, by_worker, AnswersJoined}
 use Rattle.gd_round_lines.proofs.Some.{some_all}
 use Rattle.gd_caller.proofs.Callers.{callers_among}
-use Rattle.gd_caller.proofs.Forgotten.{forgets_back}
-use Rattle.gd_caller.proofs.Faults.{faults_told_most, forgets_faults, quiet_or, first_quiet, fault_at_line}
+use Rattle.gd_caller.proofs.Faults.{faults_told_most, quiet_or, first_quiet, fault_at_line}
 use Rattle.gd_caller.proofs.JoinedLines.{CameAs, JoinedLine, first_line, read_line, read_told, joined_round_served, joined_fresh}
 use Rattle.gd_caller.proofs.Left.{written_at}
 use Rattle.gd_round_lines.proofs.Read.{all_at}
@@ -57,13 +56,12 @@ outcomes_of_writes may ws s t at_join outcomes run of = each outcomes (λ i u at
     each [] all = tt
     each (u ∷ us) all = (all 0 u refl, each us (λ i v at. all (suc i) v at))
 
--- what is told is of them too
-told_of_writes : (ws : List Written) (outcomes outs : List Told) → AllByRecursion (IsOfWrites ws) outcomes → Forgets outcomes outs
-    → (i : ℕ) (u : Told) → slice_get outs i ≡ Some u → (x : ℕ) × (a : WriteLine) × (slice_get (map write_of ws) x ≡ Some a) × (a.line ≡ u.line)
-told_of_writes ws outcomes outs all forgets i u at =
-    let (t, at_t, line, kept) = forgets_back outcomes outs i u forgets at in
-    let (x, w, at_w, of) = all_at (IsOfWrites ws) outcomes i t all at_t in
-    (x, write_of w, written_at ws x w at_w, of ∙ sym line)
+-- each is of a write line
+told_of_writes : (ws : List Written) (outcomes : List Told) → AllByRecursion (IsOfWrites ws) outcomes
+    → (i : ℕ) (u : Told) → slice_get outcomes i ≡ Some u → (x : ℕ) × (a : WriteLine) × (slice_get (map write_of ws) x ≡ Some a) × (a.line ≡ u.line)
+told_of_writes ws outcomes all i u at =
+    let (x, w, at_w, of) = all_at (IsOfWrites ws) outcomes i u all at in
+    (x, write_of w, written_at ws x w at_w, of)
 
 -- LAW: no entry and no group in doubt is of a line behind the round
 pub round_fresh : (may : ℕ → Bool) (l : Begun) (joined : State) (faults most : ℕ) (at_join : List Told) (new : List Entry) (first end : ℕ) (works : Works) (t : State) (outcomes : List Told)
@@ -103,14 +101,14 @@ module _ {D C : Type 0} (first begun : ℕ) (given : List Numbered) (works : Wor
       let below = read_told l.bytes m d told in
       (a.tells j, (inl (x, r, at_r, line, same), refl), omega (arith, below, most))
 
-  module _ (of : (i : ℕ) (u : Told) → slice_get a.outs i ≡ Some u → (x : ℕ) × (b : WriteLine) × (slice_get ws x ≡ Some b) × (b.line ≡ u.line)) (order : AreInOrder a.outs) where
+  module _ (of : (i : ℕ) (u : Told) → slice_get side.outcomes i ≡ Some u → (x : ℕ) × (b : WriteLine) × (slice_get ws x ≡ Some b) × (b.line ≡ u.line)) (order : AreInOrder side.outcomes) where
     abbrev Line : ℕ → List ℕ → List ℕ → Outcome → Type 0
-    Line j bytes reply o = JoinedLine side.history (length side.shown) begun (write_lines first given) ws a.outs Tells j (first + j) bytes reply o
+    Line j bytes reply o = JoinedLine side.history (length side.shown) begun (write_lines first given) ws side.outcomes Tells j (first + j) bytes reply o
 
     by_reply : (j : ℕ) (l : Numbered) (was reply : List ℕ) → slice_get given j ≡ Some l → slice_get (map reply_text works.replies.items) j ≡ Some was
-        → JoinedReply first begun works.reads.items works.writes.items (batches side.history) (length side.shown) a.outs a.tells j (reply_or (first + j) was (kept_of a.outs (first + j))) reply → (o : Outcome) × Line j l.bytes reply o
+        → JoinedReply first begun works.reads.items works.writes.items (batches side.history) (length side.shown) side.outcomes a.tells j (reply_or (first + j) was (kept_of side.outcomes (first + j))) reply → (o : Outcome) × Line j l.bytes reply o
     by_reply j l was reply at at_was (by_kept is stored) =
-        let f = first_line side.history (length side.shown) first given ws read_are.writes a.outs of j l was at (read_are.replies j l was at at_was) in (
+        let f = first_line side.history (length side.shown) first given ws read_are.writes side.outcomes of j l was at (read_are.replies j l was at at_was) in (
           f.outcome,
           record {
             told = λ s d session told.
@@ -119,16 +117,16 @@ module _ {D C : Type 0} (first begun : ℕ) (given : List Numbered) (works : Wor
                 let (w, at_w, w_is) = written_back works.writes.items x b at_b in
                 let same : b.session ≡ s = some_same (sym of_session ∙ session) in
                 (a.tells j, (inr (x, w, at_w, ap (λ (v : WriteLine). v.line) w_is ∙ line, ap (λ (v : WriteLine). v.session) w_is ∙ same), refl), omega (arith, most, d_is));
-            came = inl (subst (λ (y : List ℕ). CameAs side.history (length side.shown) (write_lines first given) a.outs (first + j) l.bytes y f.outcome) (sym is) f.came);
+            came = inl (subst (λ (y : List ℕ). CameAs side.history (length side.shown) (write_lines first given) side.outcomes (first + j) l.bytes y f.outcome) (sym is) f.came);
           },
         )
     by_reply j l was reply at at_was (by_caller x r at_r line is most) =
-        let m = least_later ws a.outs r.line r.session (length side.shown) in (
+        let m = least_later ws side.outcomes r.line r.session (length side.shown) in (
           answered m,
           record {
             told = λ s d. read_tells j x l r m s d at at_r line most;
-            came = inl (subst (λ (k : ℕ). CameAs side.history (length side.shown) (write_lines first given) a.outs k l.bytes reply (answered m)) line
-                (read_line side.history (length side.shown) first given ws read_are.writes a.outs of order r.line l.bytes reply r.session (read_view r.request) (asks_there j x l r at at_r line) is));
+            came = inl (subst (λ (k : ℕ). CameAs side.history (length side.shown) (write_lines first given) side.outcomes k l.bytes reply (answered m)) line
+                (read_line side.history (length side.shown) first given ws read_are.writes side.outcomes of order r.line l.bytes reply r.session (read_view r.request) (asks_there j x l r at at_r line) is));
           },
         )
     by_reply j l was reply at at_was (by_worker w is reply_is most above later before) = (
@@ -148,7 +146,7 @@ module _ {D C : Type 0} (first begun : ℕ) (given : List Numbered) (works : Wor
           is = reply_is ∙ is.is ∙ ap (λ (k : ℕ). reply_of is.entered w.at k (read_view is.read.request)) is.line;
           above = above;
           takes = λ i n less (at_session, n_is). let most_told = before i less at_session in omega (arith, most_told, n_is);
-          later = subst (λ (k : ℕ). w.at ≤ least_later ws a.outs k is.read.session (length side.shown)) is.line later;
+          later = subst (λ (k : ℕ). w.at ≤ least_later ws side.outcomes k is.read.session (length side.shown)) is.line later;
         });
       },
     )
@@ -167,20 +165,19 @@ module _ {D C : Type 0} (first begun : ℕ) (given : List Numbered) (works : Wor
   -- LAW: the disk's count rose by the replies that tell a failure of it
   pub round_rose : (before after : ℕ) → RoseBy before after (faults_kept side.outcomes) → RoseBy before after (fault_count first replies)
   round_rose before after rose =
-      let most = faults_told_most a.outs first replies (λ j reply at none_at.
+      let most = faults_told_most side.outcomes first replies (λ j reply at none_at.
       let (was, at_was, how) = a.each j reply at in
       let in_it = get_within replies j reply at in
       let many = joined_many in
       let (l, at_l) = there given j (omega (arith, in_it, many)) in
       quiet j was reply (first_quiet (first + j) l.bytes was (read_are.replies j l was at_l at_was)) none_at how) in
-      let same = forgets_faults side.outcomes a.outs a.forgets in
-      omega (arith, most, same, rose)
+      omega (arith, most, rose)
     where
-      quiet : (j : ℕ) (was reply : List ℕ) → tells_fault (first + j) was ≡ false → fault_at_line a.outs (first + j) ≡ 0
-          → JoinedReply first begun works.reads.items works.writes.items (batches side.history) (length side.shown) a.outs a.tells j (reply_or (first + j) was (kept_of a.outs (first + j))) reply → tells_fault (first + j) reply ≡ false
-      quiet j was reply first_none none_at (by_kept is stored) = ap (tells_fault (first + j)) is ∙ quiet_or (first + j) (first + j) was (kept_of a.outs (first + j)) first_none none_at
+      quiet : (j : ℕ) (was reply : List ℕ) → tells_fault (first + j) was ≡ false → fault_at_line side.outcomes (first + j) ≡ 0
+          → JoinedReply first begun works.reads.items works.writes.items (batches side.history) (length side.shown) side.outcomes a.tells j (reply_or (first + j) was (kept_of side.outcomes (first + j))) reply → tells_fault (first + j) reply ≡ false
+      quiet j was reply first_none none_at (by_kept is stored) = ap (tells_fault (first + j)) is ∙ quiet_or (first + j) (first + j) was (kept_of side.outcomes (first + j)) first_none none_at
       quiet j was reply first_none none_at (by_caller x r at_r line is most) =
-          ap (tells_fault (first + j)) is ∙ read_quiet (first + j) (batches side.history) (least_later ws a.outs r.line r.session (length side.shown)) r.line (read_view r.request)
+          ap (tells_fault (first + j)) is ∙ read_quiet (first + j) (batches side.history) (least_later ws side.outcomes r.line r.session (length side.shown)) r.line (read_view r.request)
       quiet j was reply first_none none_at (by_worker w is reply_is most above later before) = ap (tells_fault (first + j)) (reply_is ∙ is.is) ∙ read_quiet (first + j) is.entered w.at is.read.line (read_view is.read.request)
 
 -- LAW: a round that workers and their caller answered together is served
@@ -192,9 +189,9 @@ pub round_joined : {D C : Type 0} (loaded : List Batch) (may : ℕ → Bool) (be
     → AllByRecursion (IsOfWrites works.writes.items) side.outcomes → (replies : List (List ℕ)) → AnswersJoined (length runs) begun works side replies
     → (more : List Run) × RoundServed may s runs round given (printed replies) (state_of side sessions) more
 round_joined loaded may before output s runs round given begun faults st here above below joined joined_faults most at_join new history lock within works read_are side sessions run all replies a =
-    let of = told_of_writes works.writes.items side.outcomes a.outs all a.forgets in
+    let of = told_of_writes works.writes.items side.outcomes all in
     joined_round_served loaded may before output s runs round given begun faults st here above below joined joined_faults most at_join new history lock within
-    (map write_of works.writes.items) read_are.writes (state_of side sessions) side.outcomes a.outs run a.forgets of (Tells (length runs) begun given works read_are side replies a)
+    (map write_of works.writes.items) read_are.writes (state_of side sessions) side.outcomes run of (Tells (length runs) begun given works read_are side replies a)
     replies (joined_many (length runs) begun given works read_are side replies a) (each_line (length runs) begun given works read_are side replies a of)
 
 -- LAW: so is a round for whose lines there was no room: nothing is written, and each is told so
@@ -207,7 +204,7 @@ round_passed loaded may before output s runs round given n st here long =
     joined_round_served loaded may before output s runs round given s.shown 0 st here (omega arith) st.most
     s 0 0 [] [] (history_begins loaded may before output s.history s.shown s.doubt runs st)
     (lock_begins s.history s.shown s.doubt 0 0 k given (are_new loaded may before output s.history s.shown s.doubt runs 0 given st)) st.most
-    ls (some_all ls) s [] [] (callers_pass may ls s []) tt (λ i u at. no_some at) (λ i session m. ⊥)
+    ls (some_all ls) s [] (callers_pass may ls s []) (λ i u at. no_some at) (λ i session m. ⊥)
     (no_memory k n) (omega (arith, count, long))
     (λ order j l reply at at_reply.
     let f = first_line s.history s.shown k given ls (some_all ls) [] (λ i u none. no_some none) j l (memory_line (k + j)) at (inr refl) in (

@@ -1,6 +1,4 @@
 pub mod Callers
-pub mod Forgotten
-pub mod ForgottenLock
 pub mod Came
 pub mod JoinedLines
 pub mod JoinedRounds

@@ -10,7 +10,7 @@ use Rattle.gd_round_lines.specs.declared.work.ReadLine.{ReadLine}
 use Rattle.gd_round_lines.specs.declared.work.WriteLine.{WriteLine}
 use Rattle.gd_round_lines.specs.declared.work.Works.{Works}
 use Rattle.gd_round_lines.specs.declared.worked.Worked.{Worked}
-use Rattle.gd_caller.specs.Told.{Forgets, reply_or}
+use Rattle.gd_caller.specs.Told.{reply_or}
 use Rattle.gd_reply.specs.Replies.{reply_text}
 use Rattle.gd_round_lines.specs.Works.{write_of}
 use Rattle.gd_caller.specs.Reads.{read_reply}
@@ -48,12 +48,10 @@ pub record AnswersReads (first begun : ℕ) (reads : List ReadLine) (writes : Li
   pub many : length texts_now ≡ length texts
   pub each : (j : ℕ) (reply : List ℕ) → slice_get texts_now j ≡ Some reply → (told : List ℕ) × (slice_get texts j ≡ Some told) × JoinedReply first begun reads writes batches shown outs tells j told reply
 
--- The lines of a round were told what they came to: of each write what was kept of it, but of some refusals that there was no memory, and each read was answered.
+-- The lines of a round were told what they came to: of each write what was kept of it, and each read was answered.
 pub record AnswersJoined {D C : Type 0} (first begun : ℕ) (works : Works) (side : SideValue D C) (replies : List (List ℕ)) : Type 0 where
-  pub outs : List Told
-  pub forgets : Forgets side.outcomes outs
   -- what the line at a place tells at most
   pub tells : ℕ → ℕ
   pub many : length replies ≡ length works.replies.items
   pub each : (j : ℕ) (reply : List ℕ) → slice_get replies j ≡ Some reply → (was : List ℕ) × (slice_get (map reply_text works.replies.items) j ≡ Some was)
-      × JoinedReply first begun works.reads.items works.writes.items (batches side.history) (length side.shown) outs tells j (reply_or (first + j) was (kept_of outs (first + j))) reply
+      × JoinedReply first begun works.reads.items works.writes.items (batches side.history) (length side.shown) side.outcomes tells j (reply_or (first + j) was (kept_of side.outcomes (first + j))) reply

@@ -1,20 +1,9 @@
--- What is told of write lines: a refusal for whose reply there is no memory is told as want of memory.
-use Rattle.std.specs.Prelude.{◌≡◌, ◌⊎◌, ℕ, ◌+◌, List, [], ◌∷◌, Option, None, Some, option_and_then, slice_get}
-use Rattle.gd_runs.specs.Side.{Kept, kept_stored, kept_refused, kept_memory, number_of, Told}
+-- What is told of write lines, by numbers and by replies.
+use Rattle.std.specs.Prelude.{◌≡◌, ℕ, ◌+◌, List, Option, None, Some, option_and_then, slice_get}
+use Rattle.gd_runs.specs.Side.{Kept, kept_stored, number_of, Told}
 use Rattle.gd_core_laws.specs.Bounds.{kept_of}
 use Rattle.gd_core_laws.specs.Round.{kept_reply}
 use Rattle.gd_round_lines.specs.declared.work.LineNumber.{LineNumber}
-
--- what was kept is told, or of a refusal that there was no memory
-abbrev pub MayForget : Kept → Kept → Type 0
-MayForget (kept_refused f n) told = (told ≡ kept_refused f n) ⊎ (told ≡ kept_memory)
-MayForget was told = told ≡ was
-
--- lines with what was kept of them, and the same lines with what is told of them
-abbrev pub Forgets : List Told → List Told → Type 0
-Forgets [] [] = Unit {0}
-Forgets (t ∷ ts) (u ∷ us) = (u.line ≡ t.line) × MayForget t.kept u.kept × Forgets ts us
-Forgets _ _ = ⊥
 
 -- the entry that a write stored and that is shown, if it did
 abbrev pub entry_of : Kept → Option ℕ

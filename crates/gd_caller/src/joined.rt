@@ -51,7 +51,7 @@ pub fn answer_joined<D: Disk, C: Clock, L>(
         ..
     } = works;
     let outcomes = side.take_outcomes(alloc);
-    tell_all(alloc, first, outcomes, &mut numbers, &mut replies);
+    tell_all(first, outcomes, &mut numbers, &mut replies);
     let standing = Standing {
         store: side.store(),
         shown: side.shown(),

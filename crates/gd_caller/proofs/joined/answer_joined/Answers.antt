@@ -4,17 +4,17 @@ use Rattle.std.specs.List.{AllByRecursion}
 use Rattle.gd_prim.specs.declared.Batch.{Batch}
 use Rattle.gd_runs.specs.Legal.{batches}
 use Rattle.gd_runs.specs.Side.{Told}
-use Rattle.gd_writer.specs.Outcomes.{told_view}
 use Rattle.gd_round_lines.specs.declared.work.LineNumber.{LineNumber}
 use Rattle.gd_round_lines.specs.declared.work.WriteLine.{WriteLine}
 use Rattle.gd_reply.specs.Replies.{reply_text}
-use Rattle.gd_caller.specs.Told.{Forgets, AreNumbers}
+use Rattle.gd_caller.specs.Told.{AreNumbers}
+use Rattle.gd_caller.specs.Tells.{TellsAll}
 use Rattle.gd_round_lines.specs.Works.{IsWriteWithin, IsReadWithin, AreApart}
 use Rattle.gd_round_lines.specs.Worked.{AreWorked}
 use Rattle.gd_caller.specs.Joined.{IsOfWrites, JoinedReply, AnswersReads}
 use Rattle.gd_caller.proofs.Left.{still_shown, still_batches}
 use Rattle.gd_caller.proofs.Lines.{short_take}
-use Rattle.gd_caller.proofs.Tells.{numbers_told, told_of_writes, outcomes_within}
+use Rattle.gd_caller.proofs.Tells.{numbers_told, outcomes_within}
 use Rattle.gd_caller.proofs.joined.answer_joined.Goals as goal
 
 pub tell_all-requires-clause-within : goal.tell_all-requires-clause-within
@@ -72,31 +72,26 @@ returns-clause-answers g c =
     let w = c.args.works in
     let first = c.args.first in
     let begun = c.args.begun in
-    let t = c.tell_all.ensures in
     let t0 = map reply_text c.tell_all.new.replies.items in
     let t1 = map reply_text c.answer_reads.new.replies.items in
-    let kept = c.take_outcomes-outcomes.ensures.outcomes in
-    let forgets = subst (λ (ts : List Told). Forgets ts t.outs) kept t.forgets in
-    let are = numbers_told first (map told_view c.take_outcomes-outcomes.result.items) w.numbers.items c.tell_all.new.numbers.items (map reply_text w.replies.items) t0 t c.requires.within.none in
-    let of = told_of_writes w.writes.items s.outcomes t.outs forgets c.requires.outcomes in
+    let t = subst (λ (ts : List Told). TellsAll first ts w.numbers.items c.tell_all.new.numbers.items (map reply_text w.replies.items) t0) c.take_outcomes-outcomes.ensures.outcomes c.tell_all.ensures in
+    let are = numbers_told first s.outcomes w.numbers.items c.tell_all.new.numbers.items (map reply_text w.replies.items) t0 t c.requires.within.none in
     let taken = c.take_outcomes-outcomes.new.self in
     let shown = c.shown.ensures ∙ still_shown s taken c.take_outcomes-outcomes.ensures.side in
     let store = c.store.ensures ∙ still_batches s taken c.take_outcomes-outcomes.ensures.side in
-    let a : AnswersReads first begun w.reads.items w.writes.items (batches s.history) (length s.shown) t.outs t0 t1 =
-    subst (λ (bs : List Batch). AnswersReads first begun w.reads.items w.writes.items bs (length s.shown) t.outs t0 t1) store
-    (subst (λ (n : ℕ). AnswersReads first begun w.reads.items w.writes.items c.store.result.now n t.outs t0 t1) shown
-    (subst (λ (ws : List WriteLine). AnswersReads first begun w.reads.items ws c.store.result.now c.shown.result t.outs t0 t1) c.as_slice.ensures.value
-    (c.answer_reads.ensures t.outs (subst (AreNumbers first t.outs) (sym c.as_slice-2.ensures.value) are) (subst (λ (ws : List WriteLine). AllByRecursion (IsOfWrites ws) t.outs) (sym c.as_slice.ensures.value) of)))) in
+    let a : AnswersReads first begun w.reads.items w.writes.items (batches s.history) (length s.shown) s.outcomes t0 t1 =
+    subst (λ (bs : List Batch). AnswersReads first begun w.reads.items w.writes.items bs (length s.shown) s.outcomes t0 t1) store
+    (subst (λ (n : ℕ). AnswersReads first begun w.reads.items w.writes.items c.store.result.now n s.outcomes t0 t1) shown
+    (subst (λ (ws : List WriteLine). AnswersReads first begun w.reads.items ws c.store.result.now c.shown.result s.outcomes t0 t1) c.as_slice.ensures.value
+    (c.answer_reads.ensures s.outcomes (subst (AreNumbers first s.outcomes) (sym c.as_slice-2.ensures.value) are) (subst (λ (ws : List WriteLine). AllByRecursion (IsOfWrites ws) s.outcomes) (sym c.as_slice.ensures.value) c.requires.outcomes)))) in
     let many = a.many in
     let count = t.count in
     let long = length-map w.replies.items reply_text in
     record {
-      outs = t.outs;
-      forgets = forgets;
       tells = a.tells;
       many = omega (arith, many, count, long);
       each = λ j reply at.
           let (told, at_told, is) = a.each j reply at in
           let (was, at_was, told_is) = t.reply j told at_told in
-          (was, at_was, subst (λ (x : List ℕ). JoinedReply first begun w.reads.items w.writes.items (batches s.history) (length s.shown) t.outs a.tells j x reply) told_is is);
+          (was, at_was, subst (λ (x : List ℕ). JoinedReply first begun w.reads.items w.writes.items (batches s.history) (length s.shown) s.outcomes a.tells j x reply) told_is is);
     }
