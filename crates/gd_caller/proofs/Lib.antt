@@ -9,3 +9,4 @@ pub mod Left
 pub mod Tells
 pub mod Faults
 pub mod Lines
+mod Slices
