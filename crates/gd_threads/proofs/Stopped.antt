@@ -13,11 +13,10 @@ use Rattle.gd_core_laws.proofs.LockRun.{history_begins, lock_begins}
 use Rattle.gd_core_laws.proofs.Threads.{are_new}
 use Rattle.gd_core_laws.proofs.Prefix.{callers_pass}
 use Rattle.gd_round_lines.specs.Some.{IsSomeOf}
-use Rattle.gd_caller.specs.Told.{Forgets, reply_or}
+use Rattle.gd_caller.specs.Told.{reply_or}
 use Rattle.gd_caller.specs.Served.{printed, AreOf, StandsForState, StandsServed}
 use Rattle.gd_round_lines.proofs.Some.{some_all}
 use Rattle.gd_caller.proofs.Callers.{callers_some, callers_among}
-use Rattle.gd_caller.proofs.Forgotten.{forget_nothing}
 use Rattle.gd_caller.proofs.JoinedLines.{CameAs, first_line, joined_round_served}
 
 -- ---- what the lines are told
@@ -40,11 +39,6 @@ told_at outcomes k [] j x at = no_some at
 told_at outcomes k (l ∷ ls) zero x at = ap (told_reply outcomes) (omega arith) ∙ some_same at
 told_at outcomes k (l ∷ ls) (suc j) x at = ap (told_reply outcomes) (omega arith) ∙ told_at outcomes (k + 1) ls j x at
 
--- nothing is forgotten
-forgets_none : (outcomes : List Told) → Forgets outcomes outcomes
-forgets_none [] = tt
-forgets_none (t ∷ ts) = (refl, forget_nothing t.kept, forgets_none ts)
-
 -- ---- the round
 
 module _ (loaded : List Batch) (may : ℕ → Bool) (before : List Numbered) (output : List ℕ) (s : State) (runs : List Run) (round : ℕ) (given : List Numbered) (begun faults : ℕ)
@@ -63,7 +57,7 @@ module _ (loaded : List Batch) (may : ℕ → Bool) (before : List Numbered) (ou
       (λ by_caller. by_caller)
       (callers_among may ls joined t at_join outcomes i u all at) in
       let (more, served) = joined_round_served loaded may before output s runs round given begun faults st here above below joined joined_faults most at_join new history lock within
-      ls (some_all ls) t outcomes outcomes all (forgets_none outcomes) of (λ i session n. Unit {0})
+      ls (some_all ls) t outcomes all of (λ i session n. Unit {0})
       (told_replies outcomes k given) (told_many outcomes k given)
       (λ order j l reply at at_reply.
       let f = first_line t.history t.shown k given ls (some_all ls) outcomes of j l (memory_line (k + j)) at (inr refl) in (
