@@ -34,7 +34,7 @@ Some words run through all of them.
 - A **member** is a name with a value in a JSON object; a **clause** is an object of members that a query asks of something; the **root** is the clause outside.
 - Texts are lists of bytes throughout.
 
-What the clauses name of a source (`left`, `faults`), a sink (`held`, `faults`), a shelf (`content`, `images`, `faults`, `is_out`) and a clock (`may`) is what these objects tell of themselves; the traits say it, in `gd_outside/src` and `gd_disk/src`. `x.now`, and `x.old` with `x.new`, is what a contract sees of an object of the code.
+What the clauses name of a source (`left`, `faults`), a sink (`held`, `sent`, `faults`), a shelf (`content`, `images`, `faults`, `is_out`) and a clock (`may`) is what these objects tell of themselves; the traits say it, in `gd_outside/src` and `gd_disk/src`. `x.now`, and `x.old` with `x.new`, is what a contract sees of an object of the code.
 
 A name in `code` is that of the definition. Behind a type stand the cases or the parts that it has.
 """
@@ -77,6 +77,7 @@ CRATES = [
      ["Request", "Input", "Legal", "Explained/Lines", "Explained/Outcomes", "Explained/Runs", "Explained/Rounds", "Explained",
       "RootSets", "Work", "Owed", "Scanned", "Shape/Answers", "Shape/Ids", "Shape", "Thawed", "Fitting",
       "Core", "Replay", "Pace", "Side"], True),
+    ("gd_input", "What was taken of an input, and which of its rounds that is.", ["Taken"], False),
     ("gd_paging_laws", "Pages of a query that were read one after another.", ["Told", "Paged", "Explained"], False),
     ("gd_shared", "Published copies: what contracts see of a publisher and of seats.", ["Shared"], False),
     ("gd_log", "A log: payloads that are groups of batches, and what its disk holds.", ["Groups", "State"], False),

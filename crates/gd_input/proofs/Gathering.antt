@@ -11,8 +11,9 @@ use Rattle.gd_input.specs.declared.line.RoundLine.{RoundLine}
 use Rattle.gd_input.specs.declared.piece.Piece.{Piece}
 use Rattle.gd_input.specs.declared.round.Round.{Round}
 use Rattle.gd_input.specs.Line.{IsKept, IsShort}
-use Rattle.gd_input.specs.Pieces.{Known, Advances, TakesPiece, later_pieces, ended_lines, StopsInLine}
-use Rattle.gd_input.specs.Rounds.{AreKept, in_round, TakesRound, rounds_ended, whole_rounds, StopsInRound}
+use Rattle.gd_input.specs.Pieces.{Known, Advances, TakesPiece, later_pieces, StopsInLine}
+use Rattle.gd_input.specs.Rounds.{AreKept, in_round, TakesRound, StopsInRound}
+use Rattle.gd_input.specs.Taken.{ended_lines, rounds_ended, whole_rounds}
 use Rattle.gd_input.proofs.Reading.{ended_none}
 
 -- the lines behind so many of a round

@@ -9,7 +9,8 @@ use Rattle.gd_input.specs.declared.line.RoundLine.{RoundLine}
 use Rattle.gd_input.specs.declared.piece.Piece.{Piece}
 use Rattle.gd_input.specs.Held.{Held}
 use Rattle.gd_input.specs.Line.{IsKept}
-use Rattle.gd_input.specs.Pieces.{IsPlain, TakesChunk, TakesPiece, Known, Advances, ended_lines, StopsInLine}
+use Rattle.gd_input.specs.Pieces.{IsPlain, TakesChunk, TakesPiece, Known, Advances, StopsInLine}
+use Rattle.gd_input.specs.Taken.{ended_lines}
 
 plain-append : (xs ys : List ℕ) → IsPlain xs → IsPlain ys → IsPlain (xs ++ ys)
 plain-append [] ys p q = q

@@ -2,7 +2,8 @@
 use Rattle.std.proofs.Common.{◌≡◌, ◌≤◌, ℕ, List, [], ◌++◌, Option, Some, None, ap, sym, subst, ◌∙◌, arith, append_assoc, length-append}
 use Rattle.std.specs.Io.KnownBytes.{prepend_known}
 use Rattle.std.proofs.KnownBytes.{prepend_known-nil}
-use Rattle.gd_input.specs.Pieces.{Known, Advances, TakesAtLeast}
+use Rattle.gd_input.specs.Pieces.{Known, Advances}
+use Rattle.gd_input.specs.Taken.{TakesAtLeast}
 
 -- what was counted was taken, with what is held
 pub taken_known : (a b : Option (List ℕ)) (held : List ℕ) (n m : ℕ) → Advances a (prepend_known held b) 0 n → m ≤ n → TakesAtLeast m a b

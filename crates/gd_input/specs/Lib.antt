@@ -2,3 +2,4 @@ pub mod Held
 pub mod Line
 pub mod Pieces
 pub mod Rounds
+pub mod Taken

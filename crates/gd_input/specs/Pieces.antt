@@ -1,12 +1,13 @@
 -- Pieces of the input, which end at a newline or at the input's end.
-use Rattle.std.specs.Prelude.{◌≡◌, ℕ, ◌+◌, ◌≤◌, List, [], ◌∷◌, ◌++◌, length, take, drop, Bool, true, false, ◌==◌, if◌then◌else◌, Option, None, Some, ⊤}
+use Rattle.std.specs.Prelude.{◌≡◌, ℕ, ◌+◌, List, [], ◌∷◌, ◌++◌, length, take, drop, Bool, true, false, ◌==◌, if◌then◌else◌, Option, None, Some, ⊤}
 use Rattle.std.specs.List.{AllByRecursion}
 use Rattle.std.specs.Io.KnownBytes.{Consumes}
-use Rattle.gd_runs.specs.Explained.{pieces, without_return}
+use Rattle.gd_runs.specs.Explained.{pieces}
 use Rattle.gd_input.specs.declared.line.RoundLine.{RoundLine}
 use Rattle.gd_input.specs.declared.piece.Piece.{Piece}
 use Rattle.gd_input.specs.Held.{Held}
 use Rattle.gd_input.specs.Line.{IsKept}
+use Rattle.gd_input.specs.Taken.{ended_lines}
 
 -- no byte is a newline
 abbrev pub IsPlain : List ℕ → Type 0
@@ -37,15 +38,6 @@ pub record Advances (old new : Option (List ℕ)) (m n : ℕ) : Type 0 where
   pub bytes : List ℕ
   pub consumed : Consumes old new bytes
   pub counted : n ≡ m + length bytes
-
--- at least so many bytes were taken off the front of what was left, where that is known
-abbrev pub TakesAtLeast : ℕ → (old new : Option (List ℕ)) → Type 0
-TakesAtLeast n old new = (bytes : List ℕ) × Consumes old new bytes × (n ≤ length bytes)
-
--- the lines that newlines end in bytes, behind a piece that has begun
-abbrev pub ended_lines : List ℕ → List ℕ → List (List ℕ)
-ended_lines piece [] = []
-ended_lines piece (c ∷ bytes) = if c == 10 then without_return piece ∷ ended_lines [] bytes else ended_lines (piece ++ c ∷ []) bytes
 
 -- these bytes were taken, and end no line
 pub record StopsInLine (before after : List ℕ) : Type 0 where

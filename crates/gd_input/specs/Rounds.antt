@@ -1,10 +1,10 @@
 -- Rounds of the input.
-use Rattle.std.specs.Prelude.{◌≡◌, ℕ, ◌+◌, List, [], ◌∷◌, ◌++◌, map, true, false, ◌==◌, if◌then◌else◌, ⊤}
-use Rattle.gd_runs.specs.Explained.{Numbered, pieces, max_round, numbered}
+use Rattle.std.specs.Prelude.{◌≡◌, ℕ, ◌+◌, List, [], ◌∷◌, ◌++◌, map, true, false, ⊤}
+use Rattle.gd_runs.specs.Explained.{Numbered, pieces, numbered}
 use Rattle.gd_input.specs.declared.line.RoundLine.{RoundLine}
 use Rattle.gd_input.specs.declared.round.Round.{Round}
 use Rattle.gd_input.specs.Line.{IsKept}
-use Rattle.gd_input.specs.Pieces.{ended_lines}
+use Rattle.gd_input.specs.Taken.{whole_rounds}
 
 -- each line is kept, or told as too long
 abbrev pub AreKept : List RoundLine → List (List ℕ) → Type 0
@@ -15,16 +15,6 @@ AreKept _ _ = ⊥
 -- lines with the number of their round
 abbrev pub in_round : ℕ → List (List ℕ) → List Numbered
 in_round round lines = map (λ line. record { bytes = line; round = round }) lines
-
--- how many rounds end with these lines, where so many lines of the present one were taken already
-abbrev pub rounds_ended : ℕ → List (List ℕ) → ℕ
-rounds_ended in_round [] = 0
-rounds_ended in_round ([] ∷ lines) = 1 + rounds_ended 0 lines
-rounds_ended in_round ((c ∷ cs) ∷ lines) = if in_round + 1 == max_round then 1 + rounds_ended 0 lines else rounds_ended (in_round + 1) lines
-
--- how many rounds lie wholly in bytes: each ends with the newline of a blank line or of its 256th line
-abbrev pub whole_rounds : List ℕ → ℕ
-whole_rounds bytes = rounds_ended 0 (ended_lines [] bytes)
 
 -- these bytes were taken, and no round lies wholly in them
 pub record StopsInRound (before after : List ℕ) : Type 0 where

@@ -201,6 +201,12 @@ sent_at_end (Ok u) (Ok v) result P is at_end = rw is at_end
 sent_at_end (Ok u) (Err e) result P is at_end = rw is tt
 sent_at_end (Err why) sent result P is at_end = rw is tt
 
+-- and all is sent on
+pub sent_on : (end : Result (Unit {0}) Stop) (sent : Result (Unit {0}) Failed) (result : Result (Unit {0}) Stop) (P : Type 0) → EndsSent end sent result → OnOk sent P → OnOk result P
+sent_on (Ok u) (Ok v) result P is now = rw is now
+sent_on (Ok u) (Err e) result P is now = rw is tt
+sent_on (Err why) sent result P is now = rw is tt
+
 -- causes, with that of sending on
 pub sent_causes : (end : Result (Unit {0}) Stop) (sent : Result (Unit {0}) Failed) (result : Result (Unit {0}) Stop) (r s d l sink_failed : Type 0) → EndsSent end sent result → EndsBy end r s d l → (s → sink_failed) → OnErr sent sink_failed
     → EndsBy result r sink_failed d l

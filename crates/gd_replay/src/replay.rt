@@ -1,11 +1,11 @@
 //! The whole run.
-ghost use Rattle.std.specs.Prelude.{◌≡◌, ◌≤◌, ◌^◌, ℕ, List, Ok, Err, OnOk, IfSome};
+ghost use Rattle.std.specs.Prelude.{◌≡◌, ◌≤◌, ◌^◌, ℕ, List, Ok, Err, true, OnOk, IfSome};
 ghost use Rattle.std.specs.Option.{ForSome};
 ghost use Rattle.std.specs.Io.KnownBytes.{IsAtEnd};
 ghost use Rattle.gd_base.specs.Counts.{Rose, RoseBy};
 ghost use Rattle.gd_prim.specs.declared.Batch.{Batch};
 ghost use Rattle.gd_bytes.specs.File.{StandsFor, meaning};
-ghost use Rattle.gd_input.specs.Pieces.{TakesAtLeast};
+ghost use Rattle.gd_input.specs.Taken.{TakesAtLeast};
 ghost use Rattle.gd_log.specs.Opening.{IsKept, Refuses};
 ghost use Rattle.gd_runs.specs.Core as core;
 ghost use Rattle.gd_runs.specs.Legal.{batches};
@@ -134,6 +134,9 @@ pub fn replay<R: Wait, D: Disk, S: Source, K: Sink, C: Clock>(
         (IfSome (S.left source.old) (ReplaysFront members (C.may clock) (Loads (D.content disk)) (Leaves (D.images result.1)) (RoseBy (D.faults disk) (D.faults result.1)) (K.held sink.old) (K.held sink.new)))
         ((source.new ≡ source.old) × (sink.new ≡ sink.old)) }
     ensures at_end { OnOk result.0 (IsAtEnd (S.left source.new)) }
+
+    // Where all of the input was read, all that was printed is sent on.
+    ensures sent { OnOk result.0 (K.sent sink.new ≡ true) }
 
     // Each stop has its cause.
     ensures caused { EndsBy result.0 (Rose (S.faults source.old) (S.faults source.new)) (Rose (K.faults sink.old) (K.faults sink.new))

@@ -75,6 +75,8 @@ impl Taking {
 impl Sink for Taking {
     ghost held = { λ _. None };
 
+    ghost sent = { λ s. s.sink.sent };
+
     ghost faults = { λ s. s.faults };
 
     fn write(&mut self, bytes: &[u8]) -> Result<usize, Failed> {

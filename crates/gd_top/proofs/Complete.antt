@@ -3,7 +3,7 @@ use Rattle.std.proofs.Common.{◌≡◌, ◌≢◌, ◌^◌, ◌<◌, ℕ, List,
 use Rattle.std.specs.Prelude.{IsSomeAnd}
 use Rattle.gd_prim.specs.declared.Batch.{Batch}
 use Rattle.gd_bytes.specs.File.{Meaning, not_store, damaged, groups, StandsFor}
-use Rattle.gd_input.specs.Pieces.{TakesAtLeast}
+use Rattle.gd_input.specs.Taken.{TakesAtLeast}
 use Rattle.gd_top.specs.declared.status.Status.{Status}
 use Rattle.gd_top.specs.declared.status.Status.TheVariants as status
 use Rattle.gd_top.specs.Held.{MayMean, MayMeanAt, DoesMean, IsSoundAt, told_at}

@@ -122,3 +122,7 @@ input_too_much (Err why) fault s was is gives = let same : why ≡ stop.TooMuch 
 pub input_failed : {T U : Type 0} (r : Result T Stop) (fault : InputFault) (s : Result U InputFault) → s ≡ Err fault → r ≡ Err stop.ReadFault → IsErrAnd r (λ why. why ≡ stop_of fault) → s ≡ Err input.Failed
 input_failed (Ok x) fault s was is gives = cc
 input_failed (Err why) fault s was is gives = let same : why ≡ stop.ReadFault = cc in was ∙ ap Err (failed_is fault why gives same)
+
+pub sink_stopped : {T : Type 0} (r : Result T Stop) → IsErrAnd r (λ why. why ≡ stop.SinkFault) → r ≡ Err stop.SinkFault
+sink_stopped (Ok x) gives = absurd gives
+sink_stopped (Err why) gives = ap Err gives

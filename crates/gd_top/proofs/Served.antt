@@ -11,7 +11,8 @@ use Rattle.gd_runs.specs.Core.{State, opened}
 use Rattle.gd_runs.specs.Explained.{Numbered, pieces, numbered, lines_of, lines_within, memory_line, fault_count}
 use Rattle.gd_input.specs.declared.line.RoundLine.{RoundLine}
 use Rattle.gd_input.specs.declared.round.Round.{Round}
-use Rattle.gd_input.specs.Rounds.{AreKept, in_round, whole_rounds, TakesRound, StopsInRound}
+use Rattle.gd_input.specs.Rounds.{AreKept, in_round, TakesRound, StopsInRound}
+use Rattle.gd_input.specs.Taken.{whole_rounds}
 use Rattle.gd_round_lines.specs.Replies.{no_memory}
 use Rattle.gd_round_laws.specs.Rounds.{ServesRound, RoundsStand, IsAccounted, passed}
 use Rattle.gd_round_laws.proofs.Rounds.{rounds_begin, rounds_go_on, rounds_are_accounted, rest_is_passed, first_rounds_are_within}

@@ -5,7 +5,8 @@ use Rattle.gd_base.specs.Counts.{RoseBy}
 use Rattle.gd_prim.specs.declared.Batch.{Batch}
 use Rattle.gd_runs.specs.Explained.{Numbered, pieces, numbered, lines_of, fault_count}
 use Rattle.gd_runs.specs.Core.{State}
-use Rattle.gd_input.specs.Rounds.{in_round, whole_rounds}
+use Rattle.gd_input.specs.Rounds.{in_round}
+use Rattle.gd_input.specs.Taken.{whole_rounds}
 use Rattle.gd_outside.specs.Gains.{GainsFront}
 use Rattle.gd_round_laws.specs.Rounds.{ServesRound, RoundsStand}
 use Rattle.gd_caller.specs.Served.{printed}

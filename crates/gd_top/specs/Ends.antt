@@ -1,5 +1,5 @@
 -- How a run ends, and why.
-use Rattle.std.specs.Prelude.{◌≡◌, ◌⊎◌, ℕ, Bool, true, false}
+use Rattle.std.specs.Prelude.{◌≡◌, ◌≢◌, ◌⊎◌, ℕ, Bool, true, false}
 use Rattle.gd_bytes.specs.File.{Meaning, not_store, damaged}
 use Rattle.gd_top.specs.declared.status.Status.{Status}
 use Rattle.gd_top.specs.declared.status.Status.TheVariants as status
@@ -27,6 +27,10 @@ IsHindered s = (s ≡ status.DiskFault) ⊎ (s ≡ status.Memory)
 pub record IsIdle {S K : Type 0} (source_old source_new : S) (sink_old sink_new : K) : Type 0 where
   pub source : source_new ≡ source_old
   pub sink : sink_new ≡ sink_old
+
+-- A run that answers round by round sends on what it prints: at each end but a failure of the sink all that the sink took is sent on, or the sink is as it was.
+abbrev pub SendsRounds : {K : Type 0} → Status → (K → Bool) → (old new : K) → Type 0
+SendsRounds s sent old new = s ≢ status.SinkFault → (new ≡ old) ⊎ (sent new ≡ true)
 
 -- Why a run has this status.
 pub record Causes (s : Status) (read_failed sink_failed disk_failed is_long : Type 0) (may_mean does_mean : Meaning → Type 0) : Type 0 where

@@ -3,7 +3,6 @@ use Rattle.std.specs.Prelude.{◌≡◌, ◌⊎◌, ℕ, List, ◌++◌, Option,
 use Rattle.std.specs.Option.{ForSome}
 use Rattle.gd_prim.specs.declared.Batch.{Batch}
 use Rattle.gd_bytes.specs.File.{not_store, damaged, meaning, StandsFor}
-use Rattle.gd_log.specs.Opening.{IsReadSame}
 
 -- what is left of a file: the same bytes, or, where it stood for batches, bytes that stand for these and for further ones behind them
 abbrev pub IsLeft : List ℕ → List ℕ → Type 0
@@ -23,11 +22,15 @@ Keeps told now images_old images_new = ForSome told (λ file. KeepsFile file now
 
 -- ---- a run that did not begin
 
+-- the same bytes, or bytes that stand for the same batches
+abbrev pub IsSame : List ℕ → List ℕ → Type 0
+IsSame before after = (after ≡ before) ⊎ ((bs : List Batch) × StandsFor before bs × StandsFor after bs)
+
 -- A file is as it was: it is told, a read gives the same bytes or such as stand for the same batches, and so does all that a stop leaves, by what one might have left before.
 pub record StaysFile (file : List ℕ) (now : Option (List ℕ)) (images_old images_new : List ℕ → Type 0) : Type 0 where
   pub told : IsSome now
-  pub read : ForSome now (λ later. IsReadSame file later)
-  pub images : (c : List ℕ) → images_new c → (d : List ℕ) × images_old d × IsReadSame d c
+  pub read : ForSome now (λ later. IsSame file later)
+  pub images : (c : List ℕ) → images_new c → (d : List ℕ) × images_old d × IsSame d c
 
 -- where the file is told, it is as it was
 abbrev pub StaysTold : Option (List ℕ) → Option (List ℕ) → (List ℕ → Type 0) → (List ℕ → Type 0) → Type 0

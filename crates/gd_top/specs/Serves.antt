@@ -4,7 +4,7 @@ use Rattle.std.specs.Io.KnownBytes.{Appends, Consumes}
 use Rattle.gd_prim.specs.declared.Batch.{Batch}
 use Rattle.gd_runs.specs.Legal.{History}
 use Rattle.gd_runs.specs.Explained.{Numbered, Run, lines_of, lines_within, IsExplainedBy, faults_told}
-use Rattle.gd_input.specs.Rounds.{whole_rounds}
+use Rattle.gd_input.specs.Taken.{whole_rounds}
 use Rattle.gd_top.specs.declared.status.Status.{Status}
 use Rattle.gd_top.specs.declared.status.Status.TheVariants as status
 use Rattle.gd_top.specs.Ends.{is_refused, is_stopped}

@@ -1,11 +1,11 @@
 //! The frame of every verb: the store that a command names is opened, the verb runs over its disk, and the disk is put back.
-ghost use Rattle.std.specs.Prelude.{◌≡◌, ◌≢◌, ◌≤◌, ◌^◌, ℕ, List, false, [], length, None, Some, IfSome};
+ghost use Rattle.std.specs.Prelude.{◌≡◌, ◌≢◌, ◌≤◌, ◌^◌, ℕ, List, true, false, [], None, Some};
 ghost use Rattle.std.specs.Io.KnownBytes.{IsAtEnd};
 ghost use Rattle.gd_base.specs.Counts.{Rose, RoseBy};
 ghost use Rattle.gd_bytes.specs.Disk.{HoldsSame};
-ghost use Rattle.gd_input.specs.Pieces.{TakesAtLeast};
-ghost use Rattle.gd_words.specs.Verbs.{verb_in, file_of};
-ghost use Rattle.gd_top.specs.Ends.{IsIdle, Causes};
+ghost use Rattle.gd_input.specs.Taken.{TakesAtLeast};
+ghost use Rattle.gd_words.specs.Verbs.{serves, verb_in, file_of};
+ghost use Rattle.gd_top.specs.Ends.{IsIdle, Causes, SendsRounds};
 ghost use Rattle.gd_top.specs.Held.{MayMean, MayMeanAt, DoesMean, told_at};
 ghost use Rattle.gd_top.specs.Kept.{Keeps, StaysAt, StaysTold};
 ghost use Rattle.gd_top.specs.Verbs.{PrintsOver, PrintsAt};
@@ -51,6 +51,8 @@ fn run_over<
         × StaysTold (D.content disk) (D.content result.1) (D.images disk) (D.images result.1))
         (S.left source.old) (S.left source.new) (K.held sink.old) (K.held sink.new) }
     ensures at_end { result.0 ≡ Status.Done → IsAtEnd (S.left source.new) }
+    ensures sent { result.0 ≡ Status.Done → K.sent sink.new ≡ true }
+    ensures rounds_sent { verb_in command.now ≡ serves → SendsRounds result.0 K.sent sink.old sink.new }
     ensures causes { Causes result.0 (Rose (S.faults source.old) (S.faults source.new))
         (Rose (K.faults sink.old) (K.faults sink.new))
         (Rose (D.faults disk) (D.faults result.1))
@@ -98,6 +100,8 @@ fn run_in_file<
         × StaysAt (F.content shelf.old) (F.content shelf.new) (F.images shelf.old) (F.images shelf.new) (Some path.now))
         (S.left source.old) (S.left source.new) (K.held sink.old) (K.held sink.new) }
     ensures at_end { result ≡ Status.Done → IsAtEnd (S.left source.new) }
+    ensures sent { result ≡ Status.Done → K.sent sink.new ≡ true }
+    ensures rounds_sent { verb_in command.now ≡ serves → SendsRounds result K.sent sink.old sink.new }
     ensures causes { Causes result (Rose (S.faults source.old) (S.faults source.new))
         (Rose (K.faults sink.old) (K.faults sink.new))
         (Rose (F.faults shelf.old) (F.faults shelf.new))
@@ -136,6 +140,8 @@ fn run_in_memory<R: Threads + Wait + Sync, S: Source, K: Sink, C: Clock + Send +
         (IsIdle source.old source.new sink.old sink.new)
         (S.left source.old) (S.left source.new) (K.held sink.old) (K.held sink.new) }
     ensures at_end { result ≡ Status.Done → IsAtEnd (S.left source.new) }
+    ensures sent { result ≡ Status.Done → K.sent sink.new ≡ true }
+    ensures rounds_sent { verb_in command.now ≡ serves → SendsRounds result K.sent sink.old sink.new }
     ensures causes { Causes result (Rose (S.faults source.old) (S.faults source.new))
         (Rose (K.faults sink.old) (K.faults sink.new)) ⊥
         (TakesAtLeast (2 ^ 40) (S.left source.old) (S.left source.new)) (λ _. ⊥) (λ _. ⊥) }
@@ -173,6 +179,8 @@ pub fn run<R: Threads + Wait + Sync, S: Source, K: Sink, F: Shelf, C: Clock + Se
         × StaysAt (F.content shelf.old) (F.content shelf.new) (F.images shelf.old) (F.images shelf.new) (file_of command.now))
         (S.left source.old) (S.left source.new) (K.held sink.old) (K.held sink.new) }
     ensures at_end { result ≡ Status.Done → IsAtEnd (S.left source.new) }
+    ensures sent { result ≡ Status.Done → K.sent sink.new ≡ true }
+    ensures rounds_sent { verb_in command.now ≡ serves → SendsRounds result K.sent sink.old sink.new }
 
     // Each status has its cause, and what is said of the file is so.
     ensures causes { Causes result (Rose (S.faults source.old) (S.faults source.new))

@@ -1,15 +1,15 @@
 //! The top call.
-ghost use Rattle.std.specs.Prelude.{◌≡◌, ◌≢◌, ◌≤◌, ◌<◌, ◌⊎◌, ◌^◌, ℕ, List, length, false, None, Some, IfSome, IsSomeAnd};
+ghost use Rattle.std.specs.Prelude.{◌≡◌, ◌≢◌, ◌≤◌, ◌<◌, ◌⊎◌, ◌^◌, ℕ, List, length, true, false, None, Some, IfSome, IsSomeAnd};
 ghost use Rattle.std.specs.Io.KnownBytes.{IsAtEnd};
 ghost use Rattle.gd_base.specs.Counts.{Rose, RoseBy};
 ghost use Rattle.gd_bytes.specs.Disk.{HoldsSame};
 ghost use Rattle.gd_bytes.specs.File.{not_store, damaged};
-ghost use Rattle.gd_input.specs.Pieces.{TakesAtLeast};
+ghost use Rattle.gd_input.specs.Taken.{TakesAtLeast};
 ghost use Rattle.gd_runs.specs.Owed.{MembersOf};
 ghost use Rattle.gd_words.specs.Verbs as verb;
 ghost use Rattle.gd_words.specs.Verbs.{verb_of, path_of};
 ghost use Rattle.gd_words.specs.Words.{command_of};
-ghost use Rattle.gd_top.specs.Ends.{IsHindered, IsIdle};
+ghost use Rattle.gd_top.specs.Ends.{IsHindered, IsIdle, SendsRounds};
 ghost use Rattle.gd_top.specs.Held.{BeginsWith, EndsWith, MayMeanAt, DoesMean, IsSoundAt, told_at};
 ghost use Rattle.gd_top.specs.Kept.{Keeps, StaysAt};
 ghost use Rattle.gd_top.specs.Replays.{IsToldAt, LeavesAt, PrintsEvents};
@@ -91,6 +91,10 @@ pub fn graphd<
 
     // What follows here holds with every verb. A run that is done has read its input to the end.
     ensures at_end { result ≡ Status.Done → IsAtEnd (S.left source.new) }
+
+    // With Done all that was printed is sent on; a run of lines sends on what it prints round by round.
+    ensures sent { result ≡ Status.Done → K.sent sink.new ≡ true }
+    ensures rounds_sent { verb_of words.now ≡ Some verb.serves → SendsRounds result K.sent sink.old sink.new }
 
     // Each fault has its cause.
     ensures read_fault { result ≡ Status.ReadFault → Rose (S.faults source.old) (S.faults source.new) }

@@ -1,9 +1,9 @@
 //! The verb `replay`: a run of events over the store of a disk.
-ghost use Rattle.std.specs.Prelude.{◌≡◌, ◌≢◌, ◌≤◌, ◌^◌, length, IfSome};
+ghost use Rattle.std.specs.Prelude.{◌≡◌, ◌≢◌, ◌^◌, true};
 ghost use Rattle.std.specs.Io.KnownBytes.{IsAtEnd};
 ghost use Rattle.gd_base.specs.Counts.{Rose, RoseBy};
 ghost use Rattle.gd_runs.specs.Owed.{MembersOf};
-ghost use Rattle.gd_input.specs.Pieces.{TakesAtLeast};
+ghost use Rattle.gd_input.specs.Taken.{TakesAtLeast};
 ghost use Rattle.gd_writer.specs.Parts.{Tells};
 ghost use Rattle.gd_replay.specs.Stops.{Leaves};
 ghost use Rattle.gd_top.specs.Ends.{IsIdle, Causes};
@@ -50,6 +50,7 @@ pub(crate) fn replay_over<R: Wait, D: Disk, S: Source, K: Sink, C: Clock + Drop>
         (IsIdle source.old source.new sink.old sink.new × StaysTold (D.content disk) (D.content result.1) (D.images disk) (D.images result.1))
         (S.left source.old) (K.held sink.old) (K.held sink.new) }
     ensures at_end { result.0 ≡ Status.Done → IsAtEnd (S.left source.new) }
+    ensures sent { result.0 ≡ Status.Done → K.sent sink.new ≡ true }
     ensures causes { Causes result.0 (Rose (S.faults source.old) (S.faults source.new))
         (Rose (K.faults sink.old) (K.faults sink.new)) (Rose (D.faults disk) (D.faults result.1))
         (TakesAtLeast (2 ^ 40) (S.left source.old) (S.left source.new)) (MayMean (D.content disk)) (DoesMean (D.content disk)) }

@@ -1,11 +1,11 @@
 //! Rounds: they are read, answered and printed.
-ghost use Rattle.std.specs.Prelude.{◌≡◌, ◌≤◌, ◌<◌, ◌+◌, ◌^◌, ℕ, List, Bool, length, Err, IfSome, OnOk, OnErr};
+ghost use Rattle.std.specs.Prelude.{◌≡◌, ◌≢◌, ◌≤◌, ◌<◌, ◌+◌, ◌^◌, ◌⊎◌, ℕ, List, Bool, true, length, Err, IfSome, OnOk, OnErr};
 ghost use Rattle.std.specs.List.{All};
 ghost use Rattle.std.specs.Option.{is_some};
 ghost use Rattle.std.specs.Io.KnownBytes.{IsAtEnd};
 ghost use Rattle.gd_base.specs.Counts.{Rose, RoseBy};
 ghost use Rattle.gd_input.specs.Line.{IsShort};
-ghost use Rattle.gd_input.specs.Pieces.{TakesAtLeast};
+ghost use Rattle.gd_input.specs.Taken.{TakesAtLeast};
 ghost use Rattle.gd_threads.specs.Served.{state_at};
 ghost use Rattle.gd_top.specs.Lines.{AnswersLines};
 ghost use Rattle.gd_top.specs.Opened.{HoldsAs, IsAtStart};
@@ -39,7 +39,7 @@ fn answer_round<R: Threads + Wait + Sync, D: Disk + Send, K: Sink, C: Clock + Se
     requires lines { rounds.old.lines + length lines.now < 2 ^ 63 }
     requires short { All IsShort lines.now }
     ensures { AnswersLines D.content D.faults C.may lines.now rounds.old rounds.new
-        (K.held sink.old) (K.held sink.new) (K.faults sink.old) (K.faults sink.new) result }
+        (K.held sink.old) (K.held sink.new) (K.sent sink.new) (K.faults sink.old) (K.faults sink.new) result }
 {
     let replies = rounds.answer_round(rt, alloc, gate, lines);
     let printed = print_replies(sink, &replies);
@@ -73,6 +73,10 @@ pub fn serve_rounds<
         (λ loaded. loaded ≡ rounds.old.side.history.loaded) (HoldsAs (C.may rounds.old.side.clock) (state_at rounds.new.side))
         (RoseBy (D.faults rounds.old.side.log.disk) (D.faults rounds.new.side.log.disk)) (K.held sink.old) (K.held sink.new))) }
     ensures at_end { OnOk result (IsAtEnd (S.left source.new)) }
+
+    // At the end all that was printed is sent on, and at each stop but one of the sink all, or nothing was printed.
+    ensures sent { OnOk result (K.sent sink.new ≡ true) }
+    ensures rounds_sent { result ≢ Err Stop.SinkFault → (sink.new ≡ sink.old) ⊎ (K.sent sink.new ≡ true) }
     ensures rounds { result ≡ Err Stop.ReadFault → IfSome (S.left source.old) (ServesRounds (C.may rounds.old.side.clock)
         (λ loaded. loaded ≡ rounds.old.side.history.loaded) (HoldsAs (C.may rounds.old.side.clock) (state_at rounds.new.side))
         (RoseBy (D.faults rounds.old.side.log.disk) (D.faults rounds.new.side.log.disk)) (K.held sink.old) (K.held sink.new) (S.left source.new)) }

@@ -1,11 +1,11 @@
 //! The verb `serve`: lines are answered, round by round, over the store of a disk.
-ghost use Rattle.std.specs.Prelude.{◌≡◌, ◌≢◌, ◌≤◌, ◌^◌, length, IfSome};
+ghost use Rattle.std.specs.Prelude.{◌≡◌, ◌≢◌, ◌≤◌, ◌^◌, true};
 ghost use Rattle.std.specs.Option.{is_some};
 ghost use Rattle.std.specs.Io.KnownBytes.{IsAtEnd};
 ghost use Rattle.gd_base.specs.Counts.{Rose, RoseBy};
-ghost use Rattle.gd_input.specs.Pieces.{TakesAtLeast};
+ghost use Rattle.gd_input.specs.Taken.{TakesAtLeast};
 ghost use Rattle.gd_threads.specs.Served.{state_at};
-ghost use Rattle.gd_top.specs.Ends.{IsIdle, Causes};
+ghost use Rattle.gd_top.specs.Ends.{IsIdle, Causes, SendsRounds};
 ghost use Rattle.gd_top.specs.Held.{Loads, Leaves, MayMean, DoesMean};
 ghost use Rattle.gd_top.specs.Kept.{Keeps, StaysTold};
 ghost use Rattle.gd_top.specs.Opened.{HoldsAs, IsAtStart};
@@ -45,6 +45,8 @@ fn serve_all<
         (HoldsAs (C.may rounds.old.side.clock) (state_at rounds.new.side)) (RoseBy (D.faults rounds.old.side.log.disk) (D.faults rounds.new.side.log.disk)) ⊥
         (S.left source.old) (S.left source.new) (K.held sink.old) (K.held sink.new) }
     ensures at_end { result ≡ Status.Done → IsAtEnd (S.left source.new) }
+    ensures sent { result ≡ Status.Done → K.sent sink.new ≡ true }
+    ensures rounds_sent { SendsRounds result K.sent sink.old sink.new }
     ensures causes { Causes result (Rose (S.faults source.old) (S.faults source.new))
         (Rose (K.faults sink.old) (K.faults sink.new)) ⊥
         (TakesAtLeast (2 ^ 40) (S.left source.old) (S.left source.new)) (λ _. ⊥) (λ _. ⊥) }
@@ -83,6 +85,8 @@ pub(crate) fn serve_over<
         (IsIdle source.old source.new sink.old sink.new × StaysTold (D.content disk) (D.content result.1) (D.images disk) (D.images result.1))
         (S.left source.old) (S.left source.new) (K.held sink.old) (K.held sink.new) }
     ensures at_end { result.0 ≡ Status.Done → IsAtEnd (S.left source.new) }
+    ensures sent { result.0 ≡ Status.Done → K.sent sink.new ≡ true }
+    ensures rounds_sent { SendsRounds result.0 K.sent sink.old sink.new }
     ensures causes { Causes result.0 (Rose (S.faults source.old) (S.faults source.new))
         (Rose (K.faults sink.old) (K.faults sink.new)) (Rose (D.faults disk) (D.faults result.1))
         (TakesAtLeast (2 ^ 40) (S.left source.old) (S.left source.new)) (MayMean (D.content disk)) (DoesMean (D.content disk)) }

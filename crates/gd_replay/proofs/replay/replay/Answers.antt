@@ -8,7 +8,7 @@ use Rattle.gd_replay_laws.proofs.Faults.{rose_within}
 use Rattle.gd_replay.specs.Kept.{HasBatches}
 use Rattle.gd_replay.specs.Stops.{Leaves, EndsAs}
 use Rattle.gd_replay.specs.Replays.{Loads, Replays, ReplaysTaken, ReplaysFront}
-use Rattle.gd_replay.proofs.Known.{sent_ends, sent_at_end, sent_causes, wider_ends, unopened_ends}
+use Rattle.gd_replay.proofs.Known.{sent_ends, sent_at_end, sent_on, sent_causes, wider_ends, unopened_ends}
 use Rattle.gd_replay.proofs.Kept.{keeps_more, sent_keeps}
 use Rattle.gd_replay.proofs.Outcomes.{on_err_more}
 use Rattle.gd_replay.proofs.Taken.{rose_since}
@@ -37,6 +37,9 @@ returns-in-Ok-clause-ends g c = λ tells members.
 
 pub returns-in-Ok-clause-at_end : goal.returns-in-Ok-clause-at_end
 returns-in-Ok-clause-at_end g c = sent_at_end c.replay_lines-end.result.0 c.flush-sent.result c.sent_on.result _ c.sent_on.ensures c.replay_lines-end.ensures.at_end
+
+pub returns-in-Ok-clause-sent : goal.returns-in-Ok-clause-sent
+returns-in-Ok-clause-sent g c = sent_on c.replay_lines-end.result.0 c.flush-sent.result c.sent_on.result _ c.sent_on.ensures c.flush-sent.ensures.sent
 
 pub returns-in-Ok-clause-caused : goal.returns-in-Ok-clause-caused
 returns-in-Ok-clause-caused g c =

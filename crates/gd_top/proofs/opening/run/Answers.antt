@@ -1,7 +1,7 @@
 use Rattle.std.proofs.Common.{◌≡◌, ◌^◌, List, ℕ, Option, Some, None, option_map, sym, ap, subst, ◌∙◌}
 use Rattle.gd_base.specs.Counts.{Rose, RoseBy}
 use Rattle.gd_words.specs.Verbs.{verb_in, file_of}
-use Rattle.gd_input.specs.Pieces.{TakesAtLeast}
+use Rattle.gd_input.specs.Taken.{TakesAtLeast}
 use Rattle.gd_top.specs.Ends.{IsIdle, Causes}
 use Rattle.gd_top.specs.Kept.{StaysAt}
 use Rattle.gd_top.specs.Held.{MayMeanAt, DoesMean, told_at}

@@ -1,4 +1,4 @@
-use Rattle.std.proofs.Common.{◌≡◌, Some, None, rules, arith, refl, sym, ◌∙◌}
+use Rattle.std.proofs.Common.{◌≡◌, Some, None, rules, arith, refl, sym, inl, ◌∙◌}
 use Rattle.std.proofs.lemmas.Grind.{common_steps}
 use Rattle.gd_base.specs.Counts.{RoseBy}
 use Rattle.gd_words.specs.Words.{command_of}
@@ -6,7 +6,7 @@ use Rattle.gd_words.specs.Verbs as verb
 use Rattle.gd_words.specs.Verbs.{Verb, verb_in, file_of, path_of}
 use Rattle.gd_top.specs.Ends.{IsIdle}
 use Rattle.gd_top.specs.Kept.{StaysAt}
-use Rattle.gd_top.proofs.Commands.{verb_known, path_known, none_known}
+use Rattle.gd_top.proofs.Commands.{verb_known, verb_is, path_known, none_known}
 use Rattle.gd_top.proofs.Complete.{complete}
 use Rattle.gd_top.proofs.Framed.{printed_no_words}
 use Rattle.gd_top.proofs.Kept.{stays_untouched}
@@ -76,3 +76,16 @@ returns-in-Err-clause-events g c is =
     let images = f.images c.args.shelf.now in
     printed_no_words (g.C.Clock.may c.args.clock) (RoseBy faults faults) (IsIdle source source sink sink × StaysAt content content images images path) (g.S.Source.left source) (g.S.Source.left source) (g.K.Sink.held sink) (g.K.Sink.held sink) verb.replays
     content images path (record { source = refl; sink = refl }, stays_untouched content images path)
+
+pub returns-in-Ok-Some-clause-rounds_sent : goal.returns-in-Ok-Some-clause-rounds_sent
+returns-in-Ok-Some-clause-rounds_sent g c is =
+    let words : command_of c.args.words.now ≡ Some c.in-Ok-Some.command = first_of (search rules, grind (arith, common_steps)) in
+    c.run.ensures.rounds_sent (verb_is verb.serves c.args.words.now c.in-Ok-Some.command words is)
+
+pub returns-in-Ok-None-clause-rounds_sent : goal.returns-in-Ok-None-clause-rounds_sent
+returns-in-Ok-None-clause-rounds_sent g c is =
+    let words : command_of c.args.words.now ≡ None = first_of (search rules, grind (arith, common_steps)) in
+    absurd (none_known verb.serves c.args.words.now words is)
+
+pub returns-in-Err-clause-rounds_sent : goal.returns-in-Err-clause-rounds_sent
+returns-in-Err-clause-rounds_sent g c is other = inl refl

@@ -39,3 +39,6 @@ returns-clause-kept g c =
     let run = c.replay-end in
     let d = g.D.Disk in
     events_keep d.content d.moment d.images d.images_since c.args.disk run.result.1 run.result.0 run.ensures.kept g.met.D.Disk.reads_one
+
+pub returns-clause-sent : goal.returns-clause-sent
+returns-clause-sent g c = λ is. events_at_end c.replay-end.result.0 _ c.replay-end.ensures.sent (sym c.status_of.ensures ∙ is)

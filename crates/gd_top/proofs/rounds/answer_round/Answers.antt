@@ -24,6 +24,7 @@ returns-in_err-printed g c =
       all = first_of (search rules, grind (arith, common_steps));
       front = λ texts kept. at_err c.from_residual.result (front_held may s k t texts old mid new before after
           (record { replies = reply_texts c.answer_round-replies.result; answered = answers texts kept; front = c.in_err-printed.ensures.front }) c.flush-sent.ensures.bytes);
+      sent = first_of (search rules, grind (arith, common_steps));
       next = first_of (search rules, grind (arith, common_steps));
       loaded = c.answer_round-replies.ensures.loaded;
       told = c.answer_round-replies.ensures.told;
@@ -51,6 +52,7 @@ returns-in_err-sent g c =
       all = first_of (search rules, grind (arith, common_steps));
       front = λ texts kept. at_err c.from_residual-in_err-sent.result (whole_front may s k t n texts old new before after (held_on may s k t n texts old mid new before after
           (record { replies = reply_texts c.answer_round-replies.result; answered = answers texts kept; next = next; gained = c.in_ok-printed.ensures.all }) c.flush-sent.ensures.bytes));
+      sent = first_of (search rules, grind (arith, common_steps));
       next = first_of (search rules, grind (arith, common_steps));
       loaded = c.answer_round-replies.ensures.loaded;
       told = c.answer_round-replies.ensures.told;
@@ -78,6 +80,7 @@ returns g c =
       all = λ texts kept. held_on may s k t n texts old mid new before after
           (record { replies = reply_texts c.answer_round-replies.result; answered = answers texts kept; next = next; gained = c.in_ok-printed.ensures.all }) c.flush-sent.ensures.bytes;
       front = first_of (search rules, grind (arith, common_steps));
+      sent = first_of (search rules, grind (arith, common_steps));
       next = c.answer_round-replies.ensures.next;
       loaded = c.answer_round-replies.ensures.loaded;
       told = c.answer_round-replies.ensures.told;

@@ -2,7 +2,7 @@ use Rattle.std.proofs.Common.{◌^◌, ◌∙◌, refl, inl, inr, arith}
 use Rattle.std.specs.Io.KnownBytes.{prepend_known}
 use Rattle.gd_threads.specs.Served.{state_at}
 use Rattle.gd_outside.proofs.Fronts.{at_err}
-use Rattle.gd_top.proofs.Known.{more_known, done_known, part_known, rounds_stopped, front_known, counted_on, input_too_much, input_failed, begun}
+use Rattle.gd_top.proofs.Known.{more_known, done_known, part_known, rounds_stopped, front_known, counted_on, input_too_much, input_failed, sink_stopped, begun}
 use Rattle.gd_input.proofs.Taken.{taken_known}
 use Rattle.gd_top.proofs.rounds.serve_rounds.Goals as goal
 
@@ -16,6 +16,7 @@ loop-round-init g c =
       loaded = refl;
       told = refl;
       clock = refl;
+      sent = inl refl;
       bounded = start.bounded;
       source_later = omega arith;
       sink_later = omega arith;
@@ -64,6 +65,9 @@ returns-then-round-clause-done g c =
     (prepend_known c.loop-round.reader.bytes (g.S.Source.left c.loop-round.source)) (prepend_known c.read_round.new.self.bytes (g.S.Source.left c.read_round.new.source))
     c.in_ok-round.round c.deref.result.now c.deref.ensures.value c.loop-round.invariant.upto c.in_ok-round.ensures.round c.in_ok-answer_round.ensures.all c.if-round.true
 
+pub returns-in_err-answer_round-clause-rounds_sent : goal.returns-in_err-answer_round-clause-rounds_sent
+returns-in_err-answer_round-clause-rounds_sent g c other = absurd (other (sink_stopped c.from_residual-in_err-answer_round.result c.from_residual-in_err-answer_round.ensures.1))
+
 pub returns-in_err-answer_round-clause-loaded : goal.returns-in_err-answer_round-clause-loaded
 returns-in_err-answer_round-clause-loaded g c = c.answer_round.ensures.loaded ∙ c.loop-round.invariant.loaded
 
@@ -88,6 +92,7 @@ loop-round-preserved g c = record {
   loaded = c.answer_round.ensures.loaded ∙ c.loop-round.invariant.loaded;
   told = c.answer_round.ensures.told ∙ c.loop-round.invariant.told;
   clock = c.answer_round.ensures.clock ∙ c.loop-round.invariant.clock;
+  sent = inr c.in_ok-answer_round.ensures.sent;
   bounded = c.read_round.ensures.bounded;
   source_later = omega (arith, c.loop-round.invariant.source_later, c.read_round.ensures.later);
   sink_later = omega (arith, c.loop-round.invariant.sink_later, c.answer_round.ensures.later);

@@ -1,4 +1,4 @@
-use Rattle.std.proofs.Common.{◌≡◌, false, ◌≤◌, ◌+◌, ◌-◌, ◌*◌, ◌^◌}
+use Rattle.std.proofs.Common.{◌≡◌, ◌⊎◌, true, false, ◌≤◌, ◌+◌, ◌-◌, ◌*◌, ◌^◌}
 use Rattle.std.specs.Option.{is_some}
 use Rattle.std.specs.Io.KnownBytes.{prepend_known}
 use Rattle.gd_input.specs.Held.{IsBounded}
@@ -16,6 +16,7 @@ invariant-loop-round g l = record {
   loaded : l.rounds.side.history.loaded ≡ l.fn.rounds.side.history.loaded;
   told : is_some (g.D.Disk.content l.rounds.side.log.disk) ≡ is_some (g.D.Disk.content l.fn.rounds.side.log.disk);
   clock : g.C.Clock.may l.rounds.side.clock ≡ g.C.Clock.may l.fn.rounds.side.clock;
+  sent : (l.sink ≡ l.fn.sink) ⊎ (g.K.Sink.sent l.sink ≡ true);
   bounded : IsBounded l.reader;
   source_later : g.S.Source.faults l.fn.source ≤ g.S.Source.faults l.source;
   sink_later : g.K.Sink.faults l.fn.sink ≤ g.K.Sink.faults l.sink;
