@@ -132,14 +132,16 @@ fn carry_out(
     Ok((batch_of(moment, growing), outcome))
 }
 
-/// The batch and the result of a write at a moment, in milliseconds since 1970-01-01 in UTC, after what lies below the
-/// view's dateline. Its words are looked up at the state before: the refusals are those of `resolved_write`. Then it is
-/// carried out, clause by clause and member by member, over that state with what it has made so far, and the first refusal
-/// decides. `NotUnique`: two objects or more have the facts of a create that looks for one, or a unique property has
-/// another answer. `KeyTaken`: the key leads to another object. `StaleVersion`: the link that is to give way has a
-/// successor. `BadQuery` with `BadConnect` or `BadPrevious`: the links of the property are not updated so, or `previous`
-/// names no link of it. `Memory`: an allocation was refused, or no place is left for a primitive. Whether the batch passes a
-/// limit of the store is not asked. Ids and guids are printed as they are at the end.
+/// The batch and the result of a write at a moment, in milliseconds since 1970-01-01 in UTC, after
+/// what lies below the view's dateline. Its words are looked up at the state before: the refusals
+/// are those of `resolved_write`. Then it is carried out, clause by clause and member by member,
+/// over that state with what it has made so far, and the first refusal decides. `NotUnique`: two
+/// objects or more have the facts of a create that looks for one, or a unique property has another
+/// answer. `KeyTaken`: the key leads to another object. `StaleVersion`: the link that is to give
+/// way has a successor. `BadQuery` with `BadConnect` or `BadPrevious`: the links of the property
+/// are not updated so, or `previous` names no link of it. `Memory`: an allocation was refused, or
+/// no place is left for a primitive. Whether the batch passes a limit of the store is not asked.
+/// Ids and guids are printed as they are at the end.
 pub fn written(
     alloc: Global,
     view: &View<'_>,

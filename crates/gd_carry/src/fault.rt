@@ -33,8 +33,8 @@ pub enum ChangeFault {
     /// What stands at the end of this path does not go with what its words stand for.
     #[error("the write is refused at {path:?}: {code}")]
     BadQuery { code: Code, path: Path },
-    /// At the end of this path more is there than may be: two objects where a create looks for one, or another answer of
-    /// a unique property.
+    /// At the end of this path more is there than may be: two objects where a create looks for one,
+    /// or another answer of a unique property.
     #[error("more than one is there at {path:?}")]
     NotUnique { path: Path },
     /// The key leads to another object.

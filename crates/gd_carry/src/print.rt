@@ -4,7 +4,8 @@ use gd_growing::links::Answer;
 use gd_intent::intent::Spelled;
 use gd_json::value::{Json, JsonText};
 
-/// What a part of a write prints once the state at its end is known. Contracts see it by `printed_view`, at any such state.
+/// What a part of a write prints once the state at its end is known. Contracts see it by
+/// `printed_view`, at any such state.
 #[derive(Drop)]
 pub(crate) enum Printed<'a> {
     /// A value as the request spells it.

@@ -30,13 +30,15 @@ fn made(
     written(alloc, &view, request, moment)
 }
 
-/// What a write does at a moment, in milliseconds since 1970-01-01 in UTC, after the batches of the store: the batch that
-/// it makes, and the request printed back with its answers. The refusals come in the order of the work. First its words
-/// are looked up in the store as it is, the scope, the root and then clause by clause and member by member: `NoSuchId`,
-/// `NoSuchProperty`, and `BadQuery` with a code of meaning. Then it is carried out in the same order: `NotUnique`,
-/// `KeyTaken`, `StaleVersion`, and `BadQuery` with `BadConnect` or `BadPrevious`. `Full` comes last: a limit of the store
-/// would be passed, the first in the order primitives of the batch, all primitives, bytes of texts, requests. `Memory`: an
-/// allocation was refused. The store stays as it is.
+/// What a write does at a moment, in milliseconds since 1970-01-01 in UTC, after the batches of the
+/// store: the batch that it makes, and the request printed back with its answers. The refusals come
+/// in the order of the work. First its words are looked up in the store as it is, the scope, the
+/// root and then clause by clause and member by member: `NoSuchId`, `NoSuchProperty`, and
+/// `BadQuery` with a code of meaning. Then it is carried out in the same order: `NotUnique`,
+/// `KeyTaken`, `StaleVersion`, and `BadQuery` with `BadConnect` or `BadPrevious`. `Full` comes
+/// last: a limit of the store would be passed, the first in the order primitives of the batch, all
+/// primitives, bytes of texts, requests. `Memory`: an allocation was refused. The store stays as it
+/// is.
 pub fn evaluate(
     alloc: Global,
     store: &Store,

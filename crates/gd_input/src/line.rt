@@ -9,7 +9,8 @@ use std::alloc::{AllocError, Global};
 /// The greatest number of bytes of a line.
 pub const LINE_LIMIT: usize = 262_144;
 
-/// The greatest number of bytes that may still be a line: a line, and a carriage return that is dropped.
+/// The greatest number of bytes that may still be a line: a line, and a carriage return that is
+/// dropped.
 const PIECE_LIMIT: usize = LINE_LIMIT + 1;
 
 /// A line of a round.
@@ -56,7 +57,8 @@ impl RoundLine {
         }
     }
 
-    /// The line that ends here, by a newline or by the end of input. Before a newline a carriage return is dropped.
+    /// The line that ends here, by a newline or by the end of input. Before a newline a carriage
+    /// return is dropped.
     pub fn ended(self, by_newline: bool) -> RoundLine
         ensures kept { (begun : List ℕ) → IsKept PIECE_LIMIT self begun
             → IsKept LINE_LIMIT result (if by_newline then line_of begun else begun) }

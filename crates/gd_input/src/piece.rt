@@ -59,8 +59,8 @@ impl Reader {
         }
     }
 
-    /// Reads the next line of the input: the bytes up to a newline or to the input's end, without a carriage return
-    /// before the newline.
+    /// Reads the next line of the input: the bytes up to a newline or to the input's end, without a
+    /// carriage return before the newline.
     pub fn read_line<S: Source>(&mut self, source: &mut S) -> Result<Piece, InputFault>
         ensures line { IfOk result (λ piece. Known (prepend_known self.old.bytes (S.left source.old))
             (prepend_known self.new.bytes (S.left source.new)) (TakesPiece piece)) }

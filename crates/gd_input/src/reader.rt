@@ -14,8 +14,9 @@ const BUFFER: usize = 4096;
 /// How many bytes of input are taken at most.
 const INPUT_LIMIT: u64 = 1 << 40;
 
-/// Reads the rounds of a source, of which it holds one buffer of bytes at a time. Contracts see the bytes that it
-/// holds, and how many bytes of the input stood before them. It reads one source for all its life.
+/// Reads the rounds of a source, of which it holds one buffer of bytes at a time. Contracts see the
+/// bytes that it holds, and how many bytes of the input stood before them. It reads one source for
+/// all its life.
 #[derive(Drop)]
 pub struct Reader {
     alloc: Global,
@@ -76,9 +77,9 @@ impl Reader {
         self.consumed += count as u64;
     }
 
-    /// Reads the next bytes where none are held, and says whether some are now: else the input has ended. `Failed`:
-    /// the source did, and its count rose. `TooMuch`: 2^40 bytes of the input were taken, and more was asked for.
-    /// At both none are held.
+    /// Reads the next bytes where none are held, and says whether some are now: else the input has
+    /// ended. `Failed`: the source did, and its count rose. `TooMuch`: 2^40 bytes of the input were
+    /// taken, and more was asked for. At both none are held.
     pub fn fill<S: Source>(&mut self, source: &mut S) -> Result<bool, InputFault>
         ensures kept { Keeps (prepend_known self.old.bytes (S.left source.old)) (prepend_known self.new.bytes (S.left source.new)) }
         ensures same { self.new.consumed ≡ self.old.consumed }

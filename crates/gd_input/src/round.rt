@@ -26,12 +26,14 @@ impl Reader {
     ghost use Rattle.gd_input.specs.Pieces.{Known, Advances};
     ghost use Rattle.gd_input.specs.Rounds.{TakesRound, StopsInRound};
 
-    /// Reads the next round of the input: its lines up to a blank line, the `ROUND_LIMIT`-th line or the input's end.
-    /// No more is read than the round needs, but for what the buffer holds. `Failed`: the source did, and its count
-    /// rose. `TooMuch`: 2^40 bytes of the input were taken, and it had not ended. After an `Err` the lines of the
-    /// unfinished round are lost, and a further call goes on behind what was read of them.
+    /// Reads the next round of the input: its lines up to a blank line, the `ROUND_LIMIT`-th line
+    /// or the input's end. No more is read than the round needs, but for what the buffer holds.
+    /// `Failed`: the source did, and its count rose. `TooMuch`: 2^40 bytes of the input were taken,
+    /// and it had not ended. After an `Err` the lines of the unfinished round are lost, and a
+    /// further call goes on behind what was read of them.
     pub fn read_round<S: Source>(&mut self, source: &mut S) -> Result<Round, InputFault>
-        // What is left begins with the lines of this round, and goes on with the rounds of what is left now.
+        // What is left begins with the lines of this round, and goes on with the rounds of what is
+        // left now.
         ensures round { IfOk result (λ round. Known (prepend_known self.old.bytes (S.left source.old))
             (prepend_known self.new.bytes (S.left source.new)) (TakesRound round)) }
         ensures short { IfOk result (λ round. All IsShort round.lines.items) }
@@ -49,7 +51,8 @@ impl Reader {
             → Advances first (prepend_known self.new.bytes (S.left source.new)) before self.new.consumed }
         ensures bounded { IsBounded self.new }
 
-        // Where the source failed or had too much, all that was taken is used up, and no further round lies wholly in it.
+        // Where the source failed or had too much, all that was taken is used up, and no further
+        // round lies wholly in it.
         ensures stopped { (result ≡ Err InputFault.Failed) ⊎ (result ≡ Err InputFault.TooMuch)
             → (self.new.bytes ≡ []) × Known (prepend_known self.old.bytes (S.left source.old))
             (prepend_known self.new.bytes (S.left source.new)) StopsInRound }

@@ -9,8 +9,8 @@ use std::time::Duration;
 pub trait Clock {
     ghost may: { Self → ℕ → Bool };
 
-    /// The moment now, in milliseconds since 1970-01-01 in UTC. It cannot fail. Whoever asks uses a number above
-    /// 253,402,300,799,999, the last millisecond of the year 9999, as that number.
+    /// The moment now, in milliseconds since 1970-01-01 in UTC. It cannot fail. Whoever asks uses a
+    /// number above 253,402,300,799,999, the last millisecond of the year 9999, as that number.
     fn now_ms(&mut self) -> u64
         ensures given { IsTrue (may self.old result) }
         ensures same { may self.new ≡ may self.old };
@@ -49,8 +49,8 @@ impl Clock for FixedClock {
     }
 }
 
-/// The clock of the system, by a handle `R` that reads it. It may give any number, and gives 0 where the system
-/// gives no time.
+/// The clock of the system, by a handle `R` that reads it. It may give any number, and gives 0
+/// where the system gives no time.
 #[derive(Drop)]
 pub struct StdClock<R> {
     handle: R,

@@ -1,7 +1,8 @@
 //! Where workers may be held.
 
-/// Two places at which the workers of a round may be held, so that a run can be made to take one of its orders. The workers
-/// share it. A call may take as long as it likes, and tells the worker nothing.
+/// Two places at which the workers of a round may be held, so that a run can be made to take one of
+/// its orders. The workers share it. A call may take as long as it likes, and tells the worker
+/// nothing.
 pub trait Gate: Sync {
     /// A worker is about to start a line. It goes on when the call returns.
     fn pass(&self, worker: u32, line: u64);

@@ -155,8 +155,8 @@ pub fn err_line_plain(alloc: Global, line: u64, refusal: &Refusal) -> Result<Vec
     object_line(alloc, members)
 }
 
-/// A reply line of at most 1,048,576 bytes as it is; in place of a longer one the refusal `ReplyTooLarge`, which tells how
-/// many bytes it has.
+/// A reply line of at most 1,048,576 bytes as it is; in place of a longer one the refusal
+/// `ReplyTooLarge`, which tells how many bytes it has.
 pub fn within_reply(
     alloc: Global,
     dateline: u32,

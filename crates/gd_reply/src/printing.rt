@@ -24,8 +24,8 @@ fn print_last_number<K: Sink>(sink: &mut K, n: u64) -> Result<(), Failed>
     Ok(())
 }
 
-/// Prints the line that tells a failure, and its newline. It takes no memory. `Failed`: the sink did, and a front of it is
-/// printed.
+/// Prints the line that tells a failure, and its newline. It takes no memory. `Failed`: the sink
+/// did, and a front of it is printed.
 pub fn print_failure<K: Sink>(sink: &mut K, failure: Failure, line: u64) -> Result<(), Failed>
     ensures all { OnOk result (Appends (K.held sink.old) (K.held sink.new) (failure_line failure line ++ 10 ∷ [])) }
     ensures front { OnErr result (GainsFront (K.held sink.old) (K.held sink.new) (failure_line failure line ++ 10 ∷ [])) }
@@ -64,7 +64,8 @@ fn print_late_front<K: Sink>(sink: &mut K, entry: u32) -> Result<(), Failed>
     Ok(())
 }
 
-/// Prints the line that tells that a write is this entry and not shown yet, and its newline. It takes no memory.
+/// Prints the line that tells that a write is this entry and not shown yet, and its newline. It
+/// takes no memory.
 fn print_late<K: Sink>(sink: &mut K, line: u64, entry: u32) -> Result<(), Failed>
     ensures all { OnOk result (Appends (K.held sink.old) (K.held sink.new) (late_line line entry ++ 10 ∷ [])) }
     ensures front { OnErr result (GainsFront (K.held sink.old) (K.held sink.new) (late_line line entry ++ 10 ∷ [])) }
@@ -76,7 +77,8 @@ fn print_late<K: Sink>(sink: &mut K, line: u64, entry: u32) -> Result<(), Failed
     Ok(())
 }
 
-/// Prints a reply and its newline. It takes no memory. `Failed`: the sink did, and a front of it is printed.
+/// Prints a reply and its newline. It takes no memory. `Failed`: the sink did, and a front of it is
+/// printed.
 pub fn print_reply<K: Sink>(sink: &mut K, reply: &Reply) -> Result<(), Failed>
     ensures all { OnOk result (Appends (K.held sink.old) (K.held sink.new) (reply_text reply.now ++ 10 ∷ [])) }
     ensures front { OnErr result (GainsFront (K.held sink.old) (K.held sink.new) (reply_text reply.now ++ 10 ∷ [])) }

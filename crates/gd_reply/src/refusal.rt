@@ -37,7 +37,8 @@ pub enum Refusal {
     NoSuchId { path: JsonText },
     /// No property is meant by the word of the name at the end of this path.
     NoSuchProperty { path: Path },
-    /// More than one answer stands where one is asked, or would stand where one may, at the end of this path.
+    /// More than one answer stands where one is asked, or would stand where one may, at the end of
+    /// this path.
     NotUnique { path: Path },
     /// The key leads to another object.
     KeyTaken { key: Text, holder: Id },

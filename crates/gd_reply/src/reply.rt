@@ -23,12 +23,14 @@ pub enum Reply {
     Line(Vec<u8>),
     /// The line that tells a failure. It is printed piece by piece, so no memory is needed for it.
     Failed { failure: Failure, line: u64 },
-    /// The line that tells that a write is this entry, and is not shown yet. It too is printed piece by piece.
+    /// The line that tells that a write is this entry, and is not shown yet. It too is printed
+    /// piece by piece.
     Late { line: u64, entry: u32 },
 }
 
 impl Failure {
-    /// What stands before the number of the line where this failure is told; behind the number stands `}`.
+    /// What stands before the number of the line where this failure is told; behind the number
+    /// stands `}`.
     pub fn front(self) -> &'static str
         ensures { (line : ℕ) → result.now ++ decimal line ++ codes "}" ≡ failure_line self line }
     {

@@ -43,15 +43,16 @@ pub struct WriteLine {
     pub bytes: u64,
 }
 
-/// What a line of a round came to, by numbers: its number, if it is a write that has one, and its entry, if it is a write
-/// that was stored and is shown.
+/// What a line of a round came to, by numbers: its number, if it is a write that has one, and its
+/// entry, if it is a write that was stored and is shown.
 #[derive(Clone, Copy)]
 pub struct LineNumber {
     pub number: Option<u32>,
     pub entry: Option<u32>,
 }
 
-/// What a line asks, or its reply where it asks nothing, or the number of a line that there was no memory to read.
+/// What a line asks, or its reply where it asks nothing, or the number of a line that there was no
+/// memory to read.
 #[derive(Drop)]
 enum Asked {
     Read(ReadLine),
@@ -60,9 +61,10 @@ enum Asked {
     Unread(u64),
 }
 
-/// The lines of a round, once read: the reads and the writes among them, each in the order of their lines, and a first
-/// reply to each line. It says why the line is none, or that there was no memory, and stays where nothing else is told. No
-/// line has a number at first. They are whole if there was memory to read each line: then no write is missing.
+/// The lines of a round, once read: the reads and the writes among them, each in the order of their
+/// lines, and a first reply to each line. It says why the line is none, or that there was no
+/// memory, and stays where nothing else is told. No line has a number at first. They are whole if
+/// there was memory to read each line: then no write is missing.
 #[derive(Drop)]
 pub struct Works {
     pub reads: Vec<ReadLine>,
@@ -137,7 +139,8 @@ fn read_line(alloc: Global, line: u64, text: &RoundLine) -> Asked
 }
 
 impl Works {
-    /// No line yet, with room for the replies to so many lines. `Memory`: an allocation was refused.
+    /// No line yet, with room for the replies to so many lines. `Memory`: an allocation was
+    /// refused.
     fn new(alloc: Global, count: usize) -> Result<Works, Memory>
         ensures reads { IfOk result (λ works. works.reads.items ≡ []) }
         ensures writes { IfOk result (λ works. works.writes.items ≡ []) }
@@ -200,7 +203,8 @@ impl Works {
     }
 }
 
-/// In how many threads so many lines are read: at most `threads`, and no more than have `LEAST_LINES` each.
+/// In how many threads so many lines are read: at most `threads`, and no more than have
+/// `LEAST_LINES` each.
 fn threads_for(lines: usize, threads: NonZeroU32) -> usize
     ensures some { 0 < result }
     ensures most { result ≤ threads.value }
@@ -219,7 +223,8 @@ fn read_at(alloc: Global, first: u64, lines: &[RoundLine], place: usize, asked: 
     *asked = read_line(alloc, first + place as u64, &lines[place]);
 }
 
-/// So many lines from line `first` on, of which none was read yet. `Memory`: an allocation was refused.
+/// So many lines from line `first` on, of which none was read yet. `Memory`: an allocation was
+/// refused.
 fn unread(alloc: Global, first: u64, count: usize) -> Result<Vec<Asked>, Memory>
     requires { first + count < 2 ^ 63 }
     ensures { IfOk result (λ asked. length asked.items ≡ count) }
@@ -231,7 +236,8 @@ fn unread(alloc: Global, first: u64, count: usize) -> Result<Vec<Asked>, Memory>
     Ok(asked)
 }
 
-/// What each line of a round asks, or its reply, read in at most so many threads. `Memory`: an allocation was refused.
+/// What each line of a round asks, or its reply, read in at most so many threads. `Memory`: an
+/// allocation was refused.
 fn read_each<R: Threads + Sync>(
     rt: &R,
     alloc: Global,
@@ -253,8 +259,8 @@ fn read_each<R: Threads + Sync>(
     Ok(asked)
 }
 
-/// The lines of a round, once read, the first of them line `first`, in at most so many threads. `Memory`: an allocation was
-/// refused.
+/// The lines of a round, once read, the first of them line `first`, in at most so many threads.
+/// `Memory`: an allocation was refused.
 pub fn read_lines<R: Threads + Sync>(
     rt: &R,
     alloc: Global,

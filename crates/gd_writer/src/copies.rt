@@ -29,7 +29,8 @@ impl Model for Copies {
     ghost invariant = { λ c. IsTrue (is_history (c.publisher.shown ++ c.publisher.pending ++ c.waiting.items)) };
 }
 
-/// Hands the first of the waiting batches to a publisher. `Memory`: an allocation was refused, and nothing has changed.
+/// Hands the first of the waiting batches to a publisher. `Memory`: an allocation was refused, and
+/// nothing has changed.
 fn hand_first(publisher: &mut Publisher, waiting: &mut Roomy<Batch>) -> Result<(), Memory>
     requires some { 0 < length waiting.old.items }
     requires history { IsTrue (is_history (publisher.old.shown ++ publisher.old.pending ++ waiting.old.items)) }
@@ -103,8 +104,8 @@ impl Copies {
         Ok(())
     }
 
-    /// Shows a batch more with all that is to be shown. It waits for readers. `Memory`: nothing more is shown, and the batch
-    /// waits with the others.
+    /// Shows a batch more with all that is to be shown. It waits for readers. `Memory`: nothing
+    /// more is shown, and the batch waits with the others.
     pub(crate) fn show_with<R: Wait>(&mut self, rt: &R, batch: Batch) -> Result<(), Memory>
         requires room { 1 ≤ self.old.spare }
         requires follows { IsTrue (is_history (self.old.all ++ batch ∷ [])) }

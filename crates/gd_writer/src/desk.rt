@@ -19,8 +19,8 @@ use gd_outside::clock::Clock;
 use std::alloc::Global;
 use std::sync::Wait;
 
-/// The ledger, the copies that show it, and the clock of its entries. All that the ledger has the copies have, or are to
-/// show.
+/// The ledger, the copies that show it, and the clock of its entries. All that the ledger has the
+/// copies have, or are to show.
 pub(crate) struct Desk<D: Disk, C: Clock> {
     pub(crate) alloc: Global,
     pub(crate) ledger: Ledger<D>,
@@ -39,7 +39,8 @@ fn make_room<D: Disk>(ledger: &mut Ledger<D>, copies: &mut Copies) -> Result<(),
     Ok(())
 }
 
-/// What a write came to whose append failed over so many requests: it is in doubt where the disk failed.
+/// What a write came to whose append failed over so many requests: it is in doubt where the disk
+/// failed.
 fn failed(fault: JournalFault, at: u32) -> Outcome
     ensures { result ≡ failed_as fault at }
 {
@@ -50,7 +51,8 @@ fn failed(fault: JournalFault, at: u32) -> Outcome
 }
 
 impl<D: Disk, C: Clock> Desk<D, C> {
-    /// Carries a write line out, after an earlier doubt, and says what it came to. Publishing waits for readers.
+    /// Carries a write line out, after an earlier doubt, and says what it came to. Publishing waits
+    /// for readers.
     pub(crate) fn write<R: Wait>(&mut self, rt: &R, asked: Asked<'_>) -> Outcome
         requires aligned { IsAligned self.old.ledger self.old.copies }
         requires bytes { asked.bytes ≤ 262_144 }
@@ -66,7 +68,8 @@ impl<D: Disk, C: Clock> Desk<D, C> {
         self.write_in_room(rt, asked)
     }
 
-    /// The same, where there is room for the entries and the batches of a write in doubt and of one more.
+    /// The same, where there is room for the entries and the batches of a write in doubt and of one
+    /// more.
     fn write_in_room<R: Wait>(&mut self, rt: &R, asked: Asked<'_>) -> Outcome
         requires aligned { IsAligned self.old.ledger self.old.copies }
         requires room { (2 ≤ self.old.ledger.spare) × (2 ≤ self.old.copies.spare) }
@@ -83,8 +86,8 @@ impl<D: Disk, C: Clock> Desk<D, C> {
         }
     }
 
-    /// Ends a doubt, if there is one. A write that counts is an entry then, and shown, if there is memory. An error leaves
-    /// the doubt. `DiskFault`: the disk failed.
+    /// Ends a doubt, if there is one. A write that counts is an entry then, and shown, if there is
+    /// memory. An error leaves the doubt. `DiskFault`: the disk failed.
     fn end_doubt<R: Wait>(&mut self, rt: &R) -> Result<(), JournalFault>
         requires aligned { IsAligned self.old.ledger self.old.copies }
         requires room { (2 ≤ self.old.ledger.spare) × (2 ≤ self.old.copies.spare) }
@@ -130,8 +133,8 @@ impl<D: Disk, C: Clock> Desk<D, C> {
         }
     }
 
-    /// Stores a write that may be stored, and shows it with all others, if there is memory. No memory is needed once it is
-    /// on the disk.
+    /// Stores a write that may be stored, and shows it with all others, if there is memory. No
+    /// memory is needed once it is on the disk.
     fn store<R: Wait>(&mut self, rt: &R, asked: Asked<'_>, moment: u64, next: Next) -> Outcome
         requires aligned { IsAligned self.old.ledger self.old.copies }
         requires room { (1 ≤ self.old.ledger.spare) × (1 ≤ self.old.copies.spare) }

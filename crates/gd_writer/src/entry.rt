@@ -2,8 +2,8 @@
 use gd_json::value::Json;
 use gd_mql::request::WriteRequest;
 
-/// A write that was stored: the number and the length of its line, its request, its moment in milliseconds since
-/// 1970-01-01 in UTC, and its result. Its batch is in the store.
+/// A write that was stored: the number and the length of its line, its request, its moment in
+/// milliseconds since 1970-01-01 in UTC, and its result. Its batch is in the store.
 #[derive(Drop)]
 pub struct Entry {
     pub line: u64,

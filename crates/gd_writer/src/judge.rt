@@ -51,7 +51,8 @@ pub(crate) struct Next {
     pub(crate) reply: Vec<u8>,
 }
 
-/// What a write comes to over the store as it is: it is refused, with the reply line that says why, or it may be stored.
+/// What a write comes to over the store as it is: it is refused, with the reply line that says why,
+/// or it may be stored.
 #[derive(Drop)]
 pub(crate) enum Verdict {
     Refused {
@@ -145,7 +146,8 @@ pub(crate) fn judge<D: Disk>(
     }
 }
 
-/// What a write comes to whose batch and result these are: it may be stored, or the history would grow too long.
+/// What a write comes to whose batch and result these are: it may be stored, or the history would
+/// grow too long.
 fn judge_done<D: Disk>(
     alloc: Global,
     ledger: &Ledger<D>,

@@ -22,9 +22,9 @@ use std::alloc::Global;
 use std::marker::Model;
 use std::slice;
 
-/// The log with the store of its batches, the entries of this run behind the loaded ones, the bytes that they keep, and
-/// the write in doubt. Contracts see the history, the entry in doubt, the log, and for how many more entries there is
-/// room.
+/// The log with the store of its batches, the entries of this run behind the loaded ones, the bytes
+/// that they keep, and the write in doubt. Contracts see the history, the entry in doubt, the log,
+/// and for how many more entries there is room.
 #[derive(Drop)]
 pub(crate) struct Ledger<D: Disk> {
     held: StoredLog<D>,
@@ -134,8 +134,8 @@ impl<D: Disk> Ledger<D> {
         self.entries.reserve(more)
     }
 
-    /// Ends a doubt, if there is one, and gives the batch of a write that counts, which is an entry then. An error leaves
-    /// the doubt. `DiskFault`: the disk failed.
+    /// Ends a doubt, if there is one, and gives the batch of a write that counts, which is an entry
+    /// then. An error leaves the doubt. `DiskFault`: the disk failed.
     pub(crate) fn settle(&mut self) -> Result<Option<Batch>, JournalFault>
         requires room { 1 ≤ self.old.spare }
         ensures ends { IfOk result (EndsAs self.old self.new) }
@@ -158,8 +158,8 @@ impl<D: Disk> Ledger<D> {
         }
     }
 
-    /// Appends a write that may follow, and gives its batch back. `DiskFault`: the disk failed, and the write is in doubt.
-    /// Any other error: nothing was stored.
+    /// Appends a write that may follow, and gives its batch back. `DiskFault`: the disk failed, and
+    /// the write is in doubt. Any other error: nothing was stored.
     pub(crate) fn append(&mut self, alloc: Global, made: Made) -> Result<Batch, JournalFault>
         requires may { MayAppend (batches self.old.history) (made.batch ∷ []) }
         requires bytes { history_bytes self.old.history + made.kept ≤ 134_217_728 }

@@ -6,7 +6,8 @@ ghost use Rattle.gd_runs.specs.Legal.{kept_bytes};
 use crate::entry::Entry;
 use gd_prim::Batch;
 
-/// A write that may be stored, or is in doubt: the entry that it is then, its batch, and how many bytes the entry keeps.
+/// A write that may be stored, or is in doubt: the entry that it is then, its batch, and how many
+/// bytes the entry keeps.
 #[derive(Drop)]
 pub(crate) struct Made {
     pub(crate) entry: Entry,

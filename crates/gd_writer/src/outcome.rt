@@ -16,7 +16,8 @@ pub enum Outcome {
     Late {
         entry: u32,
     },
-    /// It was refused over so many requests: why, which clauses alone read, and the reply line that says so.
+    /// It was refused over so many requests: why, which clauses alone read, and the reply line that
+    /// says so.
     Refused {
         fault: Snapshot<ChangeFault>,
         at: u32,

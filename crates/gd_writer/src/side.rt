@@ -1,4 +1,5 @@
-//! The write side: the history with its store and its log, the published copies, and what is kept of write lines.
+//! The write side: the history with its store and its log, the published copies, and what is kept
+//! of write lines.
 ghost use Rattle.std.specs.Prelude.{◌≡◌, ◌≤◌, ◌<◌, ◌^◌, [], length, None, IsSome, IfOk, IfErr, IfSome, OnOk, OnErr, MatchResult, map, option_map, vec_len};
 ghost use Rattle.std.specs.List.{All, AllByRecursion};
 ghost use Rattle.std.specs.Option.{ForSome, is_some};
@@ -63,13 +64,15 @@ fn find(outcomes: &[WriteOf], line: u64) -> Option<&WriteOf>
     None
 }
 
-/// What stands behind the lock of writes: a history with its store and its log, the published copies, a clock, and what
-/// is kept of write lines until it is forgotten. It is ended by `close` alone. Contracts see the history, the entry that
-/// is in doubt, what is kept, the list that is shown, the log and the clock.
+/// What stands behind the lock of writes: a history with its store and its log, the published
+/// copies, a clock, and what is kept of write lines until it is forgotten. It is ended by `close`
+/// alone. Contracts see the history, the entry that is in doubt, what is kept, the list that is
+/// shown, the log and the clock.
 ///
-/// Its type keeps, and `stored` says, that the history is legal, that the store stands for it, that what is shown is a
-/// front of it, that the disk holds it, or it with the entry in doubt, that each moment is one that the clock may give,
-/// and that what is kept agrees with the history, in the order of the writes.
+/// Its type keeps, and `stored` says, that the history is legal, that the store stands for it, that
+/// what is shown is a front of it, that the disk holds it, or it with the entry in doubt, that each
+/// moment is one that the clock may give, and that what is kept agrees with the history, in the
+/// order of the writes.
 pub struct WriteSide<D: Disk, C: Clock> {
     desk: Desk<D, C>,
     outcomes: Roomy<WriteOf>,
@@ -93,9 +96,10 @@ impl<D: Disk, C: Clock> Model for WriteSide<D, C> {
 }
 
 impl<D: Disk, C: Clock> WriteSide<D, C> {
-    /// A side over the store that a disk holds, with nothing written yet and all shown, and its seats, which have seen
-    /// all. It waits for nobody, since there is no reader yet. An error hands the disk and the clock back; it is one of
-    /// `open_log`: `NotStore`, `Damaged`, `Memory`, also for the published copies, or `DiskFault`.
+    /// A side over the store that a disk holds, with nothing written yet and all shown, and its
+    /// seats, which have seen all. It waits for nobody, since there is no reader yet. An error
+    /// hands the disk and the clock back; it is one of `open_log`: `NotStore`, `Damaged`, `Memory`,
+    /// also for the published copies, or `DiskFault`.
     pub fn start<R: Wait>(
         rt: &R,
         alloc: Global,
@@ -147,9 +151,9 @@ impl<D: Disk, C: Clock> WriteSide<D, C> {
         }
     }
 
-    /// Carries a write of a line out, and keeps what it came to; `bytes` is the length of the line. An earlier doubt is
-    /// ended first. Room for what is kept is made before; `Memory`: there is none, nothing was done, and nothing is kept.
-    /// Publishing waits for readers.
+    /// Carries a write of a line out, and keeps what it came to; `bytes` is the length of the line.
+    /// An earlier doubt is ended first. Room for what is kept is made before; `Memory`: there is
+    /// none, nothing was done, and nothing is kept. Publishing waits for readers.
     pub fn write<R: Wait>(
         &mut self,
         rt: &R,
