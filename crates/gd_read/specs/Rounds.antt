@@ -26,10 +26,19 @@ abbrev pub IsLine : List ℕ → Round → Type 0
 IsLine expected (Reply bytes) = bytes.items ≡ expected
 IsLine expected (Going stage) = ⊥
 
--- a round lowers what was left by at least the steps that it took
-abbrev pub Lowers : (ℕ → ℕ) → List Batch → Kept → ℕ → ℕ → Result Round Memory → Type 0
-Lowers left batches w before after result = (n : ℕ) → IsPastIds n → IfOk result (λ round. after + round_left n batches w round ≤ before + left n)
+-- behind a stage a round gives the reply line or goes on where it owes the same, and counts; so much is left then at most, and it takes one step at most
+pub record RoundBehind (batches : List Batch) (s : Subject) (line : ℕ) (next : ℕ → ℕ) (w : Kept) (before after : ℕ) (result : Result Round Memory) : Type 0 where
+  pub gives : IfOk result (λ round. RoundGives batches s line w round)
+  pub counted : IfOk result (λ round. RoundCounts before after round)
+  pub left : (n : ℕ) → IfOk result (λ round. round_left n batches w round ≤ next n)
+  pub work : after ≤ before + 1
+  pub later : before ≤ after
 
--- the steps that were taken are within what was left
-abbrev pub IsWithin : (ℕ → ℕ) → ℕ → ℕ → Type 0
-IsWithin left before after = (n : ℕ) → IsPastIds n → after ≤ before + left n
+-- a round gives the reply line or goes on where it owes the same, and counts; it lowers what was left by its steps, whatever it comes to, and takes few
+pub record RoundGoes (batches : List Batch) (s : Subject) (line : ℕ) (left : ℕ → ℕ) (w : Kept) (before after most : ℕ) (result : Result Round Memory) : Type 0 where
+  pub gives : IfOk result (λ round. RoundGives batches s line w round)
+  pub counted : IfOk result (λ round. RoundCounts before after round)
+  pub less : (n : ℕ) → IsPastIds n → IfOk result (λ round. after + round_left n batches w round ≤ before + left n)
+  pub covered : (n : ℕ) → IsPastIds n → after ≤ before + left n
+  pub work : after ≤ before + most
+  pub later : before ≤ after

@@ -10,7 +10,7 @@ ghost use Rattle.gd_read.specs.Marked.{printed_view};
 ghost use Rattle.gd_window.specs.Laws.{defined};
 ghost use Rattle.gd_suspended_laws.specs.Standing.{rows_of, page_rows};
 ghost use Rattle.gd_read.specs.Stages.{Prints, IsBuilt};
-ghost use Rattle.gd_read.specs.Rounds.{RoundGives, RoundCounts, Lowers, IsWithin};
+ghost use Rattle.gd_read.specs.Rounds.{RoundGives, RoundGoes};
 ghost use Rattle.gd_shape.specs.Shaping.{shape_left, shape_most};
 ghost use Rattle.gd_read.specs.Left.{round_left};
 
@@ -126,12 +126,7 @@ pub(crate) fn print_on<L>(
     requires budget { 0 < budget }
     requires line { line < 2 ^ 63 }
     requires prints { Prints view.now subject.now shape window.now }
-    ensures gives { IfOk result (λ round. RoundGives view.now subject.now line window.now round) }
-    ensures counted { IfOk result (λ round. RoundCounts steps.old steps.new round) }
-    ensures less { Lowers (λ n. shape_left n shape) view.now window.now steps.old steps.new result }
-    ensures covered { IsWithin (λ n. shape_left n shape) steps.old steps.new }
-    ensures work { steps.new ≤ steps.old + budget + 1024 }
-    ensures later { steps.old ≤ steps.new }
+    ensures { RoundGoes view.now subject.now line (λ n. shape_left n shape) window.now steps.old steps.new (budget + 1024) result }
 {
     match shape.resume(alloc, view, budget, steps) {
         Ok(ShapeTurn::Reply(json)) => {

@@ -1,7 +1,7 @@
 //! What a reading does.
-ghost use Rattle.std.specs.Prelude.{◌+◌, ◌<◌, ◌≤◌, ◌^◌, IfOk};
+ghost use Rattle.std.specs.Prelude.{◌+◌, ◌<◌, ◌^◌};
 ghost use Rattle.gd_read.specs.Stages.{StageOwes};
-ghost use Rattle.gd_read.specs.Rounds.{RoundGives, RoundCounts, Lowers, IsWithin};
+ghost use Rattle.gd_read.specs.Rounds.{RoundGoes};
 ghost use Rattle.gd_read.specs.Left.{stage_left};
 
 use crate::building::Building;
@@ -68,14 +68,7 @@ impl Stage {
         requires budget { 0 < budget }
         requires line { line < 2 ^ 63 }
         requires owes { StageOwes view.now subject.now self window.old }
-        ensures gives { IfOk result (λ round. RoundGives view.now subject.now line window.new round) }
-        ensures counted { IfOk result (λ round. RoundCounts steps.old steps.new round) }
-
-        // A round lowers what is left by at least the steps that it takes.
-        ensures less { Lowers (λ n. stage_left n view.now window.old self) view.now window.new steps.old steps.new result }
-        ensures covered { IsWithin (λ n. stage_left n view.now window.old self) steps.old steps.new }
-        ensures work { steps.new ≤ steps.old + budget + 1024 }
-        ensures later { steps.old ≤ steps.new }
+        ensures { RoundGoes view.now subject.now line (λ n. stage_left n view.now window.old self) window.new steps.old steps.new (budget + 1024) result }
     {
         match self {
             Stage::Visiting(visiting) => {
