@@ -9,20 +9,19 @@ use Rattle.gd_runs.specs.Core.{Event, State}
 use Rattle.gd_replay_laws.specs.Built.{Takes, IsUnbuilt, unbuilt_line}
 use Rattle.gd_replay_laws.specs.Faults.{IsCounted, IsNoWrite}
 use Rattle.gd_replay_laws.proofs.Faults.{takes_quiet, quiet_counted}
-use Rattle.gd_sessions.specs.Running.{Answers, OrMemory}
+use Rattle.gd_reply.specs.Replies.{reply_text, made_text}
+use Rattle.gd_reply.specs.declared.reply.Reply.{Reply}
+use Rattle.gd_sessions.specs.Running.{Answers}
 
 -- the reply of a call, or want of memory for it
-pub or_takes : (R P : List ℕ → Type 0) (E : Type 0) (k : ℕ) (reply result : Result (Vec ℕ) Memory) → ((line : List ℕ) → R line → P line) → (E → P (memory_line k)) → OrMemory k reply result → IfOk reply (λ bytes. R bytes.items) → OnErr reply E
-    → Answers P result
-or_takes R P E k (Ok bytes) result more none is told lacks = subst (λ (r : Result (Vec ℕ) Memory). Answers P r) (sym is) (more bytes.items told)
-or_takes R P E k (Err e) (Ok bytes) more none is told lacks = subst P (sym is) (none lacks)
-or_takes R P E k (Err e) (Err f) more none is told lacks = (memory_line k, none lacks)
+pub made_takes : (R P : List ℕ → Type 0) (E : Type 0) (k : ℕ) (made : Result (Vec ℕ) Memory) (reply : List ℕ) → ((line : List ℕ) → R line → P line) → (E → P (memory_line k)) → reply ≡ made_text k made → IfOk made (λ bytes. R bytes.items) → OnErr made E → P reply
+made_takes R P E k (Ok bytes) reply more none is told lacks = subst P (sym is) (more bytes.items told)
+made_takes R P E k (Err e) reply more none is told lacks = subst P (sym is) (none lacks)
 
 -- where nothing is said of want of memory
-pub or_refuses : (R P : List ℕ → Type 0) (k : ℕ) (reply result : Result (Vec ℕ) Memory) → ((line : List ℕ) → R line → P line) → P (memory_line k) → OrMemory k reply result → IfOk reply (λ bytes. R bytes.items) → Answers P result
-or_refuses R P k (Ok bytes) result more none is told = subst (λ (r : Result (Vec ℕ) Memory). Answers P r) (sym is) (more bytes.items told)
-or_refuses R P k (Err e) (Ok bytes) more none is told = subst P (sym is) none
-or_refuses R P k (Err e) (Err f) more none is told = (memory_line k, none)
+pub made_refuses : (R P : List ℕ → Type 0) (k : ℕ) (made : Result (Vec ℕ) Memory) (reply : List ℕ) → ((line : List ℕ) → R line → P line) → P (memory_line k) → reply ≡ made_text k made → IfOk made (λ bytes. R bytes.items) → P reply
+made_refuses R P k (Ok bytes) reply more none is told = subst P (sym is) (more bytes.items told)
+made_refuses R P k (Err e) reply more none is told = subst P (sym is) none
 
 -- ---- an event that is not built
 
@@ -46,18 +45,12 @@ unbuilt_lacks members may s k bytes core.reopen unbuilt = absurd unbuilt
 
 -- ---- answers
 
-pub answers_more : (P Q : List ℕ → Type 0) (result : Result (Vec ℕ) Memory) → ((line : List ℕ) → P line → Q line) → Answers P result → Answers Q result
-answers_more P Q (Ok bytes) more given = more bytes.items given
+pub answers_more : (P Q : List ℕ → Type 0) (result : Result Reply Memory) → ((line : List ℕ) → P line → Q line) → Answers P result → Answers Q result
+answers_more P Q (Ok reply) more given = more (reply_text reply) given
 answers_more P Q (Err e) more (line, given) = (line, more line given)
 
--- the line that tells want of memory, made or due
-pub lacks_answers : (P : List ℕ → Type 0) (k : ℕ) (result : Result (Vec ℕ) Memory) → P (memory_line k) → IfOk result (λ bytes. bytes.items ≡ memory_line k) → Answers P result
-lacks_answers P k (Ok bytes) none told = subst P (sym told) none
-lacks_answers P k (Err e) none told = (memory_line k, none)
-
--- an event that is no write: its reply tells no failure of the disk
-pub answers_quiet : (members : MembersOf) (may : ℕ → Bool) (s : State) (k bytes : ℕ) (e : Event) (t : State) (before after : ℕ) (result : Result (Vec ℕ) Memory) → IsNoWrite e → Answers (λ line. Takes members may s k bytes e line t) result
-    → Answers (λ line. Takes members may s k bytes e line t × IsCounted k line before after) result
-answers_quiet members may s k bytes e t before after result other =
-    answers_more (λ line. Takes members may s k bytes e line t) (λ line. Takes members may s k bytes e line t × IsCounted k line before after) result
-    (λ line taken. (taken, quiet_counted k line before after (takes_quiet k members may s bytes e line t other taken)))
+-- the reply to an event that is no write tells no failure of the disk
+pub takes_counted : (may : ℕ → Bool) (s : State) (k bytes : ℕ) (e : Event) (t : State) (before after : ℕ) (reply : List ℕ) → IsNoWrite e → ((members : MembersOf) → Takes members may s k bytes e reply t) → IsCounted k reply before after
+takes_counted may s k bytes e t before after reply other takes =
+    let none : MembersOf = λ prims hop template. 0 in
+    quiet_counted k reply before after (takes_quiet k none may s bytes e reply t other (takes none))

@@ -1,13 +1,13 @@
 -- What contracts see of a core that is open, and what it keeps.
-use Rattle.std.specs.Prelude.{◌≡◌, ◌≢◌, ℕ, ◌+◌, ◌-◌, ◌^◌, ◌<◌, ◌≤◌, min, List, [], length, Option, None, Result, Ok, Err, MatchResult, IfOk}
+use Rattle.std.specs.Prelude.{◌≡◌, ◌≢◌, ℕ, ◌+◌, ◌-◌, ◌^◌, ◌<◌, ◌≤◌, min, List, [], length, Option, None, Result, MatchResult}
 use Rattle.std.specs.List.{AllByRecursion}
-use Rattle.std.specs.Global.{Vec}
 use Rattle.gd_base.specs.declared.memory.Memory.{Memory}
 use Rattle.gd_runs.specs.Legal.{Entry, History, batches}
-use Rattle.gd_runs.specs.Explained.{memory_line}
 use Rattle.gd_runs.specs.Core.{State, Event, begin, slice, write, learn, freeze, thaw, reopen}
 use Rattle.gd_bytes.specs.File.{MayStandFor}
 use Rattle.gd_runs.specs.Side.{IsFresh, doubt_groups}
+use Rattle.gd_reply.specs.Replies.{reply_text}
+use Rattle.gd_reply.specs.declared.reply.Reply.{Reply}
 use Rattle.gd_read.specs.Left.{IsPastIds}
 use Rattle.gd_writer.specs.Side.{SideValue, state_of}
 use Rattle.gd_sessions.specs.declared.held.Held.{Held}
@@ -33,13 +33,8 @@ pub record IsRunning {D C : Type 0} (side : SideValue D C) (held : List Held) : 
   pub going : AllByRecursion (IsGoingOn (batches side.history) (length side.shown)) held
 
 -- a reply that is so, or no memory for one that is due
-abbrev pub Answers : (List ℕ → Type 0) → Result (Vec ℕ) Memory → Type 0
-Answers P result = MatchResult result (λ reply. P reply.items) (λ _. (reply : List ℕ) × P reply)
-
--- the reply, or where there was no memory for it the line that says so
-abbrev pub OrMemory : ℕ → Result (Vec ℕ) Memory → Result (Vec ℕ) Memory → Type 0
-OrMemory k (Ok bytes) result = result ≡ Ok bytes
-OrMemory k (Err none) result = IfOk result (λ line. line.items ≡ memory_line k)
+abbrev pub Answers : (List ℕ → Type 0) → Result Reply Memory → Type 0
+Answers P result = MatchResult result (λ reply. P (reply_text reply)) (λ _. (reply : List ℕ) × P reply)
 
 -- an event that may be carried out: it is of one of 64 sessions, with a budget that there may be, and a write is of a line that is fresh
 abbrev pub MayTake : History → Option Entry → ℕ → Event → Type 0

@@ -3,16 +3,14 @@ ghost use Rattle.std.specs.Prelude.{◌≡◌, ◌<◌, ◌^◌, ◌∷◌, [], 
 ghost use Rattle.gd_tree.specs.Json as tree;
 ghost use Rattle.gd_json.specs.View.{members_view};
 ghost use Rattle.gd_defs.specs.Lines as printed;
-ghost use Rattle.gd_runs.specs.Explained as explained;
 ghost use Rattle.gd_runs.specs.Core as core;
 ghost use Rattle.gd_replay_laws.specs.Built as built;
 
 use gd_base::memory::Memory;
 use gd_json::text::json_text;
 use gd_json::value::Json;
-use gd_reply::lines::{err_line_plain, ok_line};
+use gd_reply::lines::ok_line;
 use gd_reply::members::{Members, list, object, push_count, push_member, push_text};
-use gd_reply::refusal::Refusal;
 use std::alloc::Global;
 
 /// The reply line of a refusal that names no dateline: its error, and what it tells.
@@ -27,34 +25,6 @@ fn plain_line(alloc: Global, line: u64, error: &str, told: Members) -> Result<Ve
     push_member(alloc, &mut members, "info", object(told))?;
     push_count(alloc, &mut members, "line", line)?;
     json_text(alloc, &object(members))
-}
-
-/// The reply line where no memory was found.
-pub(crate) fn memory_line(alloc: Global, line: u64) -> Result<Vec<u8>, Memory>
-    requires { line < 2 ^ 63 }
-    ensures { IfOk result (λ bytes. bytes.items ≡ explained.memory_line line) }
-{
-    err_line_plain(alloc, line, &Refusal::Memory)
-}
-
-/// The reply line to a write that is this entry and not shown yet.
-pub(crate) fn late_line(alloc: Global, line: u64, entry: u32) -> Result<Vec<u8>, Memory>
-    requires { line < 2 ^ 63 }
-    ensures { IfOk result (λ bytes. bytes.items ≡ explained.late_line line entry) }
-{
-    let mut told = Vec::new(alloc);
-    push_count(alloc, &mut told, "entry", u64::from(entry))?;
-    plain_line(alloc, line, "MemoryLate", told)
-}
-
-/// The reply line to a write at which the disk failed, with a word that says whether the write is stored.
-pub(crate) fn disk_line(alloc: Global, line: u64, stored: &str) -> Result<Vec<u8>, Memory>
-    requires { line < 2 ^ 63 }
-    ensures { IfOk result (λ bytes. bytes.items ≡ explained.disk_line line stored.now) }
-{
-    let mut told = Vec::new(alloc);
-    push_text(alloc, &mut told, "stored", stored)?;
-    plain_line(alloc, line, "DiskFault", told)
 }
 
 /// The reply line where no reading is held.

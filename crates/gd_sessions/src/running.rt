@@ -1,5 +1,5 @@
 //! A core that is open: its write side, and its sessions.
-ghost use Rattle.std.specs.Prelude.{◌≡◌, ◌<◌, ◌≤◌, ◌+◌, ◌^◌, ◌⊎◌, ℕ, Bool, List, length, map, None, IfOk, IfErr, OnErr, MatchResult, [], true};
+ghost use Rattle.std.specs.Prelude.{◌≡◌, ◌<◌, ◌≤◌, ◌+◌, ◌^◌, ◌⊎◌, ℕ, Bool, List, length, map, None, IfOk, IfErr, OnErr, MatchResult, [], true, codes};
 ghost use Rattle.std.specs.List.{AllByRecursion};
 ghost use Rattle.std.specs.Option.{ForSome};
 ghost use Rattle.gd_base.specs.Counts.{Rose};
@@ -13,16 +13,17 @@ ghost use Rattle.gd_runs.specs.Core.{Event as EventOf};
 ghost use Rattle.gd_runs.specs.Core.{BeginStep, SliceStep, LearnStep, WriteStep, ReopenStep, entered};
 ghost use Rattle.gd_runs.specs.Side.{IsFresh};
 ghost use Rattle.gd_mql.specs.Requests.{read_view, write_view};
+ghost use Rattle.gd_reply.specs.Replies.{reply_text};
 ghost use Rattle.gd_writer.specs.Parts.{Tells};
 ghost use Rattle.gd_writer.specs.Side.{KeepsAll, GoesOn, Begins};
 ghost use Rattle.gd_sessions.specs.Opened.{IsNew, Opens};
 ghost use Rattle.gd_replay_laws.specs.Built.{Takes, IsUnbuilt};
 ghost use Rattle.gd_replay_laws.specs.Faults.{IsCounted};
 ghost use Rattle.gd_sessions.specs.Held.{session_view, sessions_of};
-ghost use Rattle.gd_sessions.specs.Running.{core_state, StandsForState, Answers, OrMemory, MayTake, GoesBy, IsSliced, SlicesBy};
+ghost use Rattle.gd_sessions.specs.Running.{core_state, StandsForState, Answers, MayTake, GoesBy, IsSliced, SlicesBy};
 
 use crate::held::Held;
-use crate::lines::{memory_line, said, unbuilt_line};
+use crate::lines::{said, unbuilt_line};
 use crate::writing;
 use gd_base::memory::Memory;
 use gd_base::steps::Steps;
@@ -31,6 +32,7 @@ use gd_events::event::Event;
 use gd_journal::fault::JournalFault;
 use gd_mql::request::{ReadRequest, WriteRequest};
 use gd_outside::clock::Clock;
+use gd_reply::reply::Reply;
 use gd_writer::side::WriteSide;
 use std::alloc::Global;
 use std::marker::Model;
@@ -86,15 +88,11 @@ fn new_sessions(alloc: Global) -> Result<Vec<Held>, Memory>
     Ok(held)
 }
 
-/// The reply, or where there was no memory for it the line that says so.
-fn or_memory(alloc: Global, line: u64, reply: Result<Vec<u8>, Memory>) -> Result<Vec<u8>, Memory>
-    requires { line < 2 ^ 63 }
-    ensures { OrMemory line reply result }
+/// The reply where the store was opened again, with so many requests.
+fn reopened(alloc: Global, requests: u32, line: u64) -> Result<Reply, Memory>
+    ensures { IfOk result (λ reply. reply_text reply ≡ core.said requests line (codes "reopened")) }
 {
-    match reply {
-        Ok(bytes) => Ok(bytes),
-        Err(_) => memory_line(alloc, line),
-    }
+    Ok(Reply::Line(said(alloc, requests, line, "reopened")?))
 }
 
 impl<D: Disk, C: Clock> Running<D, C> {
@@ -155,7 +153,7 @@ impl<D: Disk, C: Clock> Running<D, C> {
         rt: &R,
         alloc: Global,
         line: u64,
-    ) -> Result<(Running<D, C>, Result<Vec<u8>, Memory>), (JournalFault, D, C)>
+    ) -> Result<(Running<D, C>, Result<Reply, Memory>), (JournalFault, D, C)>
         requires { line < 2 ^ 63 }
         ensures takes { IfOk result (λ both. Tells (D.content self.side.log.disk) → (members : MembersOf) (may : ℕ → Bool) (bytes : ℕ)
             → Answers (λ reply. Takes members may (core_state self) line bytes core.reopen reply (core_state both.0)) both.1) }
@@ -171,10 +169,7 @@ impl<D: Disk, C: Clock> Running<D, C> {
     {
         match new_sessions(alloc) {
             Ok(held) => self.open_again(rt, alloc, line, held),
-            Err(_) => {
-                let reply = memory_line(alloc, line);
-                Ok((self, reply))
-            }
+            Err(_) => Ok((self, Ok(Reply::no_memory(line)))),
         }
     }
 
@@ -185,7 +180,7 @@ impl<D: Disk, C: Clock> Running<D, C> {
         alloc: Global,
         line: u64,
         held: Vec<Held>,
-    ) -> Result<(Running<D, C>, Result<Vec<u8>, Memory>), (JournalFault, D, C)>
+    ) -> Result<(Running<D, C>, Result<Reply, Memory>), (JournalFault, D, C)>
         requires line { line < 2 ^ 63 }
         requires many { length held.items ≡ 64 }
         requires new { AllByRecursion IsNew held.items }
@@ -205,7 +200,7 @@ impl<D: Disk, C: Clock> Running<D, C> {
         let (disk, clock) = side.close(rt);
         match Running::open(rt, alloc, held, disk, clock) {
             Ok(running) => {
-                let reply = said(alloc, running.side.stored(), line, "reopened");
+                let reply = reopened(alloc, running.side.stored(), line);
                 Ok((running, reply))
             }
             Err(refused) => Err(refused),
@@ -284,8 +279,7 @@ impl<D: Disk, C: Clock> Running<D, C> {
         held.learn(alloc, shown, line, dateline)
     }
 
-    /// A session writes; `bytes` is the length of the line. Publishing waits for readers. `Memory`: there was none for the
-    /// reply, which is due.
+    /// A session writes; `bytes` is the length of the line. Publishing waits for readers.
     fn write<R: Wait>(
         &mut self,
         rt: &R,
@@ -294,13 +288,13 @@ impl<D: Disk, C: Clock> Running<D, C> {
         bytes: u64,
         sid: u32,
         request: &WriteRequest,
-    ) -> Result<Vec<u8>, Memory>
+    ) -> Reply
         requires line { line < 2 ^ 63 }
         requires bytes { bytes ≤ 262_144 }
         requires sid { sid < SESSIONS }
         requires fresh { IsFresh self.old.side.history self.old.side.doubt line }
-        ensures step { Answers (λ reply. WriteStep (C.may self.old.side.clock) (core_state self.old) line bytes sid (write_view request.now) reply (core_state self.new)
-            × IsCounted line reply (D.faults self.old.side.log.disk) (D.faults self.new.side.log.disk)) result }
+        ensures step { WriteStep (C.may self.old.side.clock) (core_state self.old) line bytes sid (write_view request.now) (reply_text result) (core_state self.new) }
+        ensures counted { IsCounted line (reply_text result) (D.faults self.old.side.log.disk) (D.faults self.new.side.log.disk) }
         ensures goes { GoesOn D.content D.moment D.images D.images_since D.faults C.may self.old.side self.new.side }
     {
         // It is said here that what is shown is a front of what is stored.
@@ -309,7 +303,7 @@ impl<D: Disk, C: Clock> Running<D, C> {
         writing::write(rt, alloc, &mut self.side, held, line, bytes, request)
     }
 
-    /// A session begins a read, and drops the reading that it held. `Memory`: there was none for the reply, which is due.
+    /// A session begins a read, and drops the reading that it held.
     fn begin<L>(
         &mut self,
         alloc: Global,
@@ -317,19 +311,19 @@ impl<D: Disk, C: Clock> Running<D, C> {
         sid: u32,
         request: ReadRequest,
         steps: &mut Steps<L>,
-    ) -> Result<Vec<u8>, Memory>
+    ) -> Reply
         requires line { line < 2 ^ 63 }
         requires sid { sid < SESSIONS }
         ensures takes { (members : MembersOf) (may : ℕ → Bool) (bytes : ℕ)
-            → Answers (λ reply. Takes members may (core_state self.old) line bytes (core.begin sid (read_view request)) reply (core_state self.new)) result }
+            → Takes members may (core_state self.old) line bytes (core.begin sid (read_view request)) (reply_text result) (core_state self.new) }
         ensures side { self.new.side ≡ self.old.side }
         ensures later { steps.old ≤ steps.new }
     {
         let reply = self.try_begin(alloc, line, sid, request, steps);
-        or_memory(alloc, line, reply)
+        Reply::made(line, reply)
     }
 
-    /// A session goes on with its reading for a budget of steps. `Memory`: there was none for the reply, which is due.
+    /// A session goes on with its reading for a budget of steps.
     fn slice<L>(
         &mut self,
         alloc: Global,
@@ -337,50 +331,43 @@ impl<D: Disk, C: Clock> Running<D, C> {
         sid: u32,
         budget: u64,
         steps: &mut Steps<L>,
-    ) -> Result<Vec<u8>, Memory>
+    ) -> Reply
         requires line { line < 2 ^ 63 }
         requires sid { sid < SESSIONS }
         requires budget { 0 < budget }
         ensures takes { (members : MembersOf) (may : ℕ → Bool) (bytes : ℕ)
-            → Answers (λ reply. Takes members may (core_state self.old) line bytes (core.slice sid budget) reply (core_state self.new)) result }
+            → Takes members may (core_state self.old) line bytes (core.slice sid budget) (reply_text result) (core_state self.new) }
         ensures side { self.new.side ≡ self.old.side }
         ensures sliced { IsSliced sid budget self.old self.new steps.old steps.new }
         ensures later { steps.old ≤ steps.new }
     {
         let reply = self.try_slice(alloc, line, sid, budget, steps);
-        or_memory(alloc, line, reply)
+        Reply::made(line, reply)
     }
 
-    /// A session learns of a dateline. `Memory`: there was none for the reply, which is due.
-    fn learn(
-        &mut self,
-        alloc: Global,
-        line: u64,
-        sid: u32,
-        dateline: u32,
-    ) -> Result<Vec<u8>, Memory>
+    /// A session learns of a dateline.
+    fn learn(&mut self, alloc: Global, line: u64, sid: u32, dateline: u32) -> Reply
         requires line { line < 2 ^ 63 }
         requires sid { sid < SESSIONS }
         ensures takes { (members : MembersOf) (may : ℕ → Bool) (bytes : ℕ)
-            → Answers (λ reply. Takes members may (core_state self.old) line bytes (core.learn sid dateline) reply (core_state self.new)) result }
+            → Takes members may (core_state self.old) line bytes (core.learn sid dateline) (reply_text result) (core_state self.new) }
         ensures side { self.new.side ≡ self.old.side }
     {
         let reply = self.try_learn(alloc, line, sid, dateline);
-        or_memory(alloc, line, reply)
+        Reply::made(line, reply)
     }
 
-    /// The refusal of an event that is not built. `Memory`: there was none for the reply, which is due.
-    fn refuse(&self, alloc: Global, line: u64) -> Result<Vec<u8>, Memory>
+    /// The refusal of an event that is not built.
+    fn refuse(&self, alloc: Global, line: u64) -> Reply
         requires line { line < 2 ^ 63 }
         ensures { (members : MembersOf) (may : ℕ → Bool) (bytes : ℕ) (event : EventOf) → IsUnbuilt event
-            → Answers (λ reply. Takes members may (core_state self.now) line bytes event reply (core_state self.now)) result }
+            → Takes members may (core_state self.now) line bytes event (reply_text result) (core_state self.now) }
     {
-        or_memory(alloc, line, unbuilt_line(alloc, line))
+        Reply::made(line, unbuilt_line(alloc, line))
     }
 
-    /// Carries an event out and gives its reply line; `line` and `bytes` are the number and the length of its line. Opening
-    /// the store again is no matter of this call. A write waits for readers as it is published. `Memory`: there was none for
-    /// the reply, which is due.
+    /// Carries an event out and gives its reply; `line` and `bytes` are the number and the length of its line. Opening
+    /// the store again is no matter of this call. A write waits for readers as it is published.
     pub fn step<R: Wait, L>(
         &mut self,
         rt: &R,
@@ -389,7 +376,7 @@ impl<D: Disk, C: Clock> Running<D, C> {
         bytes: u64,
         event: Event,
         steps: &mut Steps<L>,
-    ) -> Result<Vec<u8>, Memory>
+    ) -> Reply
         requires line { line < 2 ^ 63 }
         requires bytes { bytes ≤ 262_144 }
         requires may { MayTake self.old.side.history self.old.side.doubt line (event_view event) }
@@ -397,8 +384,8 @@ impl<D: Disk, C: Clock> Running<D, C> {
 
         // The reply and the new state are what the event comes to, and the reply tells a failure of the disk only where the
         // disk's count rose.
-        ensures takes { (members : MembersOf) → Answers (λ reply. Takes members (C.may self.old.side.clock) (core_state self.old) line bytes (event_view event) reply (core_state self.new)
-            × IsCounted line reply (D.faults self.old.side.log.disk) (D.faults self.new.side.log.disk)) result }
+        ensures takes { (members : MembersOf) → Takes members (C.may self.old.side.clock) (core_state self.old) line bytes (event_view event) (reply_text result) (core_state self.new) }
+        ensures counted { IsCounted line (reply_text result) (D.faults self.old.side.log.disk) (D.faults self.new.side.log.disk) }
 
         // What the disk holds stays what the core has; a stop leaves what it had before or has after.
         ensures goes { GoesOn D.content D.moment D.images D.images_since D.faults C.may self.old.side self.new.side }

@@ -6,13 +6,12 @@ ghost use Rattle.gd_runs.specs.Side.{Kept, IsFresh, told_of};
 ghost use Rattle.gd_mql.specs.Requests.{write_view};
 ghost use Rattle.gd_change.specs.Fault.{fault_of, IsSmall};
 ghost use Rattle.gd_reply.specs.Refusals.{refusal_of, CountsFit};
-ghost use Rattle.gd_core_laws.specs.Round as round;
+ghost use Rattle.gd_reply.specs.Replies.{reply_text};
 ghost use Rattle.gd_writer.specs.Outcomes.{kept_view, told_view, IsTold};
 ghost use Rattle.gd_writer.specs.Side.{GoesOn};
-ghost use Rattle.gd_sessions.specs.Writes.{IsShown, IsToldKept, WritesFor};
+ghost use Rattle.gd_sessions.specs.Writes.{IsShown, IsToldKept, TellsKept, WritesFor};
 
 use crate::held::Held;
-use crate::lines::{disk_line, late_line, memory_line};
 use gd_base::memory::Memory;
 use gd_change::fault::ChangeFault;
 use gd_disk::disk::Disk;
@@ -20,6 +19,7 @@ use gd_mql::request::WriteRequest;
 use gd_outside::clock::Clock;
 use gd_reply::lines::err_line;
 use gd_reply::refusal::Refusal;
+use gd_reply::reply::{Failure, Reply};
 use gd_writer::outcome::Outcome;
 use gd_writer::side::WriteSide;
 use std::alloc::Global;
@@ -60,19 +60,25 @@ fn refused_line(alloc: Global, line: u64, fault: ChangeFault, at: u32) -> Result
     err_line(alloc, at, line, &reason(fault))
 }
 
-/// The reply line to a write, by what is kept of it.
-fn kept_line(alloc: Global, line: u64, outcome: Outcome) -> Result<Vec<u8>, Memory>
+/// The reply to a write, by what is kept of it: where there is no memory for saying why it is refused, that there was none.
+fn told_reply(alloc: Global, line: u64, outcome: Outcome) -> Reply
     requires line { line < 2 ^ 63 }
     requires told { IsTold line outcome }
-    ensures { IfOk result (λ reply. reply.items ≡ round.kept_reply line (kept_view outcome)) }
+    ensures { TellsKept line (kept_view outcome) (reply_text result) }
 {
     match outcome {
-        Outcome::Stored { reply, .. } => Ok(reply),
-        Outcome::Late { entry } => late_line(alloc, line, entry),
-        Outcome::Refused { fault, at } => refused_line(alloc, line, fault, at),
-        Outcome::Doubt { .. } => disk_line(alloc, line, "maybe"),
-        Outcome::Unsettled => disk_line(alloc, line, "no"),
-        Outcome::Memory => memory_line(alloc, line),
+        Outcome::Stored { reply, .. } => Reply::Line(reply),
+        Outcome::Late { entry } => Reply::Late { line, entry },
+        Outcome::Refused { fault, at } => Reply::made(line, refused_line(alloc, line, fault, at)),
+        Outcome::Doubt { .. } => Reply::Failed {
+            failure: Failure::MaybeStored,
+            line,
+        },
+        Outcome::Unsettled => Reply::Failed {
+            failure: Failure::NotStored,
+            line,
+        },
+        Outcome::Memory => Reply::no_memory(line),
     }
 }
 
@@ -93,11 +99,11 @@ fn tell<D: Disk, C: Clock>(
     side: &mut WriteSide<D, C>,
     held: &mut Held,
     line: u64,
-) -> Result<Vec<u8>, Memory>
+) -> Reply
     requires line { line < 2 ^ 63 }
     requires one { (kept : Kept) × (side.old.outcomes ≡ told_of line kept ∷ []) }
     ensures told { (kept : Kept) → side.old.outcomes ≡ told_of line kept ∷ [] → IsToldKept kept (length side.old.shown) held.old held.new }
-    ensures reply { (kept : Kept) → side.old.outcomes ≡ told_of line kept ∷ [] → IfOk result (λ reply. reply.items ≡ round.kept_reply line kept) }
+    ensures reply { (kept : Kept) → side.old.outcomes ≡ told_of line kept ∷ [] → TellsKept line kept (reply_text result) }
     ensures side { side.new ≡ record side.old { outcomes = [] } }
 {
     let shown = side.shown();
@@ -108,14 +114,14 @@ fn tell<D: Disk, C: Clock>(
     match outcomes.pop() {
         Some(told) => {
             see_kept(held, shown, &told.outcome);
-            kept_line(alloc, line, told.outcome)
+            told_reply(alloc, line, told.outcome)
         }
         None => unreachable!(),
     }
 }
 
 /// Carries a write of the session out, and tells it what it came to; `bytes` is the length of the line. Publishing waits for
-/// readers. `Memory`: there was none for the reply, which is due.
+/// readers.
 pub(crate) fn write<R: Wait, D: Disk, C: Clock>(
     rt: &R,
     alloc: Global,
@@ -124,16 +130,16 @@ pub(crate) fn write<R: Wait, D: Disk, C: Clock>(
     line: u64,
     bytes: u64,
     request: &WriteRequest,
-) -> Result<Vec<u8>, Memory>
+) -> Reply
     requires none { side.old.outcomes ≡ [] }
     requires fresh { IsFresh side.old.history side.old.doubt line }
     requires bytes { bytes ≤ 262_144 }
     requires line { line < 2 ^ 63 }
-    ensures writes { WritesFor (C.may side.old.clock) D.faults side.old line bytes (write_view request.now) side.new held.old held.new result }
+    ensures writes { WritesFor (C.may side.old.clock) D.faults side.old line bytes (write_view request.now) side.new held.old held.new (reply_text result) }
     ensures goes { GoesOn D.content D.moment D.images D.images_since D.faults C.may side.old side.new }
 {
     match side.write(rt, line, request, bytes) {
         Ok(()) => tell(alloc, side, held, line),
-        Err(_) => memory_line(alloc, line),
+        Err(_) => Reply::no_memory(line),
     }
 }

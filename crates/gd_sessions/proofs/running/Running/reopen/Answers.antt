@@ -1,11 +1,11 @@
-use Rattle.std.proofs.Common.{inl, inr, refl}
+use Rattle.std.proofs.Common.{ℕ, List, inl, inr, refl, sym, subst}
 use Rattle.std.proofs.lemmas.Result.{IfOk-weaker}
 use Rattle.gd_runs.specs.Core as core
 use Rattle.gd_runs.specs.Core.{ReopenStep}
 use Rattle.gd_replay_laws.specs.Built.{Takes}
 use Rattle.gd_sessions.specs.Running.{core_state}
 use Rattle.gd_sessions.proofs.Left.{opens_same}
-use Rattle.gd_sessions.proofs.Taken.{answers_more, lacks_answers}
+use Rattle.gd_sessions.proofs.Taken.{answers_more}
 use Rattle.gd_sessions.proofs.running.Running.reopen.Goals as goal
 
 pub returns-in-Ok-clause-takes : goal.returns-in-Ok-clause-takes
@@ -18,7 +18,7 @@ returns-in-Ok-clause-anew g c = IfOk-weaker c.open_again.result _ _ (λ both is.
 
 pub returns-in-Err-clause-takes : goal.returns-in-Err-clause-takes
 returns-in-Err-clause-takes g c = λ tells members may bytes.
-    lacks_answers (λ line. Takes members may (core_state c.args.self) c.args.line bytes core.reopen line (core_state c.args.self)) c.args.line c.memory_line-reply.result (inr (refl, refl)) c.memory_line-reply.ensures
+    subst (λ (line : List ℕ). Takes members may (core_state c.args.self) c.args.line bytes core.reopen line (core_state c.args.self)) (sym c.no_memory.ensures) (inr (refl, refl))
 
 pub returns-in-Err-clause-disk : goal.returns-in-Err-clause-disk
 returns-in-Err-clause-disk g c =

@@ -1,21 +1,19 @@
 use Rattle.std.proofs.Common.{inl, refl}
 use Rattle.gd_events.specs.Events.{event_view}
-use Rattle.gd_mql.specs.Requests.{write_view}
-use Rattle.gd_runs.specs.Core as core
-use Rattle.gd_runs.specs.Core.{WriteStep}
-use Rattle.gd_replay_laws.specs.Built.{Takes}
-use Rattle.gd_replay_laws.specs.Faults.{IsCounted}
+use Rattle.gd_reply.specs.Replies.{reply_text}
 use Rattle.gd_sessions.specs.Running.{core_state}
 use Rattle.gd_sessions.proofs.Goes.{goes_same}
-use Rattle.gd_sessions.proofs.Taken.{answers_more, answers_quiet}
+use Rattle.gd_sessions.proofs.Taken.{takes_counted}
 use Rattle.gd_sessions.proofs.running.Running.step.Goals as goal
 
 pub returns-in-Begin-clause-takes : goal.returns-in-Begin-clause-takes
-returns-in-Begin-clause-takes g c = λ members.
-    let may = g.C.Clock.may c.args.self.now.side.clock in
+returns-in-Begin-clause-takes g c = λ members. rw c.in-Begin.is (c.begin.ensures.takes members (g.C.Clock.may c.args.self.now.side.clock) c.args.bytes)
+
+pub returns-in-Begin-clause-counted : goal.returns-in-Begin-clause-counted
+returns-in-Begin-clause-counted g c =
     let faults = g.D.Disk.faults in
-    answers_quiet members may (core_state c.args.self.now) c.args.line c.args.bytes (event_view c.args.event) (core_state c.begin.new.self) (faults c.args.self.now.side.log.disk) (faults c.begin.new.self.side.log.disk) c.begin.result (rw c.in-Begin.is tt)
-    (rw c.in-Begin.is (c.begin.ensures.takes members may c.args.bytes))
+    takes_counted (g.C.Clock.may c.args.self.now.side.clock) (core_state c.args.self.now) c.args.line c.args.bytes (event_view c.args.event) (core_state c.begin.new.self) (faults c.args.self.now.side.log.disk) (faults c.begin.new.self.side.log.disk) (reply_text c.begin.result) (rw c.in-Begin.is tt)
+    (λ members. rw c.in-Begin.is (c.begin.ensures.takes members (g.C.Clock.may c.args.self.now.side.clock) c.args.bytes))
 
 pub returns-in-Begin-clause-goes : goal.returns-in-Begin-clause-goes
 returns-in-Begin-clause-goes g c =
@@ -23,34 +21,27 @@ returns-in-Begin-clause-goes g c =
     goes_same d.content d.moment d.images d.images_since d.faults g.C.Clock.may g.met.D.Disk.only_now c.args.self.now.side c.begin.new.self.side c.shown-shown.ensures.keeps c.begin.ensures.side
 
 pub returns-in-Slice-clause-takes : goal.returns-in-Slice-clause-takes
-returns-in-Slice-clause-takes g c = λ members.
-    let may = g.C.Clock.may c.args.self.now.side.clock in
+returns-in-Slice-clause-takes g c = λ members. rw c.in-Slice.is (c.slice.ensures.takes members (g.C.Clock.may c.args.self.now.side.clock) c.args.bytes)
+
+pub returns-in-Slice-clause-counted : goal.returns-in-Slice-clause-counted
+returns-in-Slice-clause-counted g c =
     let faults = g.D.Disk.faults in
-    answers_quiet members may (core_state c.args.self.now) c.args.line c.args.bytes (event_view c.args.event) (core_state c.slice.new.self) (faults c.args.self.now.side.log.disk) (faults c.slice.new.self.side.log.disk) c.slice.result (rw c.in-Slice.is tt)
-    (rw c.in-Slice.is (c.slice.ensures.takes members may c.args.bytes))
+    takes_counted (g.C.Clock.may c.args.self.now.side.clock) (core_state c.args.self.now) c.args.line c.args.bytes (event_view c.args.event) (core_state c.slice.new.self) (faults c.args.self.now.side.log.disk) (faults c.slice.new.self.side.log.disk) (reply_text c.slice.result) (rw c.in-Slice.is tt)
+    (λ members. rw c.in-Slice.is (c.slice.ensures.takes members (g.C.Clock.may c.args.self.now.side.clock) c.args.bytes))
 
 pub returns-in-Slice-clause-goes : goal.returns-in-Slice-clause-goes
 returns-in-Slice-clause-goes g c =
     let d = g.D.Disk in
     goes_same d.content d.moment d.images d.images_since d.faults g.C.Clock.may g.met.D.Disk.only_now c.args.self.now.side c.slice.new.self.side c.shown-shown.ensures.keeps c.slice.ensures.side
 
-pub returns-in-Write-clause-takes : goal.returns-in-Write-clause-takes
-returns-in-Write-clause-takes g c = λ members.
-    let may = g.C.Clock.may c.args.self.now.side.clock in
-    let s = core_state c.args.self.now in
-    let t = core_state c.write.new.self in
-    let before = g.D.Disk.faults c.args.self.now.side.log.disk in
-    let after = g.D.Disk.faults c.write.new.self.side.log.disk in
-    rw c.in-Write.is
-    (answers_more (λ line. WriteStep may s c.args.line c.args.bytes c.in-Write.sid (write_view c.in-Write.request) line t × IsCounted c.args.line line before after)
-    (λ line. Takes members may s c.args.line c.args.bytes (core.write c.in-Write.sid (write_view c.in-Write.request)) line t × IsCounted c.args.line line before after) c.write.result (λ line (step, counted). (inl step, counted)) c.write.ensures.step)
-
 pub returns-in-Learn-clause-takes : goal.returns-in-Learn-clause-takes
-returns-in-Learn-clause-takes g c = λ members.
-    let may = g.C.Clock.may c.args.self.now.side.clock in
+returns-in-Learn-clause-takes g c = λ members. rw c.in-Learn.is (c.learn.ensures.takes members (g.C.Clock.may c.args.self.now.side.clock) c.args.bytes)
+
+pub returns-in-Learn-clause-counted : goal.returns-in-Learn-clause-counted
+returns-in-Learn-clause-counted g c =
     let faults = g.D.Disk.faults in
-    answers_quiet members may (core_state c.args.self.now) c.args.line c.args.bytes (event_view c.args.event) (core_state c.learn.new.self) (faults c.args.self.now.side.log.disk) (faults c.learn.new.self.side.log.disk) c.learn.result (rw c.in-Learn.is tt)
-    (rw c.in-Learn.is (c.learn.ensures.takes members may c.args.bytes))
+    takes_counted (g.C.Clock.may c.args.self.now.side.clock) (core_state c.args.self.now) c.args.line c.args.bytes (event_view c.args.event) (core_state c.learn.new.self) (faults c.args.self.now.side.log.disk) (faults c.learn.new.self.side.log.disk) (reply_text c.learn.result) (rw c.in-Learn.is tt)
+    (λ members. rw c.in-Learn.is (c.learn.ensures.takes members (g.C.Clock.may c.args.self.now.side.clock) c.args.bytes))
 
 pub returns-in-Learn-clause-goes : goal.returns-in-Learn-clause-goes
 returns-in-Learn-clause-goes g c =
@@ -58,11 +49,13 @@ returns-in-Learn-clause-goes g c =
     goes_same d.content d.moment d.images d.images_since d.faults g.C.Clock.may g.met.D.Disk.only_now c.args.self.now.side c.learn.new.self.side c.shown-shown.ensures.keeps c.learn.ensures.side
 
 pub returns-in-Freeze-clause-takes : goal.returns-in-Freeze-clause-takes
-returns-in-Freeze-clause-takes g c = λ members.
-    let may = g.C.Clock.may c.args.self.now.side.clock in
-    let faults = g.D.Disk.faults c.args.self.now.side.log.disk in
-    answers_quiet members may (core_state c.args.self.now) c.args.line c.args.bytes (event_view c.args.event) (core_state c.args.self.now) faults faults c.refuse.result (rw c.in-Freeze.is tt)
-    (c.refuse.ensures members may c.args.bytes (event_view c.args.event) (rw c.in-Freeze.is tt))
+returns-in-Freeze-clause-takes g c = λ members. (c.refuse.ensures members (g.C.Clock.may c.args.self.now.side.clock) c.args.bytes (event_view c.args.event) (rw c.in-Freeze.is tt))
+
+pub returns-in-Freeze-clause-counted : goal.returns-in-Freeze-clause-counted
+returns-in-Freeze-clause-counted g c =
+    let faults = g.D.Disk.faults in
+    takes_counted (g.C.Clock.may c.args.self.now.side.clock) (core_state c.args.self.now) c.args.line c.args.bytes (event_view c.args.event) (core_state c.args.self.now) (faults c.args.self.now.side.log.disk) (faults c.args.self.now.side.log.disk) (reply_text c.refuse.result) (rw c.in-Freeze.is tt)
+    (λ members. (c.refuse.ensures members (g.C.Clock.may c.args.self.now.side.clock) c.args.bytes (event_view c.args.event) (rw c.in-Freeze.is tt)))
 
 pub returns-in-Freeze-clause-goes : goal.returns-in-Freeze-clause-goes
 returns-in-Freeze-clause-goes g c =
@@ -70,13 +63,18 @@ returns-in-Freeze-clause-goes g c =
     goes_same d.content d.moment d.images d.images_since d.faults g.C.Clock.may g.met.D.Disk.only_now c.args.self.now.side c.args.self.now.side c.shown-shown.ensures.keeps refl
 
 pub returns-in-Thaw-clause-takes : goal.returns-in-Thaw-clause-takes
-returns-in-Thaw-clause-takes g c = λ members.
-    let may = g.C.Clock.may c.args.self.now.side.clock in
-    let faults = g.D.Disk.faults c.args.self.now.side.log.disk in
-    answers_quiet members may (core_state c.args.self.now) c.args.line c.args.bytes (event_view c.args.event) (core_state c.args.self.now) faults faults c.refuse-in-Thaw.result (rw c.in-Thaw.is tt)
-    (c.refuse-in-Thaw.ensures members may c.args.bytes (event_view c.args.event) (rw c.in-Thaw.is tt))
+returns-in-Thaw-clause-takes g c = λ members. (c.refuse-in-Thaw.ensures members (g.C.Clock.may c.args.self.now.side.clock) c.args.bytes (event_view c.args.event) (rw c.in-Thaw.is tt))
+
+pub returns-in-Thaw-clause-counted : goal.returns-in-Thaw-clause-counted
+returns-in-Thaw-clause-counted g c =
+    let faults = g.D.Disk.faults in
+    takes_counted (g.C.Clock.may c.args.self.now.side.clock) (core_state c.args.self.now) c.args.line c.args.bytes (event_view c.args.event) (core_state c.args.self.now) (faults c.args.self.now.side.log.disk) (faults c.args.self.now.side.log.disk) (reply_text c.refuse-in-Thaw.result) (rw c.in-Thaw.is tt)
+    (λ members. (c.refuse-in-Thaw.ensures members (g.C.Clock.may c.args.self.now.side.clock) c.args.bytes (event_view c.args.event) (rw c.in-Thaw.is tt)))
 
 pub returns-in-Thaw-clause-goes : goal.returns-in-Thaw-clause-goes
 returns-in-Thaw-clause-goes g c =
     let d = g.D.Disk in
     goes_same d.content d.moment d.images d.images_since d.faults g.C.Clock.may g.met.D.Disk.only_now c.args.self.now.side c.args.self.now.side c.shown-shown.ensures.keeps refl
+
+pub returns-in-Write-clause-takes : goal.returns-in-Write-clause-takes
+returns-in-Write-clause-takes g c = λ members. rw c.in-Write.is (inl c.write.ensures.step)
