@@ -19,10 +19,12 @@ use gd_round_lines::worked::Worked;
 use gd_writer::side::WriteSide;
 use std::alloc::Global;
 
-/// Tells what was kept of the writes of a round, the first of whose lines is line `first`, and answers its reads: each by
-/// what a worker kept of it at its place, if that fits, and else over the working store at the greatest number that fits
-/// it, in slices of a budget of steps. No read is answered by a worker below `begun`, how much was shown when the round
-/// began. Where there is no memory for a reply, the line has the one that says so. Nothing is kept of a write from then on.
+/// Tells what was kept of the writes of a round, the first of whose lines is line `first`, and
+/// answers its reads: each by what a worker kept of it at its place, if that fits, and else over
+/// the working store at the greatest number that fits it, in slices of a budget of steps. No read
+/// is answered by a worker below `begun`, how much was shown when the round began. Where there is
+/// no memory for a reply, the line has the one that says so. Nothing is kept of a write from then
+/// on.
 pub fn answer_joined<D: Disk, C: Clock, L>(
     alloc: Global,
     side: &mut WriteSide<D, C>,

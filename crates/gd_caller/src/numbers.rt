@@ -11,8 +11,8 @@ ghost use Rattle.gd_caller.specs.Fits.{FollowsWrite, FollowsWrites};
 use gd_round_lines::work::{LineNumber, ReadLine, WriteLine};
 use gd_store::store::Store;
 
-/// What stands when the reads of a round are answered: the working store, how much of it is shown, and the write lines of
-/// the round with the numbers of each line, the first of them line `first`.
+/// What stands when the reads of a round are answered: the working store, how much of it is shown,
+/// and the write lines of the round with the numbers of each line, the first of them line `first`.
 #[derive(Clone, Copy)]
 pub struct Standing<'a> {
     pub store: &'a Store,
@@ -32,8 +32,8 @@ impl<'a> Standing<'a> {
         self.numbers[(line - self.first) as usize]
     }
 
-    /// The number of a write line, where it is one of the read's session behind it that has a number, and else what is
-    /// shown.
+    /// The number of a write line, where it is one of the read's session behind it that has a
+    /// number, and else what is shown.
     fn later_number(&self, read: &ReadLine, write: &WriteLine) -> u32
         requires within { IsWriteWithin self.now.first (self.now.first + length self.now.numbers.now) write.now }
         ensures { (outs : List Told) → AreNumbers self.now.first outs self.now.numbers.now
@@ -45,8 +45,8 @@ impl<'a> Standing<'a> {
         self.shown
     }
 
-    /// The greatest number at which a read may be answered: the least of what is shown and of the numbers of the write
-    /// lines of its session behind it.
+    /// The greatest number at which a read may be answered: the least of what is shown and of the
+    /// numbers of the write lines of its session behind it.
     pub fn least_later(&self, read: &ReadLine) -> u32
         requires within { AllByRecursion (IsWriteWithin self.now.first (self.now.first + length self.now.numbers.now)) self.now.writes.now }
         ensures least { (outs : List Told) → AreNumbers self.now.first outs self.now.numbers.now
@@ -60,8 +60,8 @@ impl<'a> Standing<'a> {
         least
     }
 
-    /// Whether a number has all that a write line told a read: it is greater than its entry, where it is one of the read's
-    /// session before it that was stored and is shown.
+    /// Whether a number has all that a write line told a read: it is greater than its entry, where
+    /// it is one of the read's session before it that was stored and is shown.
     fn follows(&self, read: &ReadLine, write: &WriteLine, at: u32) -> bool
         requires within { IsWriteWithin self.now.first (self.now.first + length self.now.numbers.now) write.now }
         ensures { (outs : List Told) → AreNumbers self.now.first outs self.now.numbers.now
@@ -76,8 +76,8 @@ impl<'a> Standing<'a> {
         }
     }
 
-    /// Whether a number fits a read: it has all that the write lines of its session before it told, and is not above the
-    /// number of any behind it.
+    /// Whether a number fits a read: it has all that the write lines of its session before it told,
+    /// and is not above the number of any behind it.
     pub fn fits(&self, read: &ReadLine, at: u32) -> bool
         requires within { AllByRecursion (IsWriteWithin self.now.first (self.now.first + length self.now.numbers.now)) self.now.writes.now }
         requires shown { at ≤ self.now.shown }

@@ -30,8 +30,8 @@ use std::alloc::Global;
 /// How many sessions there are.
 const SESSIONS: usize = 64;
 
-/// One slice of a reading: its reply line, or none where it goes on, with less left of it. Its steps are counted from nothing,
-/// so that the count does not stand at its end.
+/// One slice of a reading: its reply line, or none where it goes on, with less left of it. Its
+/// steps are counted from nothing, so that the count does not stand at its end.
 fn slice_of<L>(
     alloc: Global,
     view: &View<'_>,
@@ -74,8 +74,9 @@ fn line_of<L>(
     }
 }
 
-/// The reply line to a read of a store at a number of its requests, in slices of a budget of steps: the page that it asks
-/// for, at the dateline of its cursor or at that number, or the first refusal. `Memory` may come in place of any line.
+/// The reply line to a read of a store at a number of its requests, in slices of a budget of steps:
+/// the page that it asks for, at the dateline of its cursor or at that number, or the first
+/// refusal. `Memory` may come in place of any line.
 pub fn reply_at<L>(
     alloc: Global,
     store: &Store,
@@ -121,7 +122,8 @@ fn take_kept(worked: &mut Vec<Option<Worked>>, place: usize) -> Option<Worked>
     }
 }
 
-/// What a worker kept of a read, if its number fits the read, and is not below the floor of its session.
+/// What a worker kept of a read, if its number fits the read, and is not below the floor of its
+/// session.
 fn fitting(
     standing: &Standing<'_>,
     read: &ReadLine,
@@ -166,8 +168,8 @@ fn answer_at<L>(
     }
 }
 
-/// Answers a read by what a worker kept of it, if that fits, and else at the greatest number that fits it. From then on
-/// the floor of its session is not below that number.
+/// Answers a read by what a worker kept of it, if that fits, and else at the greatest number that
+/// fits it. From then on the floor of its session is not below that number.
 fn answer_read<L>(
     alloc: Global,
     standing: &Standing<'_>,
@@ -207,9 +209,9 @@ fn answer_read<L>(
     }
 }
 
-/// Answers reads in the order of their lines, each by what a worker kept of it, if that fits, and else at the greatest
-/// number that fits it. Where there is no memory for one, its reply stays. No number is below `begun`, how much was shown
-/// when the round began.
+/// Answers reads in the order of their lines, each by what a worker kept of it, if that fits, and
+/// else at the greatest number that fits it. Where there is no memory for one, its reply stays. No
+/// number is below `begun`, how much was shown when the round began.
 pub(crate) fn answer_reads<L>(
     alloc: Global,
     standing: &Standing<'_>,

@@ -51,7 +51,8 @@ fn tell_one(first: u64, written: WriteOf, numbers: &mut Vec<LineNumber>, replies
     put(replies, at, outcome.tell(line));
 }
 
-/// Tells what was kept of the write lines of a round, each in place of its first reply. It takes no memory.
+/// Tells what was kept of the write lines of a round, each in place of its first reply. It takes no
+/// memory.
 pub fn tell_all(
     first: u64,
     mut outcomes: Vec<WriteOf>,

@@ -37,7 +37,8 @@ fn write_one<D: Disk, C: Clock, R: Wait>(rt: &R, side: &mut WriteSide<D, C>, wri
     let _written = side.write(rt, write.line, &write.request, write.bytes);
 }
 
-/// Carries out, in their order, the write lines of which nothing is kept. One for which there is no memory is passed over.
+/// Carries out, in their order, the write lines of which nothing is kept. One for which there is no
+/// memory is passed over.
 pub fn write_left<D: Disk, C: Clock, R: Wait>(
     rt: &R,
     side: &mut WriteSide<D, C>,

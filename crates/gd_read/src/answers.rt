@@ -91,7 +91,8 @@ fn holds_at(linked: &LinkedPrims, property: &Property, place: Id) -> bool
     }
 }
 
-/// Whether the link at the place, which has an object at the end by which the property is asked, is an answer on it.
+/// Whether the link at the place, which has an object at the end by which the property is asked, is
+/// an answer on it.
 fn is_answer_at(linked: &LinkedPrims, property: &Property, place: Id) -> bool
     ensures { result ≡ is_answer_at linked.now property.now place }
 {

@@ -12,7 +12,8 @@ use gd_reply::refusal::Refusal;
 use std::alloc::Global;
 use thiserror::Error;
 
-/// Why a reading does not begin. A query has no meaning at a dateline: that of the cursor, or the latest one.
+/// Why a reading does not begin. A query has no meaning at a dateline: that of the cursor, or the
+/// latest one.
 #[derive(Debug, Drop, Error)]
 pub enum ReadFault {
     /// The text of the cursor is none, and so many of its bytes begin one.
@@ -61,8 +62,8 @@ impl From<Memory> for ReadFault {
 }
 
 impl ReadFault {
-    /// The reply line of the refusal, where the store was looked at with this latest dateline. `Memory`: an allocation was
-    /// refused, now or when the reading was to begin.
+    /// The reply line of the refusal, where the store was looked at with this latest dateline.
+    /// `Memory`: an allocation was refused, now or when the reading was to begin.
     pub fn line(self, alloc: Global, latest: u32, line: u64) -> Result<Vec<u8>, Memory>
         requires line { line < 2 ^ 63 }
         requires offset { HasOffset self }

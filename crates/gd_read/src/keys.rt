@@ -110,7 +110,8 @@ fn keys_of(
     Ok(keys)
 }
 
-/// The row of an object, with the places and the values of its sort keys. `Memory`: an allocation was refused.
+/// The row of an object, with the places and the values of its sort keys. `Memory`: an allocation
+/// was refused.
 #[tactic(auto, using(crate::proofs::KeyLinks::own_keys))]
 pub fn row_of(
     alloc: Global,
@@ -172,8 +173,9 @@ fn mark_keys(
     Ok(keys)
 }
 
-/// The row of a mark, which is an object and the places of its sort keys: a place that lies past the end counts as missing,
-/// and so do those that lack; those that are too many are left out. `Memory`: an allocation was refused.
+/// The row of a mark, which is an object and the places of its sort keys: a place that lies past
+/// the end counts as missing, and so do those that lack; those that are too many are left out.
+/// `Memory`: an allocation was refused.
 pub fn mark_row(
     alloc: Global,
     prims: &[Primitive],

@@ -57,7 +57,8 @@ fn printed_line(
     within_reply(alloc, dateline, line, bytes)
 }
 
-/// The reply line of what a page prints, or of the first path at which two answers stand where one is asked.
+/// The reply line of what a page prints, or of the first path at which two answers stand where one
+/// is asked.
 pub(crate) fn result_line(
     alloc: Global,
     dateline: u32,

@@ -71,7 +71,8 @@ pub(crate) fn print_page(
     Ok(Round::Going(Stage::Printing(shape)))
 }
 
-/// The cursor of a page, of the rows that are kept: it marks the last row, and is false where no row follows.
+/// The cursor of a page, of the rows that are kept: it marks the last row, and is false where no
+/// row follows.
 fn page_cursor(alloc: Global, dateline: u32, rows: &[Row], limit: u32) -> Result<Json, Memory>
     ensures { IfOk result (λ json. json_view json ≡ reply.page_cursor dateline (map defined (take limit rows.now)) (nat_lt limit (length rows.now))) }
 {
@@ -96,7 +97,8 @@ fn asked_cursor(alloc: Global, subject: &Subject, window: &Window) -> Result<Opt
     }
 }
 
-/// The reply line of what a page prints, or of the first path at which two answers stand where one is asked.
+/// The reply line of what a page prints, or of the first path at which two answers stand where one
+/// is asked.
 fn page_line(
     alloc: Global,
     subject: &Subject,

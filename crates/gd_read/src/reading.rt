@@ -47,8 +47,9 @@ pub enum Progress {
     Unfinished,
 }
 
-/// A read that goes on in slices, at the dateline at which it began, while others write. Contracts see it as the reading of
-/// the core, by `reading_view`; `IsGoing` says that it owes, over the batches below its dateline, the reply of that reading.
+/// A read that goes on in slices, at the dateline at which it began, while others write. Contracts
+/// see it as the reading of the core, by `reading_view`; `IsGoing` says that it owes, over the
+/// batches below its dateline, the reply of that reading.
 #[derive(Drop)]
 pub struct Reading {
     subject: Subject,
@@ -216,9 +217,10 @@ fn begin_at<L>(
 }
 
 impl Reading {
-    /// The reading of a request over the store as it is now, or for a further page as it was at the dateline of the cursor. Its
-    /// words are looked up here, which is not cut in slices. A cursor that is none, or is ahead, and a query that has no
-    /// meaning at the dateline are refused; `Memory` may come in place of any reading.
+    /// The reading of a request over the store as it is now, or for a further page as it was at the
+    /// dateline of the cursor. Its words are looked up here, which is not cut in slices. A cursor
+    /// that is none, or is ahead, and a query that has no meaning at the dateline are refused;
+    /// `Memory` may come in place of any reading.
     pub fn begin<L>(
         alloc: Global,
         view: &View<'_>,
@@ -290,11 +292,13 @@ impl Reading {
         }
     }
 
-    /// Goes on over a view of the reading's dateline, on the store at which it began or a later one, until the budget of steps
-    /// is reached or the reply line is there: the page at the dateline, or the refusal in its place. `line` is the number of
-    /// the line that the reply tells. It takes at most 1,024 steps more than the budget. The number of what is left
-    /// (`reading_left`) falls by at least the steps that it takes, so finitely many slices end a reading. `Memory`: an allocation
-    /// was refused; after that, and after a reply, nothing more is to be asked.
+    /// Goes on over a view of the reading's dateline, on the store at which it began or a later
+    /// one, until the budget of steps is reached or the reply line is there: the page at the
+    /// dateline, or the refusal in its place. `line` is the number of the line that the reply
+    /// tells. It takes at most 1,024 steps more than the budget. The number of what is left
+    /// (`reading_left`) falls by at least the steps that it takes, so finitely many slices end a
+    /// reading. `Memory`: an allocation was refused; after that, and after a reply, nothing more is
+    /// to be asked.
     pub fn slice<L>(
         &mut self,
         alloc: Global,
@@ -315,7 +319,8 @@ impl Reading {
         ensures still { IfOk result (λ progress. is_unfinished progress ≡ true → IsGoing view.now self.new) }
         ensures reached { IfOk result (λ progress. is_unfinished progress ≡ true → min (steps.old + budget) (2 ^ 64 - 1) ≤ steps.new) }
 
-        // What is left falls by at least the steps of the slice, whatever it comes to; `n` is a number that no id reaches.
+        // What is left falls by at least the steps of the slice, whatever it comes to; `n` is a
+        // number that no id reaches.
         ensures less { (n : ℕ) → IsPastIds n → steps.new + reading_left n view.now self.new ≤ steps.old + reading_left n view.now self.old }
         ensures work { steps.new ≤ steps.old + budget + 1024 }
         ensures later { steps.old ≤ steps.new }

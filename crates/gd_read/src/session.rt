@@ -14,8 +14,8 @@ use gd_mql::request::ReadRequest;
 use gd_store::store::Store;
 use std::alloc::Global;
 
-/// What a session holds of its reading: the reading with which it goes on, if there is one. `reads` is that reading as the
-/// definitions have it.
+/// What a session holds of its reading: the reading with which it goes on, if there is one. `reads`
+/// is that reading as the definitions have it.
 #[derive(Drop)]
 pub struct SessionState {
     reading: Option<Reading>,
@@ -70,9 +70,9 @@ impl SessionState {
         self.reading = None;
     }
 
-    /// The reading of a request that begins over the requests of a store that are shown, or for a further page at the dateline
-    /// of its cursor. Its words are looked up here, which is not cut in slices. A reading is refused as the definitions say;
-    /// `Memory` may come in place of any.
+    /// The reading of a request that begins over the requests of a store that are shown, or for a
+    /// further page at the dateline of its cursor. Its words are looked up here, which is not cut
+    /// in slices. A reading is refused as the definitions say; `Memory` may come in place of any.
     pub fn begin<L>(
         alloc: Global,
         store: &Store,
@@ -96,9 +96,10 @@ impl SessionState {
         }
     }
 
-    /// Goes on with the reading that is held, over a store with the batches below its dateline, until the budget of steps is
-    /// reached or the reply line is there: the page at the dateline of the reading, or the refusal in its place. `line` is the
-    /// number of the line that the reply tells. It takes at most 1,024 steps more than the budget. A reply ends the reading.
+    /// Goes on with the reading that is held, over a store with the batches below its dateline,
+    /// until the budget of steps is reached or the reply line is there: the page at the dateline of
+    /// the reading, or the refusal in its place. `line` is the number of the line that the reply
+    /// tells. It takes at most 1,024 steps more than the budget. A reply ends the reading.
     /// `Memory`: there was none, and that ends it too.
     pub fn slice<L>(
         &mut self,
@@ -118,7 +119,8 @@ impl SessionState {
         ensures still { (shown : ℕ) → HoldsGoing store.now shown self.old → HoldsGoing store.now shown self.new }
         ensures reached { IfOk result (λ progress. is_unfinished progress ≡ true → min (steps.old + budget) (2 ^ 64 - 1) ≤ steps.new) }
 
-        // What is left falls by at least the steps of the slice, whatever it comes to; `n` is a number that no id reaches.
+        // What is left falls by at least the steps of the slice, whatever it comes to; `n` is a
+        // number that no id reaches.
         ensures less { (n : ℕ) → IsPastIds n → steps.new + session_left n store.now self.new ≤ steps.old + session_left n store.now self.old }
         ensures work { steps.new ≤ steps.old + budget + 1024 }
         ensures later { steps.old ≤ steps.new }

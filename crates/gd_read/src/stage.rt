@@ -18,9 +18,10 @@ use gd_store::view::View;
 use gd_window::window::Window;
 use std::alloc::Global;
 
-/// What a reading does, one after the other: the places among which the candidates are are visited, or else candidates are
-/// scanned, and the best rows are kept; where the window is full, it may be asked whether those that are left would change
-/// anything; then the trees of the rows of the page are gathered, or else built by a matcher; then the page is printed.
+/// What a reading does, one after the other: the places among which the candidates are are visited,
+/// or else candidates are scanned, and the best rows are kept; where the window is full, it may be
+/// asked whether those that are left would change anything; then the trees of the rows of the page
+/// are gathered, or else built by a matcher; then the page is printed.
 #[derive(Drop)]
 pub(crate) enum Stage {
     Visiting(Visiting),

@@ -6,7 +6,8 @@ ghost use Rattle.gd_mql.specs.Requests.{cursor_view};
 use gd_frozen::cursor::Cursor;
 use gd_mql::request::{CursorAsk, ReadRequest};
 
-/// What a reading reads: its request, at a dateline, from behind the row of a cursor if there is one.
+/// What a reading reads: its request, at a dateline, from behind the row of a cursor if there is
+/// one.
 #[derive(Drop)]
 pub(crate) struct Subject {
     pub(crate) request: ReadRequest,

@@ -5,7 +5,8 @@ use thiserror::Error;
 /// Why a session begins no reading, or does not go on with one.
 #[derive(Debug, Drop, Error)]
 pub enum SessionFault {
-    /// The reading is refused, or there was no memory for it. The session has entered, and holds no reading.
+    /// The reading is refused, or there was no memory for it. The session has entered, and holds no
+    /// reading.
     #[error(transparent)]
     Read(ReadFault),
     /// The session was not let in. It is as it was, but for the count of its refusals.

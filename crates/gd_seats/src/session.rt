@@ -20,8 +20,8 @@ use gd_shared::{Receipt, Seat};
 use std::alloc::Global;
 use std::marker::Model;
 
-/// What a worker holds of a session: a seat of the published store, and the reading with which the session goes on. Contracts
-/// see both; `reads` is the reading as the definitions have it.
+/// What a worker holds of a session: a seat of the published store, and the reading with which the
+/// session goes on. Contracts see both; `reads` is the reading as the definitions have it.
 #[derive(Drop)]
 pub struct Session {
     seat: Seat,
@@ -186,8 +186,8 @@ impl Session {
         self.state.dateline()
     }
 
-    /// Whether the list of a receipt begins with all that it has seen. If not, it is shorter than that. The receipt is of the
-    /// table of its seat.
+    /// Whether the list of a receipt begins with all that it has seen. If not, it is shorter than
+    /// that. The receipt is of the table of its seat.
     pub fn has_only(&self, receipt: &Receipt) -> bool
         requires table { receipt.now.history ≡ self.now.seat.history }
         ensures { MatchBool result (IsPrefix self.now.seat.entered receipt.now.list × IsPrefix self.now.seat.told receipt.now.list)
@@ -196,7 +196,8 @@ impl Session {
         self.seat.has_only(receipt)
     }
 
-    /// Learns that a list was published: what it enters from now on begins with that. The receipt is of the table of its seat.
+    /// Learns that a list was published: what it enters from now on begins with that. The receipt
+    /// is of the table of its seat.
     pub fn learn(&mut self, receipt: Receipt)
         requires table { receipt.history ≡ self.old.seat.history }
         ensures told { self.new ≡ record self.old { seat = record self.old.seat { told = longer self.old.seat.told receipt.list } } }
@@ -213,8 +214,8 @@ impl Session {
         self.state.end();
     }
 
-    /// Enters the published store and leaves it; the reading that is held stays. `Shut`: the session was not let in, and is as
-    /// it was, but for the count of that.
+    /// Enters the published store and leaves it; the reading that is held stays. `Shut`: the
+    /// session was not let in, and is as it was, but for the count of that.
     pub fn meet(&mut self) -> Result<(), SessionFault>
         ensures meets { MeetsAs self.old self.new result }
         ensures later { IsLater self.old.seat self.new.seat }
@@ -222,10 +223,11 @@ impl Session {
         replace_with(self, (), meet_in)
     }
 
-    /// Begins a read over the published store as it is now, or for a further page as it was at the dateline of the cursor, and
-    /// says at which dateline. Its words are looked up here, which is not cut in slices. `Read`: the session has entered, but
-    /// the reading is refused as the definitions say or there was no memory, and none is held. `Shut`: the session was not
-    /// let in, and is as it was, but for the count of that.
+    /// Begins a read over the published store as it is now, or for a further page as it was at the
+    /// dateline of the cursor, and says at which dateline. Its words are looked up here, which is
+    /// not cut in slices. `Read`: the session has entered, but the reading is refused as the
+    /// definitions say or there was no memory, and none is held. `Shut`: the session was not let
+    /// in, and is as it was, but for the count of that.
     pub fn begin<L>(
         &mut self,
         alloc: Global,
@@ -247,10 +249,12 @@ impl Session {
         answer
     }
 
-    /// Goes on with the reading that is held, until the budget of steps is reached or the reply line is there: the page at the
-    /// dateline of the reading, whatever was written since, or the refusal in its place. `line` is the number of the line that
-    /// the reply tells. It takes at most 1,024 steps more than the budget. A reply ends the reading. `Read`: there was no
-    /// memory, and that ends it too. `Shut`: the session was not let in, and is as it was, but for the count of that.
+    /// Goes on with the reading that is held, until the budget of steps is reached or the reply
+    /// line is there: the page at the dateline of the reading, whatever was written since, or the
+    /// refusal in its place. `line` is the number of the line that the reply tells. It takes at
+    /// most 1,024 steps more than the budget. A reply ends the reading. `Read`: there was no
+    /// memory, and that ends it too. `Shut`: the session was not let in, and is as it was, but for
+    /// the count of that.
     pub fn slice<L>(
         &mut self,
         alloc: Global,
@@ -264,7 +268,8 @@ impl Session {
         ensures slices { SlicesAs self.old self.new line result }
         ensures reached { IfOk result (λ progress. is_unfinished progress ≡ true → min (steps.old + budget) (2 ^ 64 - 1) ≤ steps.new) }
 
-        // What is left falls by at least the steps of the slice, whatever it comes to; `n` is a number that no id reaches.
+        // What is left falls by at least the steps of the slice, whatever it comes to; `n` is a
+        // number that no id reaches.
         ensures less { (n : ℕ) → IsPastIds n → steps.new + left_of n self.new ≤ steps.old + left_of n self.old }
         ensures work { steps.new ≤ steps.old + budget + 1024 }
         ensures later { IsLater self.old.seat self.new.seat }
