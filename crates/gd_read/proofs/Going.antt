@@ -13,7 +13,7 @@ use Rattle.gd_read.specs.declared.subject.Subject.{Subject}
 use Rattle.gd_read.specs.declared.stage.Stage.{Stage}
 use Rattle.gd_read.specs.declared.stage.Round.{Round}
 use Rattle.gd_read.specs.declared.stage.Round.TheVariants.{Reply, Going}
-use Rattle.gd_read.proofs.Left.{round_less}
+use Rattle.gd_read.proofs.Left.{same_most, round_less}
 
 -- LAW: a fault of a scan, behind which nothing is left
 pub scan_fault : (a d p r s : ℕ) → s + 0 + 64 * 0 ≤ r + 64 * a → s + 0 ≤ r + (64 * a + d + 1 + p)
@@ -76,36 +76,13 @@ goes_over {batches} {s} {line} {left} {next} {w} {before} {middle} {after} {most
 pub goes_with : {batches : List Batch} {s : Subject} {line : ℕ} {left : ℕ → ℕ} {w : Kept} {before after most : ℕ} (st : Stage)
     → StageOwes batches s st w → Rose before after → ((n : ℕ) → IsPastIds n → after + stage_left n batches w st ≤ before + left n) → after ≤ before + most → before ≤ after
     → RoundGoes batches s line left w before after most (Ok (Going st))
-goes_with {batches} {s} {line} {left} {w} {before} {after} {most} st owes rose less work later = record {
-  gives = owes;
-  counted = rose;
-  less = less;
-  covered = λ n high. within (stage_left n batches w st) (before + left n) (less n high);
-  work = work;
-  later = later;
-}
-  where
-    within : (a b : ℕ) → after + a ≤ b → after ≤ b
-    within a b few = omega (arith, few)
+goes_with {batches} {w} st owes rose less work later = round_goes (λ n. stage_left n batches w st) owes rose (λ n. same_most (stage_left n batches w st)) less work later
 
 -- LAW: a round that gives the reply line
 pub goes_line : {batches : List Batch} {s : Subject} {line : ℕ} {left : ℕ → ℕ} {w : Kept} {before after most : ℕ} {bytes : Vec ℕ Global} (next : ℕ → ℕ)
     → bytes.items ≡ line_of batches s line → ((n : ℕ) → IsPastIds n → after + next n ≤ before + left n) → after ≤ before + most → before ≤ after
     → RoundGoes batches s line left w before after most (Ok (Reply bytes))
-goes_line {batches} {s} {line} {left} {w} {before} {after} {most} {bytes} next is less work later = record {
-  gives = is;
-  counted = tt;
-  less = λ n high. all (next n) (before + left n) (less n high);
-  covered = λ n high. within (next n) (before + left n) (less n high);
-  work = work;
-  later = later;
-}
-  where
-    all : (a b : ℕ) → after + a ≤ b → after + 0 ≤ b
-    all a b few = omega (arith, few)
-
-    within : (a b : ℕ) → after + a ≤ b → after ≤ b
-    within a b few = omega (arith, few)
+goes_line next is less work later = round_goes next is tt (λ n. omega arith) less work later
 
 -- LAW: what a stage comes to, by what it does
 pub stage_goes : {batches : List Batch} {s : Subject} {line : ℕ} {v : Kept} {before after most : ℕ} {result : Result Round Memory} (w : Kept) (one other : Stage) (few : ℕ)
