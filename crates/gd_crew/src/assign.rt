@@ -1,5 +1,5 @@
 //! The workers of a round, with the seats and the jobs of its sessions.
-ghost use Rattle.std.specs.Prelude.{◌≡◌, ◌≤◌, ◌<◌, ◌+◌, length, vec_capacity, IfOk, MatchResult};
+ghost use Rattle.std.specs.Prelude.{◌≡◌, ◌≤◌, ◌<◌, ◌+◌, length, vec_capacity, IfOk, OnOk, OnErr, MatchResult};
 ghost use Rattle.std.specs.List.{All};
 ghost use Rattle.gd_crew.specs.Jobs.{AreNumbered};
 ghost use Rattle.gd_crew.specs.Ready.{IsIdle, IsReady, IsManned, MayHire, lent};
@@ -90,7 +90,9 @@ fn seat_among<'a>(
     requires numbered { AreNumbered works.now }
     requires idle { All (IsIdle shown.history) seats.old.items }
     requires room { length seats.old.items ≤ vec_capacity seats.old }
+    requires some { 0 < length seats.old.items }
     requires ready { All (IsReady shown.history works.now) seated.old.items }
+    ensures fewer { OnOk result (length seats.new.items + 1 ≡ length seats.old.items) }
     ensures idle { All (IsIdle shown.history) seats.new.items }
     ensures ready { All (IsReady shown.history works.now) seated.new.items }
     ensures count { length seats.new.items + length seated.new.items ≡ length seats.old.items + length seated.old.items }
@@ -118,7 +120,9 @@ fn seat<'a>(
     requires numbered { AreNumbered works.now }
     requires idle { All (IsIdle shown.history) seats.old.items }
     requires room { length seats.old.items ≤ vec_capacity seats.old }
+    requires some { 0 < length seats.old.items }
     requires manned { All (IsManned shown.history works.now) hired.old.items }
+    ensures fewer { OnOk result (length seats.new.items + 1 ≡ length seats.old.items) }
     ensures idle { All (IsIdle shown.history) seats.new.items }
     ensures manned { All (IsManned shown.history works.now) hired.new.items }
     ensures count { length seats.new.items + lent hired.new.items ≡ length seats.old.items + lent hired.old.items }
@@ -129,7 +133,18 @@ fn seat<'a>(
     seat_among(alloc, &mut worker.seated, sid, shown, works, seats)
 }
 
-/// Lends seats to these sessions, in their order.
+/// Whether there is a seat for each session. `Memory`: there are fewer seats than sessions.
+fn seats_for(sessions: &[u32], seats: &[Session]) -> Result<(), Memory>
+    ensures enough { OnOk result (length sessions.now ≤ length seats.now) }
+    ensures fewer { OnErr result (length seats.now < length sessions.now) }
+{
+    if seats.len() < sessions.len() {
+        return Err(Memory);
+    }
+    Ok(())
+}
+
+/// Lends seats to these sessions, in their order. `Memory`: an allocation was refused.
 fn seat_all<'a, D: Disk, C: Clock>(
     alloc: Global,
     workers: u32,
@@ -145,6 +160,7 @@ fn seat_all<'a, D: Disk, C: Clock>(
     requires numbered { AreNumbered works.now }
     requires idle { All (IsIdle side.now.table) seats.old.items }
     requires room { length seats.old.items + lent hired.old.items ≤ vec_capacity seats.old }
+    requires enough { length sessions.now ≤ length seats.old.items }
     requires manned { All (IsManned side.now.table works.now) hired.old.items }
     ensures idle { All (IsIdle side.now.table) seats.new.items }
     ensures manned { All (IsManned side.now.table works.now) hired.new.items }
@@ -181,6 +197,7 @@ pub fn assign<'a, D: Disk, C: Clock>(
     ensures capacity { vec_capacity seats.new ≡ vec_capacity seats.old }
 {
     let sessions = sessions_of(alloc, works)?;
+    seats_for(sessions.as_slice(), seats.as_slice())?;
     let mut hired = Vec::new(alloc);
     match seat_all(
         alloc,

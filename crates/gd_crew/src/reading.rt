@@ -8,9 +8,9 @@ use gd_base::memory::Memory;
 use gd_base::steps::Steps;
 use gd_mql::request::ReadRequest;
 use gd_outside::gate::Gate;
+use gd_read::reading::Progress;
 use gd_seats::fault::SessionFault;
 use gd_seats::session::Session;
-use gd_read::reading::Progress;
 use std::alloc::Global;
 
 /// What a turn at a read line comes to.

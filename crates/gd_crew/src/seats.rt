@@ -24,8 +24,7 @@ pub(crate) fn take_back(mut session: Session, seats: &mut Vec<Session>)
     seats.push_reserved(session);
 }
 
-/// Lends a seat to a session, which learns of all that is shown and has its jobs. `Memory`: an allocation was refused, or no
-/// seat is left.
+/// Lends a seat to a session, which learns of all that is shown and has its jobs. `Memory`: an allocation was refused.
 pub(crate) fn lend<'a>(
     alloc: Global,
     sid: u32,
@@ -36,6 +35,7 @@ pub(crate) fn lend<'a>(
     requires numbered { AreNumbered works.now }
     requires idle { All (IsIdle shown.history) seats.old.items }
     requires room { length seats.old.items ≤ vec_capacity seats.old }
+    requires some { 0 < length seats.old.items }
     ensures idle { All (IsIdle shown.history) seats.new.items }
     ensures ready { IfOk result (λ seated. IsReady shown.history works.now seated) }
     ensures count { MatchResult result (λ _. length seats.new.items + 1 ≡ length seats.old.items) (λ _. length seats.new.items ≡ length seats.old.items) }
@@ -43,7 +43,7 @@ pub(crate) fn lend<'a>(
 {
     let jobs = jobs_of(alloc, works, sid)?;
     let Some(mut session) = seats.pop() else {
-        return Err(Memory);
+        unreachable!();
     };
     session.learn(shown);
     match Seated::new(alloc, sid, session, jobs) {
