@@ -1,8 +1,10 @@
 //! The lock of writes.
 ghost use Rattle.std.specs.Prelude.{◌≡◌, ◌≤◌, ◌<◌, ◌^◌, ℕ, Bool, true, false, Some, IfOk, IfSome, OnOk, OnErr, is_some};
 ghost use Rattle.gd_runs.specs.Side.{IsLeft};
+ghost use Rattle.gd_core_laws.specs.Bounds.{kept_of};
 ghost use Rattle.gd_core_laws.specs.Lock.{HasOutcome};
 ghost use Rattle.gd_mql.specs.Requests.{write_view};
+ghost use Rattle.gd_writer.specs.Outcomes.{is_stored};
 ghost use Rattle.gd_crew.specs.Round.{begun, BeginsRound, IsLocked, IsOfRound, IsToldLocked};
 
 use gd_base::memory::Memory;
@@ -96,12 +98,14 @@ impl<L: Round, D: Disk, C: Clock> Held<L, D, C> {
 
     /// A receipt of all that is shown, for a line that is stored and shown.
     fn receipt(&self, line: u64) -> Option<Receipt>
+        ensures stored { is_some result ≡ is_stored (kept_of self.now.outcomes line) }
         ensures told { IfSome result (λ receipt. IsToldLocked D.content D.moment D.images D.images_since D.faults C.may L.named receipt) }
     {
         self.side.receipt(line)
     }
 
-    /// Writes a line of the round where it is the next one of its session and nothing is kept of it, and gives its receipt.
+    /// Writes a line of the round where it is the next one of its session and nothing is kept of it, and gives a receipt
+    /// where the line is stored and shown.
     fn write<R: Wait>(
         &mut self,
         rt: &R,
@@ -113,6 +117,7 @@ impl<L: Round, D: Disk, C: Clock> Held<L, D, C> {
         requires of_round { IsOfRound (begun L.named) line before (write_view request.now) bytes }
         requires bytes { bytes ≤ 262_144 }
         requires line { line < 2 ^ 63 }
+        ensures stored { IfOk result (λ found. is_some found ≡ is_stored (kept_of self.new.outcomes line)) }
         ensures told { IfOk result (λ found. IfSome found (λ receipt. IsToldLocked D.content D.moment D.images D.images_since D.faults C.may L.named receipt)) }
     {
         if !self.is_next(line, before) {
