@@ -34,7 +34,7 @@ Some words run through all of them.
 - A **member** is a name with a value in a JSON object; a **clause** is an object of members that a query asks of something; the **root** is the clause outside.
 - Texts are lists of bytes throughout.
 
-What the clauses name of a source (`left`, `faults`), a sink (`held`, `sent`, `faults`), a shelf (`content`, `images`, `faults`, `is_out`) and a clock (`may`) is what these objects tell of themselves; the traits say it, in `gd_outside/src` and `gd_disk/src`. `x.now`, and `x.old` with `x.new`, is what a contract sees of an object of the code.
+What the clauses name of a source (`left`, `given`, `faults`), a sink (`held`, `sent`, `faults`), a shelf (`content`, `images`, `faults`, `is_out`) and a clock (`may`) is what these objects tell of themselves; the traits say it, in `gd_outside/src` and `gd_disk/src`. `x.now`, and `x.old` with `x.new`, is what a contract sees of an object of the code.
 
 A name in `code` is that of the definition. Behind a type stand the cases or the parts that it has.
 """

@@ -3,6 +3,7 @@ use Rattle.std.proofs.Common.{◌≡◌, ℕ, ◌+◌, List, [], ◌∷◌, ◌+
 use Rattle.std.specs.Prelude.{if◌then◌else◌}
 use Rattle.std.specs.Io.KnownBytes.{prepend_known, Keeps, Consumes, IsAtEnd}
 use Rattle.std.proofs.KnownBytes.{Consumes-nil, Consumes-trans, Consumes-kept}
+use Rattle.gd_base.specs.Counts.{RoseBy}
 use Rattle.gd_runs.specs.Explained.{pieces, without_return}
 use Rattle.gd_runs.proofs.Rounds.{one_piece, last_piece}
 use Rattle.gd_input.specs.declared.line.RoundLine.{RoundLine}
@@ -70,6 +71,10 @@ pub stopped : (start now : Option (List ℕ)) (m n : ℕ) (line : RoundLine) →
 stopped None now m n line r = tt
 stopped (Some xs) None m n line r = r.consumed
 stopped (Some xs) (Some ys) m n line r = record { bytes = r.piece; plain = r.plain; parts = r.consumed }
+
+-- taking the held bytes changes no count
+pub chunk_counted : (old new : Held) (line : RoundLine) (piece : Piece) (given : ℕ) → TakesChunk old new line piece → (before : ℕ) → RoseBy before given (old.consumed + length old.bytes) → RoseBy before given (new.consumed + length new.bytes)
+chunk_counted old new line piece given chunk before rose = omega (arith, chunk.counted, rose)
 
 -- ---- a line that a newline ended
 

@@ -1,11 +1,12 @@
 -- What was taken of an input, and the rounds that lie wholly in it.
 use Rattle.std.specs.Prelude.{ℕ, ◌+◌, ◌≤◌, List, [], ◌∷◌, ◌++◌, length, ◌==◌, if◌then◌else◌, Option}
 use Rattle.std.specs.Io.KnownBytes.{Consumes}
+use Rattle.gd_base.specs.Counts.{RoseBy}
 use Rattle.gd_runs.specs.Explained.Lines.{without_return, max_round}
 
--- at least so many bytes were taken off the front of what was left, where that is known
-abbrev pub TakesAtLeast : ℕ → (old new : Option (List ℕ)) → Type 0
-TakesAtLeast n old new = (bytes : List ℕ) × Consumes old new bytes × (n ≤ length bytes)
+-- at least so many bytes were taken: off the front of what was left, where that is known, and by the count of the bytes that were given
+abbrev pub TakesAtLeast : ℕ → (old new : Option (List ℕ)) → (given_old given_new : ℕ) → Type 0
+TakesAtLeast n old new given_old given_new = ((bytes : List ℕ) × Consumes old new bytes × (n ≤ length bytes)) × RoseBy given_old given_new n
 
 -- the lines that newlines end in bytes, behind a piece that has begun
 abbrev pub ended_lines : List ℕ → List ℕ → List (List ℕ)

@@ -28,7 +28,7 @@ fn newline_in(bytes: &[u8]) -> Option<usize>
 }
 
 impl Reader {
-    ghost use Rattle.gd_input.specs.Held.{IsBounded};
+    ghost use Rattle.gd_input.specs.Held.{IsBounded, CountsOn};
     ghost use Rattle.gd_input.specs.Pieces.{Known, Advances, TakesChunk, TakesPiece, StopsInLine};
 
     /// Adds the held bytes to a line that has begun, up to a newline, which is then dropped.
@@ -71,6 +71,7 @@ impl Reader {
         ensures forward { IfOk result (λ piece. piece.by_newline ≡ true → self.old.consumed < self.new.consumed) }
         ensures at_end { IfOk result (λ piece. piece.by_newline ≡ false
             → (self.new.bytes ≡ []) × IsAtEnd (S.left source.new)) }
+        ensures counted { CountsOn self.old (S.given source.old) self.new (S.given source.new) }
         ensures stopped { OnErr result (Known (prepend_known self.old.bytes (S.left source.old))
             (prepend_known self.new.bytes (S.left source.new)) StopsInLine) }
         ensures none { (result ≡ Err InputFault.Failed) ⊎ (result ≡ Err InputFault.TooMuch) → self.new.bytes ≡ [] }

@@ -38,7 +38,7 @@ impl Model for Reader {
 }
 
 impl Reader {
-    ghost use Rattle.gd_input.specs.Held.{IsBounded};
+    ghost use Rattle.gd_input.specs.Held.{IsBounded, CountsOn};
 
     /// A reader that has read nothing yet.
     pub fn new(alloc: Global) -> Reader
@@ -83,6 +83,7 @@ impl Reader {
     pub fn fill<S: Source>(&mut self, source: &mut S) -> Result<bool, InputFault>
         ensures kept { Keeps (prepend_known self.old.bytes (S.left source.old)) (prepend_known self.new.bytes (S.left source.new)) }
         ensures same { self.new.consumed ≡ self.old.consumed }
+        ensures counted { CountsOn self.old (S.given source.old) self.new (S.given source.new) }
         ensures some { IfOk result (λ some. some ≡ true → self.new.bytes ≢ []) }
         ensures at_end { IfOk result (λ some. some ≡ false → (self.new.bytes ≡ []) × IsAtEnd (S.left source.new)) }
         ensures none { OnErr result (self.new.bytes ≡ []) }

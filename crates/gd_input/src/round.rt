@@ -22,7 +22,7 @@ pub struct Round {
 }
 
 impl Reader {
-    ghost use Rattle.gd_input.specs.Held.{IsBounded};
+    ghost use Rattle.gd_input.specs.Held.{IsBounded, CountsOn};
     ghost use Rattle.gd_input.specs.Pieces.{Known, Advances};
     ghost use Rattle.gd_input.specs.Rounds.{TakesRound, StopsInRound};
 
@@ -49,6 +49,8 @@ impl Reader {
         ensures since { (first : Option (List ℕ)) (before : ℕ)
             → Advances first (prepend_known self.old.bytes (S.left source.old)) before self.old.consumed
             → Advances first (prepend_known self.new.bytes (S.left source.new)) before self.new.consumed }
+        // What was taken is counted by the source.
+        ensures counted { CountsOn self.old (S.given source.old) self.new (S.given source.new) }
         ensures bounded { IsBounded self.new }
 
         // Where the source failed or had too much, all that was taken is used up, and no further

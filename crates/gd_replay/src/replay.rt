@@ -71,7 +71,7 @@ fn replay_lines<R: Wait, D: Disk, S: Source, K: Sink, C: Clock>(
         ⊥ }
     ensures at_end { OnOk result.0 (IsAtEnd (S.left source.new)) }
     ensures caused { EndsBy result.0 (Rose (S.faults source.old) (S.faults source.new)) (Rose (K.faults sink.old) (K.faults sink.new))
-        (Rose (D.faults running.side.log.disk) (D.faults result.1)) (TakesAtLeast (2 ^ 40) (S.left source.old) (S.left source.new)) }
+        (Rose (D.faults running.side.log.disk) (D.faults result.1)) (TakesAtLeast (2 ^ 40) (S.left source.old) (S.left source.new) (S.given source.old) (S.given source.new)) }
     ensures kept { Tells (D.content running.side.log.disk) → KeepsAs result.0 (HasBatches (D.content result.1) (D.images result.1) (batches running.side.history)) (λ _. ⊥) }
     ensures disk { D.faults running.side.log.disk ≤ D.faults result.1 }
     ensures later { K.faults sink.old ≤ K.faults sink.new }
@@ -140,7 +140,7 @@ pub fn replay<R: Wait, D: Disk, S: Source, K: Sink, C: Clock>(
 
     // Each stop has its cause.
     ensures caused { EndsBy result.0 (Rose (S.faults source.old) (S.faults source.new)) (Rose (K.faults sink.old) (K.faults sink.new))
-        (Rose (D.faults disk) (D.faults result.1)) (TakesAtLeast (2 ^ 40) (S.left source.old) (S.left source.new)) }
+        (Rose (D.faults disk) (D.faults result.1)) (TakesAtLeast (2 ^ 40) (S.left source.old) (S.left source.new) (S.given source.old) (S.given source.new)) }
     ensures disk { D.faults disk ≤ D.faults result.1 }
 
     // Of a file that is told is kept what it stood for, with further batches behind it; where the store was not opened, a read

@@ -35,6 +35,8 @@ impl Giving {
 impl Source for Giving {
     ghost left = { λ _. None };
 
+    ghost given = { λ s. s.source.given };
+
     ghost faults = { λ s. s.source.faults };
 
     fn read(&mut self, buf: &mut [u8]) -> Result<usize, Failed> {

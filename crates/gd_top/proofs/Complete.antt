@@ -10,10 +10,10 @@ use Rattle.gd_top.specs.Held.{MayMean, MayMeanAt, DoesMean, IsSoundAt, told_at}
 use Rattle.gd_top.specs.Ends.{Causes}
 
 -- the input is not too long
-within : (left now : Option (List ℕ)) → TakesAtLeast (2 ^ 40) left now → IsSomeAnd left (λ input. length input < 2 ^ 40) → ⊥
-within None now takes short = absurd short
-within (Some input) None (bytes, taken, many) short = absurd taken
-within (Some input) (Some rest) (bytes, taken, many) short = omega (arith, ap length taken, length-append bytes rest, many, short)
+within : (left now : Option (List ℕ)) (given_old given_new : ℕ) → TakesAtLeast (2 ^ 40) left now given_old given_new → IsSomeAnd left (λ input. length input < 2 ^ 40) → ⊥
+within None now given_old given_new takes short = absurd short
+within (Some input) None given_old given_new ((bytes, taken, many), rose) short = absurd taken
+within (Some input) (Some rest) given_old given_new ((bytes, taken, many), rose) short = omega (arith, ap length taken, length-append bytes rest, many, short)
 
 -- a file that stands for batches means nothing else
 differs : (told : Option (List ℕ)) (m : Meaning) → ((gs : List (List Batch)) → m ≡ groups gs → ⊥) → MayMean told m → IsSomeAnd told (λ file. (bs : List Batch) × StandsFor file bs) → ⊥
@@ -30,15 +30,15 @@ no_store gs e = cc
 no_damage : (offset : ℕ) (gs : List (List Batch)) → damaged offset ≡ groups gs → ⊥
 no_damage offset gs e = cc
 
-pub complete : (s : Status) (read sink disk : Type 0) (left now : Option (List ℕ)) (content : List ℕ → Option (List ℕ)) (path : Option (List ℕ)) → s ≢ status.Usage
-    → Causes s read sink disk (TakesAtLeast (2 ^ 40) left now) (MayMeanAt content path) (DoesMean (told_at content path)) → ¬ read → ¬ sink → ¬ disk → IsSoundAt content path
+pub complete : (s : Status) (read sink disk : Type 0) (left now : Option (List ℕ)) (given_old given_new : ℕ) (content : List ℕ → Option (List ℕ)) (path : Option (List ℕ)) → s ≢ status.Usage
+    → Causes s read sink disk (TakesAtLeast (2 ^ 40) left now given_old given_new) (MayMeanAt content path) (DoesMean (told_at content path)) → ¬ read → ¬ sink → ¬ disk → IsSoundAt content path
     → IsSomeAnd left (λ input. length input < 2 ^ 40) → (s ≡ status.Done) ⊎ (s ≡ status.Memory)
-complete status.Done read sink disk left now content path used c no_read no_sink no_disk sound short = inl refl
-complete status.Usage read sink disk left now content path used c no_read no_sink no_disk sound short = absurd (used refl)
-complete status.ReadFault read sink disk left now content path used c no_read no_sink no_disk sound short = absurd (no_read (c.read_fault refl))
-complete status.SinkFault read sink disk left now content path used c no_read no_sink no_disk sound short = absurd (no_sink (c.sink_fault refl))
-complete status.DiskFault read sink disk left now content path used c no_read no_sink no_disk sound short = absurd (no_disk (c.disk_fault refl))
-complete status.NotStore read sink disk left now content path used c no_read no_sink no_disk sound short = absurd (sound_at content path not_store no_store (c.not_store_told refl) sound)
-complete (status.Damaged offset) read sink disk left now content path used c no_read no_sink no_disk sound short = absurd (sound_at content path (damaged offset) (no_damage offset) (c.damaged_told offset refl) sound)
-complete status.Memory read sink disk left now content path used c no_read no_sink no_disk sound short = inr refl
-complete status.TooMuch read sink disk left now content path used c no_read no_sink no_disk sound short = absurd (within left now (c.too_much refl) short)
+complete status.Done read sink disk left now given_old given_new content path used c no_read no_sink no_disk sound short = inl refl
+complete status.Usage read sink disk left now given_old given_new content path used c no_read no_sink no_disk sound short = absurd (used refl)
+complete status.ReadFault read sink disk left now given_old given_new content path used c no_read no_sink no_disk sound short = absurd (no_read (c.read_fault refl))
+complete status.SinkFault read sink disk left now given_old given_new content path used c no_read no_sink no_disk sound short = absurd (no_sink (c.sink_fault refl))
+complete status.DiskFault read sink disk left now given_old given_new content path used c no_read no_sink no_disk sound short = absurd (no_disk (c.disk_fault refl))
+complete status.NotStore read sink disk left now given_old given_new content path used c no_read no_sink no_disk sound short = absurd (sound_at content path not_store no_store (c.not_store_told refl) sound)
+complete (status.Damaged offset) read sink disk left now given_old given_new content path used c no_read no_sink no_disk sound short = absurd (sound_at content path (damaged offset) (no_damage offset) (c.damaged_told offset refl) sound)
+complete status.Memory read sink disk left now given_old given_new content path used c no_read no_sink no_disk sound short = inr refl
+complete status.TooMuch read sink disk left now given_old given_new content path used c no_read no_sink no_disk sound short = absurd (within left now given_old given_new (c.too_much refl) short)

@@ -56,7 +56,7 @@ fn run_over<
     ensures causes { Causes result.0 (Rose (S.faults source.old) (S.faults source.new))
         (Rose (K.faults sink.old) (K.faults sink.new))
         (Rose (D.faults disk) (D.faults result.1))
-        (TakesAtLeast (2 ^ 40) (S.left source.old) (S.left source.new))
+        (TakesAtLeast (2 ^ 40) (S.left source.old) (S.left source.new) (S.given source.old) (S.given source.new))
         (MayMean (D.content disk)) (DoesMean (D.content disk)) }
     ensures used { result.0 ≢ Status.Usage }
     ensures kept { Keeps (D.content disk) (D.content result.1)
@@ -105,7 +105,7 @@ fn run_in_file<
     ensures causes { Causes result (Rose (S.faults source.old) (S.faults source.new))
         (Rose (K.faults sink.old) (K.faults sink.new))
         (Rose (F.faults shelf.old) (F.faults shelf.new))
-        (TakesAtLeast (2 ^ 40) (S.left source.old) (S.left source.new))
+        (TakesAtLeast (2 ^ 40) (S.left source.old) (S.left source.new) (S.given source.old) (S.given source.new))
         (MayMean (F.content shelf.old path.now)) (DoesMean (F.content shelf.old path.now)) }
     ensures used { result ≢ Status.Usage }
     ensures kept { Keeps (F.content shelf.old path.now) (F.content shelf.new path.now)
@@ -144,7 +144,7 @@ fn run_in_memory<R: Threads + Wait + Sync, S: Source, K: Sink, C: Clock + Send +
     ensures rounds_sent { verb_in command.now ≡ serves → SendsRounds result K.sent sink.old sink.new }
     ensures causes { Causes result (Rose (S.faults source.old) (S.faults source.new))
         (Rose (K.faults sink.old) (K.faults sink.new)) ⊥
-        (TakesAtLeast (2 ^ 40) (S.left source.old) (S.left source.new)) (λ _. ⊥) (λ _. ⊥) }
+        (TakesAtLeast (2 ^ 40) (S.left source.old) (S.left source.new) (S.given source.old) (S.given source.new)) (λ _. ⊥) (λ _. ⊥) }
     ensures used { result ≢ Status.Usage }
 {
     match SteadyDisk::new(alloc) {
@@ -186,7 +186,7 @@ pub fn run<R: Threads + Wait + Sync, S: Source, K: Sink, F: Shelf, C: Clock + Se
     ensures causes { Causes result (Rose (S.faults source.old) (S.faults source.new))
         (Rose (K.faults sink.old) (K.faults sink.new))
         (Rose (F.faults shelf.old) (F.faults shelf.new))
-        (TakesAtLeast (2 ^ 40) (S.left source.old) (S.left source.new))
+        (TakesAtLeast (2 ^ 40) (S.left source.old) (S.left source.new) (S.given source.old) (S.given source.new))
         (MayMeanAt (F.content shelf.old) (file_of command.now))
         (DoesMean (told_at (F.content shelf.old) (file_of command.now))) }
     ensures used { result ≢ Status.Usage }

@@ -100,7 +100,7 @@ pub fn graphd<
     ensures read_fault { result ≡ Status.ReadFault → Rose (S.faults source.old) (S.faults source.new) }
     ensures sink_fault { result ≡ Status.SinkFault → Rose (K.faults sink.old) (K.faults sink.new) }
     ensures disk_fault { result ≡ Status.DiskFault → Rose (F.faults shelf.old) (F.faults shelf.new) }
-    ensures too_much { result ≡ Status.TooMuch → TakesAtLeast (2 ^ 40) (S.left source.old) (S.left source.new) }
+    ensures too_much { result ≡ Status.TooMuch → TakesAtLeast (2 ^ 40) (S.left source.old) (S.left source.new) (S.given source.old) (S.given source.new) }
 
     // What is said of the file is so, and is said where it is so, but for a failure of the disk or want of memory.
     ensures not_store { result ≡ Status.NotStore → MayMeanAt (F.content shelf.old) (path_of words.now) not_store }

@@ -90,7 +90,7 @@ pub fn serve_rounds<
     ensures told { is_some (D.content rounds.new.side.log.disk) ≡ is_some (D.content rounds.old.side.log.disk) }
     ensures read_fault { result ≡ Err Stop.ReadFault → Rose (S.faults source.old) (S.faults source.new) }
     ensures sink_fault { result ≡ Err Stop.SinkFault → Rose (K.faults sink.old) (K.faults sink.new) }
-    ensures too_much { result ≡ Err Stop.TooMuch → TakesAtLeast (2 ^ 40) (S.left source.old) (S.left source.new) }
+    ensures too_much { result ≡ Err Stop.TooMuch → TakesAtLeast (2 ^ 40) (S.left source.old) (S.left source.new) (S.given source.old) (S.given source.new) }
     ensures disk_later { D.faults rounds.old.side.log.disk ≤ D.faults rounds.new.side.log.disk }
 {
     let mut reader = Reader::new(alloc);

@@ -49,7 +49,7 @@ fn serve_all<
     ensures rounds_sent { SendsRounds result K.sent sink.old sink.new }
     ensures causes { Causes result (Rose (S.faults source.old) (S.faults source.new))
         (Rose (K.faults sink.old) (K.faults sink.new)) ⊥
-        (TakesAtLeast (2 ^ 40) (S.left source.old) (S.left source.new)) (λ _. ⊥) (λ _. ⊥) }
+        (TakesAtLeast (2 ^ 40) (S.left source.old) (S.left source.new) (S.given source.old) (S.given source.new)) (λ _. ⊥) (λ _. ⊥) }
     ensures used { result ≢ Status.Usage }
     ensures loaded { rounds.new.side.history.loaded ≡ rounds.old.side.history.loaded }
     ensures told { is_some (D.content rounds.new.side.log.disk) ≡ is_some (D.content rounds.old.side.log.disk) }
@@ -89,7 +89,7 @@ pub(crate) fn serve_over<
     ensures rounds_sent { SendsRounds result.0 K.sent sink.old sink.new }
     ensures causes { Causes result.0 (Rose (S.faults source.old) (S.faults source.new))
         (Rose (K.faults sink.old) (K.faults sink.new)) (Rose (D.faults disk) (D.faults result.1))
-        (TakesAtLeast (2 ^ 40) (S.left source.old) (S.left source.new)) (MayMean (D.content disk)) (DoesMean (D.content disk)) }
+        (TakesAtLeast (2 ^ 40) (S.left source.old) (S.left source.new) (S.given source.old) (S.given source.new)) (MayMean (D.content disk)) (DoesMean (D.content disk)) }
     ensures used { result.0 ≢ Status.Usage }
     ensures kept { Keeps (D.content disk) (D.content result.1) (D.images disk) (D.images result.1) }
 {

@@ -1,6 +1,6 @@
 use Rattle.std.proofs.Common.{◌^◌, Err, ap, arith}
 use Rattle.std.specs.Io.KnownBytes.{prepend_known}
-use Rattle.gd_input.proofs.Taken.{taken_known}
+use Rattle.gd_input.proofs.Taken.{taken_known, none_taken}
 use Rattle.gd_runs.specs.Legal.{batches}
 use Rattle.gd_sessions.specs.Running.{core_state}
 use Rattle.gd_replay.specs.Stops.{Leaves}
@@ -18,6 +18,7 @@ loop-piece-init g c =
     record {
       upto = λ tells members. begun_upto members (g.C.Clock.may c.args.running.side.clock) c.args.running.side.history.loaded (g.K.Sink.held c.args.sink.now) (g.D.Disk.faults c.args.running.side.log.disk) (core_state c.args.running) c.new-reader.result left new c.requires;
       advances = begun_advances c.new-reader.result left new;
+      given = none_taken (g.S.Source.given c.args.source.now) c.new-reader.result new;
       counted = omega arith;
       below = begun_below (core_state c.args.running) c.args.running.side.history.loaded 0 c.requires;
       along = along_same g.D.Disk.content g.D.Disk.faults g.C.Clock.may c.args.running.side;
@@ -48,6 +49,7 @@ loop-piece-preserved g c =
           (λ bytes kept. prints_by members given may inv.along.clock s k bytes mid new before after (core_state c.in-Ok-take_piece.next) c.in-Ok-take_piece.count
           (c.in-Ok-take_piece.ensures.prints (tells_on g.D.Disk.content g.D.Disk.faults g.C.Clock.may c.args.running.side c.loop-piece.current.side inv.along tells) members bytes kept));
       advances = advances_then x y z c.loop-piece.reader.consumed c.read_line.new.self.consumed inv.advances c.read_line.ensures.advances;
+      given = c.read_line.ensures.counted (g.S.Source.given c.args.source.now) inv.given;
       counted = (let forward = c.in-Ok.ensures.forward c.if-by_newline.true in let few = c.in-Ok-take_piece.ensures.few in omega (arith, inv.counted, forward, few));
       below = c.in-Ok-take_piece.ensures.below;
       along = along_then g.D.Disk.content g.D.Disk.faults g.C.Clock.may c.args.running.side c.loop-piece.current.side c.in-Ok-take_piece.next.side inv.along c.in-Ok-take_piece.ensures.along;
@@ -154,4 +156,5 @@ returns-in-Err-clause-caused g c =
     rw c.stopped.ensures.parts
     (input_ends c.in-Err.fault _ _ _ _
     (λ e. rose_since (g.S.Source.faults c.args.source.now) (g.S.Source.faults c.loop-piece.source) (g.S.Source.faults c.read_line.new.source) inv.source_later (c.in-Err.ensures.failed (ap Err e)))
-    (λ e. taken_known x (g.S.Source.left c.read_line.new.source) c.read_line.new.self.bytes c.read_line.new.self.consumed (2 ^ 40) (advances_then x y z c.loop-piece.reader.consumed c.read_line.new.self.consumed inv.advances c.read_line.ensures.advances) (c.in-Err.ensures.too_much (ap Err e))))
+    (λ e. taken_known x (g.S.Source.left c.read_line.new.source) (g.S.Source.given c.args.source.now) (g.S.Source.given c.read_line.new.source) c.read_line.new.self (2 ^ 40) (advances_then x y z c.loop-piece.reader.consumed c.read_line.new.self.consumed inv.advances c.read_line.ensures.advances)
+    (c.read_line.ensures.counted (g.S.Source.given c.args.source.now) inv.given) (c.in-Err.ensures.too_much (ap Err e))))

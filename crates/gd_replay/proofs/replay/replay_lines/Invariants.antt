@@ -1,5 +1,6 @@
-use Rattle.std.proofs.Common.{◌≤◌, ◌+◌, ◌-◌, ◌^◌}
+use Rattle.std.proofs.Common.{◌≤◌, ◌+◌, ◌-◌, ◌^◌, length}
 use Rattle.std.specs.Io.KnownBytes.{prepend_known}
+use Rattle.gd_base.specs.Counts.{RoseBy}
 use Rattle.gd_input.specs.Held.{IsBounded}
 use Rattle.gd_input.specs.Pieces.{Known, Advances}
 use Rattle.gd_replay_laws.specs.Runs.{AreBelow}
@@ -15,6 +16,7 @@ invariant-loop-piece g l = record {
   upto : Tells (g.D.Disk.content l.fn.running.side.log.disk) → (members : MembersOf) → Known (g.S.Source.left l.fn.source) (prepend_known l.reader.bytes (g.S.Source.left l.source))
       (RunUpto members (g.C.Clock.may l.fn.running.side.clock) l.fn.running.side.history.loaded (g.K.Sink.held l.fn.sink) (g.K.Sink.held l.sink) (g.D.Disk.faults l.fn.running.side.log.disk) (g.D.Disk.faults l.current.side.log.disk) l.line (core_state l.current));
   advances : Advances (g.S.Source.left l.fn.source) (prepend_known l.reader.bytes (g.S.Source.left l.source)) 0 l.reader.consumed;
+  given : RoseBy (g.S.Source.given l.fn.source) (g.S.Source.given l.source) (l.reader.consumed + length l.reader.bytes);
   counted : l.line ≤ l.reader.consumed;
   below : AreBelow l.line (core_state l.current);
   along : GoesAlong g.D.Disk.content g.D.Disk.faults g.C.Clock.may l.fn.running.side l.current.side;

@@ -29,7 +29,7 @@ returns-in-Some-clause-causes g c =
     let content = f.content c.args.shelf.now in
     let path : file_of c.args.command.now ≡ Some c.in-Some.path.now = sym c.file.ensures ∙ ap (λ o. option_map (λ t. t.now) o) c.in-Some.is in
     subst (λ (p : Option (List ℕ)). Causes run.result (Rose (g.S.Source.faults source) (g.S.Source.faults run.new.source)) (Rose (g.K.Sink.faults sink) (g.K.Sink.faults run.new.sink)) (Rose (f.faults c.args.shelf.now) (f.faults run.new.shelf))
-    (TakesAtLeast (2 ^ 40) (g.S.Source.left source) (g.S.Source.left run.new.source)) (MayMeanAt content p) (DoesMean (told_at content p))) (sym path) run.ensures.causes
+    (TakesAtLeast (2 ^ 40) (g.S.Source.left source) (g.S.Source.left run.new.source) (g.S.Source.given source) (g.S.Source.given run.new.source)) (MayMeanAt content p) (DoesMean (told_at content p))) (sym path) run.ensures.causes
 
 pub returns-in-None-clause-prints : goal.returns-in-None-clause-prints
 returns-in-None-clause-prints g c =

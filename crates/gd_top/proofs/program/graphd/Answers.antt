@@ -41,7 +41,7 @@ returns-in-Ok-Some-clause-kept g c path is =
 
 pub returns-in-Ok-Some-clause-complete : goal.returns-in-Ok-Some-clause-complete
 returns-in-Ok-Some-clause-complete g c given no_read no_sink no_disk sound short =
-    complete c.run.result _ _ _ (g.S.Source.left c.args.source.now) (g.S.Source.left c.run.new.source) (g.F.Shelf.content c.args.shelf.now) _ c.run.ensures.used c.run.ensures.causes no_read no_sink no_disk (search rules) short
+    complete c.run.result _ _ _ (g.S.Source.left c.args.source.now) (g.S.Source.left c.run.new.source) (g.S.Source.given c.args.source.now) (g.S.Source.given c.run.new.source) (g.F.Shelf.content c.args.shelf.now) _ c.run.ensures.used c.run.ensures.causes no_read no_sink no_disk (search rules) short
 
 pub returns-in-Ok-None-clause-serves : goal.returns-in-Ok-None-clause-serves
 returns-in-Ok-None-clause-serves g c is =

@@ -3,7 +3,7 @@ use Rattle.std.specs.Io.KnownBytes.{prepend_known}
 use Rattle.gd_threads.specs.Served.{state_at}
 use Rattle.gd_outside.proofs.Fronts.{at_err}
 use Rattle.gd_top.proofs.Known.{more_known, done_known, part_known, rounds_stopped, front_known, counted_on, input_too_much, input_failed, sink_stopped, begun}
-use Rattle.gd_input.proofs.Taken.{taken_known}
+use Rattle.gd_input.proofs.Taken.{taken_known, none_taken}
 use Rattle.gd_top.proofs.rounds.serve_rounds.Goals as goal
 
 pub loop-round-init : goal.loop-round-init
@@ -12,6 +12,7 @@ loop-round-init g c =
     record {
       upto = start.upto;
       advances = start.advances;
+      given = none_taken (g.S.Source.given c.args.source.now) c.new-reader.result c.new-reader.ensures;
       counted = start.counted;
       loaded = refl;
       told = refl;
@@ -46,7 +47,8 @@ returns-in_err-round-clause-front g c = at_err c.from_residual.result
 pub returns-in_err-round-clause-too_much : goal.returns-in_err-round-clause-too_much
 returns-in_err-round-clause-too_much g c is =
     let advances = c.read_round.ensures.since (g.S.Source.left c.args.source.now) 0 c.loop-round.invariant.advances in
-    taken_known (g.S.Source.left c.args.source.now) (g.S.Source.left c.read_round.new.source) c.read_round.new.self.bytes c.read_round.new.self.consumed (2 ^ 40) advances
+    taken_known (g.S.Source.left c.args.source.now) (g.S.Source.left c.read_round.new.source) (g.S.Source.given c.args.source.now) (g.S.Source.given c.read_round.new.source) c.read_round.new.self (2 ^ 40) advances
+    (c.read_round.ensures.counted (g.S.Source.given c.args.source.now) c.loop-round.invariant.given)
     (c.in_err-round.ensures.too_much (input_too_much c.from_residual.result c.in_err-round.field-0.0 _ refl is c.from_residual.ensures.1))
 
 pub returns-in_err-answer_round-clause-front : goal.returns-in_err-answer_round-clause-front
@@ -88,6 +90,7 @@ loop-round-preserved g c = record {
       (prepend_known c.loop-round.reader.bytes (g.S.Source.left c.loop-round.source)) (prepend_known c.read_round.new.self.bytes (g.S.Source.left c.read_round.new.source))
       c.in_ok-round.round c.deref.result.now c.deref.ensures.value c.loop-round.invariant.upto c.in_ok-round.ensures.round c.in_ok-answer_round.ensures.all c.if-round.false;
   advances = c.read_round.ensures.since (g.S.Source.left c.args.source.now) 0 c.loop-round.invariant.advances;
+  given = c.read_round.ensures.counted (g.S.Source.given c.args.source.now) c.loop-round.invariant.given;
   counted = counted_on c.loop-round.rounds.lines _ _ c.loop-round.reader.consumed c.read_round.new.self.consumed c.loop-round.invariant.counted (omega (arith, c.deref.ensures.len, c.in_ok-round.ensures.few)) (c.in_ok-round.ensures.forward c.if-round.false) c.in_ok-answer_round.ensures.next;
   loaded = c.answer_round.ensures.loaded ∙ c.loop-round.invariant.loaded;
   told = c.answer_round.ensures.told ∙ c.loop-round.invariant.told;

@@ -1,5 +1,6 @@
-use Rattle.std.proofs.Common.{◌≡◌, ◌⊎◌, true, false, ◌≤◌, ◌+◌, ◌-◌, ◌*◌, ◌^◌}
+use Rattle.std.proofs.Common.{◌≡◌, ◌⊎◌, true, false, ◌≤◌, ◌+◌, ◌-◌, ◌*◌, ◌^◌, length}
 use Rattle.std.specs.Option.{is_some}
+use Rattle.gd_base.specs.Counts.{RoseBy}
 use Rattle.std.specs.Io.KnownBytes.{prepend_known}
 use Rattle.gd_input.specs.Held.{IsBounded}
 use Rattle.gd_input.specs.Pieces.{Known, Advances}
@@ -12,6 +13,7 @@ invariant-loop-round g l = record {
   upto : Known (g.S.Source.left l.fn.source) (prepend_known l.reader.bytes (g.S.Source.left l.source)) (ServedUpto false l.fn.rounds.side.history.loaded (g.C.Clock.may l.fn.rounds.side.clock) (g.K.Sink.held l.fn.sink) (g.K.Sink.held l.sink)
       (g.D.Disk.faults l.fn.rounds.side.log.disk) (g.D.Disk.faults l.rounds.side.log.disk) (state_at l.rounds.side) l.rounds.lines);
   advances : Advances (g.S.Source.left l.fn.source) (prepend_known l.reader.bytes (g.S.Source.left l.source)) 0 l.reader.consumed;
+  given : RoseBy (g.S.Source.given l.fn.source) (g.S.Source.given l.source) (l.reader.consumed + length l.reader.bytes);
   counted : l.rounds.lines ≤ 256 * l.reader.consumed;
   loaded : l.rounds.side.history.loaded ≡ l.fn.rounds.side.history.loaded;
   told : is_some (g.D.Disk.content l.rounds.side.log.disk) ≡ is_some (g.D.Disk.content l.fn.rounds.side.log.disk);

@@ -1,6 +1,6 @@
 use Rattle.std.proofs.Common.{arith}
 use Rattle.std.specs.Io.KnownBytes.{prepend_known}
-use Rattle.gd_input.proofs.Reading.{filled, longer, by_newline, advanced_past, at_end}
+use Rattle.gd_input.proofs.Reading.{chunk_counted, filled, longer, by_newline, advanced_past, at_end}
 use Rattle.gd_input.proofs.reader.Reader.read_line.Goals as goal
 
 pub returns-then-not-branch-clause-line : goal.returns-then-not-branch-clause-line
@@ -43,6 +43,11 @@ loop-line-preserved g c =
     let reading = filled start now (prepend_known held.bytes source) m c.loop-line.self.consumed held.consumed c.loop-line.line c.loop-line.invariant.reading c.fill.ensures.kept c.fill.ensures.same in
     record {
       reading = longer start source held c.take_chunk.new.self m c.loop-line.line c.in_ok-piece.piece reading c.in_ok-piece.ensures.chunk c.if-piece.false;
+      counts = λ before rose. chunk_counted c.fill.new.self c.take_chunk.new.self c.loop-line.line c.in_ok-piece.piece (g.S.Source.given c.fill.new.source) c.in_ok-piece.ensures.chunk before (c.fill.ensures.counted before (c.loop-line.invariant.counts before rose));
       bounded = c.take_chunk.ensures.bounded;
       later = omega (arith, c.loop-line.invariant.later, c.fill.ensures.later);
     }
+
+pub returns-then-piece-clause-counted : goal.returns-then-piece-clause-counted
+returns-then-piece-clause-counted g c before rose =
+    chunk_counted c.fill.new.self c.take_chunk.new.self c.loop-line.line c.in_ok-piece.piece (g.S.Source.given c.fill.new.source) c.in_ok-piece.ensures.chunk before (c.fill.ensures.counted before (c.loop-line.invariant.counts before rose))

@@ -15,6 +15,7 @@ loop-self-init g c =
       short = first_of (search rules, grind (arith, common_steps));
       few = first_of (search rules, grind (arith, common_steps));
       forward = first_of (search rules, grind (arith, common_steps));
+      counts = λ before rose. rose;
       bounded = c.allocator.ensures.bounded;
       later = omega arith;
     }
@@ -70,6 +71,7 @@ loop-self-preserved g c =
       short = one_more_short c.loop-self.lines.items c.in_ok-line.field-0.line _ c.loop-self.invariant.short c.in_ok-line.ensures.short c.in_ok-push.ensures.items;
       few = omega (arith, c.in_ok-push.ensures.len);
       forward = omega (arith, c.in_ok-push.ensures.len, c.loop-self.invariant.forward, c.in_ok-line.ensures.forward c.if-not-by_newline.false);
+      counts = λ before rose. c.read_line.ensures.counted before (c.loop-self.invariant.counts before rose);
       bounded = c.read_line.ensures.bounded;
       later = omega (arith, c.loop-self.invariant.later, c.read_line.ensures.later);
     }

@@ -2,7 +2,7 @@ use Rattle.std.proofs.Common.{◌+◌, ◌-◌, ◌≤◌, vec_len}
 use Rattle.std.specs.Io.KnownBytes.{prepend_known}
 use Rattle.std.specs.List.{All}
 use Rattle.gd_input.specs.Line.{IsShort}
-use Rattle.gd_input.specs.Held.{IsBounded}
+use Rattle.gd_input.specs.Held.{IsBounded, CountsOn}
 use Rattle.gd_input.specs.Pieces.{Known, Advances}
 use Rattle.gd_input.proofs.Gathering.{Gathering}
 use Rattle.gd_input.proofs.reader.Reader.read_round.Given as goal
@@ -14,6 +14,7 @@ invariant-loop-self g l = record {
   short : All IsShort l.lines.items;
   few : vec_len l.lines ≤ 256;
   forward : l.fn.self.consumed + vec_len l.lines ≤ l.self.consumed;
+  counts : CountsOn l.fn.self (g.S.Source.given l.fn.source) l.self (g.S.Source.given l.source);
   bounded : IsBounded l.self;
   later : g.S.Source.faults l.fn.source ≤ g.S.Source.faults l.source;
 }
