@@ -17,7 +17,7 @@ from __future__ import annotations
 import itertools
 import json
 import os
-import re
+import queue
 import subprocess
 import threading
 import time
@@ -39,7 +39,6 @@ ROWS = 1000
 ROWS_UNNAMED = 100
 # No line of a reply has more bytes; so the buffer holds one whole.
 BUFFER = 2 << 20
-NUMBER = re.compile(rb'"line":(\d+)')
 
 # What the errors say, and the codes of BadQuery.
 MEANINGS = {
@@ -383,12 +382,17 @@ class Pipe:
 
 
 class Asked:
-    """Lines that a thread has asked, at most a round of them, and the replies so far."""
+    """Lines that a thread has asked, at most a round of them: the replies, or the status of a program that ended before it had answered.
+
+    `done` is held until one of them is there.
+    """
 
     def __init__(self, lines: List[bytes]) -> None:
         self.lines = lines
-        self.replies: List[Any] = [None] * len(lines)
-        self.missing = len(lines)
+        self.replies: List[bytes] = []
+        self.status: Optional[int] = None
+        self.done = threading.Lock()
+        self.done.acquire()
 
 
 class Store:
@@ -406,12 +410,11 @@ class Store:
         kept = ["--file", os.fspath(path)] if path is not None else []
         self.pipe = Pipe([program or PROGRAM, "serve", *kept, *words])
         self._local, self._sessions = threading.local(), itertools.count()
-        # Under this lock: who waits to be sent, and whether a thread is at the pipe. That thread alone has what is due.
-        self._turn = threading.Condition()
-        self._waiting: List[Asked] = []
-        self._is_led = False
-        self._due: Dict[int, Any] = {}
-        self._sent = 0
+        # One thread alone is at the pipe. No interrupt comes to it, so each reply is given to the one who asked, whoever was interrupted.
+        self._asked: queue.SimpleQueue[Optional[Asked]] = queue.SimpleQueue()
+        self._is_open, self._closing = True, threading.Lock()
+        self._thread = threading.Thread(target=self._answer, daemon=True)
+        self._thread.start()
 
     def read(self, query: Query) -> Any:
         """The answer to a query: an object or None for `{..}`, a list for `[{..}]`, a number where it asks for a count."""
@@ -497,48 +500,55 @@ class Store:
         return [reply for begin in range(0, len(lines), ROUND) for reply in self._round(lines[begin:begin + ROUND])]
 
     def _round(self, lines: List[bytes]) -> List[bytes]:
-        """The replies to at most a round of lines: this thread waits, or goes to the pipe for all who wait."""
+        """The replies to at most a round of lines."""
         asked = Asked(lines)
-        with self._turn:
-            self._waiting.append(asked)
-            self._turn.wait_for(lambda: not asked.missing or not self._is_led)
-            if not asked.missing:
-                return asked.replies
-            self._is_led = True
-        try:
-            while asked.missing:
-                if not self._due:
-                    self._send()
-                self._take()
-        finally:
-            with self._turn:
-                self._is_led = False
-                self._turn.notify_all()
+        with self._closing:
+            if not self._is_open:
+                raise Ended(self.pipe.close())
+            self._asked.put(asked)
+        asked.done.acquire()
+        if asked.status is not None:
+            raise Ended(asked.status)
         return asked.replies
 
-    def _send(self) -> None:
-        """Sends those who wait, as far as a round has room."""
-        with self._turn:
-            chosen, room = [], ROUND
-            while self._waiting and len(self._waiting[0].lines) <= room:
-                chosen.append(self._waiting.pop(0))
-                room -= len(chosen[-1].lines)
-        due = [(asked, place) for asked in chosen for place in range(len(asked.lines))]
-        self._due.update(zip(itertools.count(self._sent), due))
-        self._sent += len(due)
-        self.pipe.send(b"".join(line + b"\n" for asked in chosen for line in asked.lines) + b"\n")
+    def _answer(self) -> None:
+        """What the thread at the pipe does: it sends who waits, as far as a round has room, and gives the replies, until the store is closed."""
+        behind: Optional[Asked] = None
+        while True:
+            first = behind or self._asked.get()
+            if first is None:
+                return
+            chosen, behind, room = [first], None, ROUND - len(first.lines)
+            while not self._asked.empty():
+                following = self._asked.get()
+                if following is None or len(following.lines) > room:
+                    behind = following
+                    if following is None:
+                        self._asked.put(None)
+                    break
+                chosen.append(following)
+                room -= len(following.lines)
+            self._give(chosen)
 
-    def _take(self) -> None:
-        """Takes a reply, and gives it to the one who asked, by the number of its line. What an interrupt cut off has none."""
-        reply = self.pipe.take()
-        number = NUMBER.search(reply)
-        asked, place = self._due.pop(int(number.group(1)), (None, 0)) if number else (None, 0)
-        if asked is not None:
-            asked.replies[place] = reply
-            asked.missing -= 1
+    def _give(self, chosen: List[Asked]) -> None:
+        """Sends a round, and gives each who asked the replies, which come in the order of the lines."""
+        try:
+            replies = self.pipe.ask(b"".join(line + b"\n" for asked in chosen for line in asked.lines) + b"\n", sum(len(asked.lines) for asked in chosen))
+        except Ended as ended:
+            for asked in chosen:
+                asked.status = ended.status
+        for asked in chosen:
+            if asked.status is None:
+                asked.replies, replies = replies[:len(asked.lines)], replies[len(asked.lines):]
+            asked.done.release()
 
     def close(self) -> int:
-        """Ends the program, and gives its exit status, which is 0 where all went well."""
+        """Ends the program once what was asked is answered, and gives its exit status, which is 0 where all went well."""
+        with self._closing:
+            if self._is_open:
+                self._is_open = False
+                self._asked.put(None)
+        self._thread.join()
         return self.pipe.close()
 
     def __enter__(self) -> Store:
