@@ -25,8 +25,8 @@ fn note(sessions: &mut Vec<u32>, sid: u32) -> Result<(), Memory> {
     Ok(())
 }
 
-/// Appends the sessions of the reads from a place on and before a line, and says at which place the first read stands that
-/// is not before that line.
+/// Appends the sessions of the reads from a place on and before a line, and says at which place the
+/// first read stands that is not before that line.
 fn note_reads(
     sessions: &mut Vec<u32>,
     reads: &[ReadLine],
@@ -104,7 +104,8 @@ fn seat_among<'a>(
     Ok(())
 }
 
-/// Lends a seat to a session, with the worker whose number is that of the session modulo the number of workers.
+/// Lends a seat to a session, with the worker whose number is that of the session modulo the number
+/// of workers.
 fn seat<'a>(
     alloc: Global,
     workers: u32,
@@ -174,10 +175,10 @@ fn seat_all<'a, D: Disk, C: Clock>(
     Ok(())
 }
 
-/// Lends a seat to each session that has a line in a round, which learns of all that is shown, with its reads and writes.
-/// Session `s` goes to worker `s` modulo `workers`; one who has no session is left out. A slice of a read
-/// has this budget of steps. `Memory`: an allocation was refused, or there are fewer seats than sessions; the seats are back,
-/// and nobody works.
+/// Lends a seat to each session that has a line in a round, which learns of all that is shown, with
+/// its reads and writes. Session `s` goes to worker `s` modulo `workers`; one who has no session is
+/// left out. A slice of a read has this budget of steps. `Memory`: an allocation was refused, or
+/// there are fewer seats than sessions; the seats are back, and nobody works.
 pub fn assign<'a, D: Disk, C: Clock>(
     alloc: Global,
     workers: u32,

@@ -29,7 +29,8 @@ fn put(worked: &mut Vec<Option<Worked>>, place: usize, kept: Worked)
     worked[place] = Some(kept);
 }
 
-/// Keeps the reply to a read line, if there is one and a place for its line, the first of them for line `first`.
+/// Keeps the reply to a read line, if there is one and a place for its line, the first of them for
+/// line `first`.
 fn keep_reply(read: ReadReply, first: u64, worked: &mut Vec<Option<Worked>>)
     ensures { TakesReplies first (reply_view read ∷ []) worked.old.items worked.new.items }
 {
@@ -54,7 +55,8 @@ fn keep_replies(mut replies: Vec<ReadReply>, first: u64, worked: &mut Vec<Option
     }
 }
 
-/// Takes the seat of a session back. Its replies are kept where the list that it entered begins what is shown.
+/// Takes the seat of a session back. Its replies are kept where the list that it entered begins
+/// what is shown.
 fn dismiss_session(
     one: Seated<'_>,
     shown: &Receipt,
@@ -102,8 +104,8 @@ fn dismiss_sessions(
     }
 }
 
-/// Takes the seats of workers back. Replies are kept, each at the place of its line, where the list that their session
-/// entered begins what is shown.
+/// Takes the seats of workers back. Replies are kept, each at the place of its line, where the list
+/// that their session entered begins what is shown.
 pub(crate) fn dismiss(
     mut workers: Vec<Worker<'_>>,
     shown: &Receipt,
@@ -137,9 +139,9 @@ fn places(alloc: Global, count: usize) -> Vec<Option<Worked>>
     worked
 }
 
-/// Takes the replies of the workers of a round, the first of its lines line `first`, and their seats back. A reply is kept
-/// where the list that its session entered begins what is shown. It stands at the place of its line; where there is no
-/// memory for so many places, none is kept.
+/// Takes the replies of the workers of a round, the first of its lines line `first`, and their
+/// seats back. A reply is kept where the list that its session entered begins what is shown. It
+/// stands at the place of its line; where there is no memory for so many places, none is kept.
 pub fn collect<D: Disk, C: Clock>(
     alloc: Global,
     side: &WriteSide<D, C>,

@@ -16,8 +16,8 @@ pub struct Job<'a> {
     pub work: Work<'a>,
 }
 
-/// The reply line that is kept of a read line, with its snapshot: the number of requests over which it is. None stands for
-/// want of memory, and says nothing of the snapshot.
+/// The reply line that is kept of a read line, with its snapshot: the number of requests over which
+/// it is. None stands for want of memory, and says nothing of the snapshot.
 #[derive(Drop)]
 pub struct ReadReply {
     pub line: u64,

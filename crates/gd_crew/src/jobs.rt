@@ -56,8 +56,8 @@ fn push_read<'a>(
     Ok(())
 }
 
-/// Appends the jobs of a session that are reads, from a place on and before a line, and says at which place the first read
-/// stands that is not before that line.
+/// Appends the jobs of a session that are reads, from a place on and before a line, and says at
+/// which place the first read stands that is not before that line.
 fn push_reads<'a>(
     jobs: &mut Vec<Job<'a>>,
     sid: u32,
@@ -77,8 +77,8 @@ fn push_reads<'a>(
     Ok(reads.len())
 }
 
-/// Appends the job of a write line, if it is of the session, behind those of the reads before it, and says at which place
-/// the first read stands that is not passed yet.
+/// Appends the job of a write line, if it is of the session, behind those of the reads before it,
+/// and says at which place the first read stands that is not passed yet.
 fn push_write<'a>(
     jobs: &mut Vec<Job<'a>>,
     sid: u32,
@@ -98,7 +98,8 @@ fn push_write<'a>(
     Ok(next)
 }
 
-/// The jobs of a session in a round: its reads and writes, in the order of their lines. `Memory`: an allocation was refused.
+/// The jobs of a session in a round: its reads and writes, in the order of their lines. `Memory`:
+/// an allocation was refused.
 pub(crate) fn jobs_of<'a>(alloc: Global, works: &'a Works, sid: u32) -> Result<Vec<Job<'a>>, Memory>
     requires numbered { AreNumbered works.now }
     ensures { IfOk result (λ jobs. AreJobsOf works.now sid (map job_view jobs.items)) }

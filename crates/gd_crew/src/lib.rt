@@ -1,5 +1,5 @@
-//! The crew of a round: workers with the seats and the jobs of its sessions, the lock of writes, the
-//! run, and what is taken of them.
+//! The crew of a round: workers with the seats and the jobs of its sessions, the lock of writes,
+//! the run, and what is taken of them.
 #![tactic(auto)]
 
 pub mod assign;

@@ -82,7 +82,8 @@ fn slice_read<L>(
     }
 }
 
-/// One turn at a read line: it begins where no reading is held, and else goes on with the one that began at a snapshot.
+/// One turn at a read line: it begins where no reading is held, and else goes on with the one that
+/// began at a snapshot.
 pub(crate) fn read_turn<G: Gate, L>(
     session: &mut Session,
     alloc: Global,

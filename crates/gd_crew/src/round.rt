@@ -74,9 +74,10 @@ fn run_named<
     writers.into_side()
 }
 
-/// Runs the workers of a round, each on a thread of its own where one can be made, with the writes of the round behind one
-/// lock, and gives the side back when all of them have ended. `first` is the number of the first of `lines`, which `works`
-/// are. It waits for the workers, which pass the gate and wait for the lock and for readers.
+/// Runs the workers of a round, each on a thread of its own where one can be made, with the writes
+/// of the round behind one lock, and gives the side back when all of them have ended. `first` is
+/// the number of the first of `lines`, which `works` are. It waits for the workers, which pass the
+/// gate and wait for the lock and for readers.
 pub fn run_round<D: Disk + Send, C: Clock + Send, G: Gate, R: Threads + Wait + Sync>(
     rt: &R,
     alloc: Global,

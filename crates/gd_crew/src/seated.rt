@@ -18,8 +18,8 @@ use gd_seats::session::Session;
 use std::alloc::Global;
 use std::sync::Wait;
 
-/// A session with its jobs in a round, the replies that are kept of its read lines, and where it stopped. Contracts see it by
-/// `share_of`.
+/// A session with its jobs in a round, the replies that are kept of its read lines, and where it
+/// stopped. Contracts see it by `share_of`.
 #[derive(Drop)]
 pub struct Seated<'a> {
     pub sid: u32,
@@ -27,15 +27,16 @@ pub struct Seated<'a> {
     pub jobs: Vec<Job<'a>>,
     pub replies: Vec<ReadReply>,
     pub stop: Option<Stop>,
-    // How many jobs are done, the last write line of these, and the snapshot of the reading that the session holds.
+    // How many jobs are done, the last write line of these, and the snapshot of the reading that
+    // the session holds.
     done: usize,
     before: Option<u64>,
     at: Option<u32>,
 }
 
 impl<'a> Seated<'a> {
-    /// A session with its jobs, and with room for a reply of each. Nothing is done yet. `Memory`: there is no such room, and
-    /// the session comes back.
+    /// A session with its jobs, and with room for a reply of each. Nothing is done yet. `Memory`:
+    /// there is no such room, and the session comes back.
     pub fn new(
         alloc: Global,
         sid: u32,
@@ -154,7 +155,8 @@ impl<'a> Seated<'a> {
         }
     }
 
-    /// One slice or one write of the job that is next. False where none is left, or the session has stopped.
+    /// One slice or one write of the job that is next. False where none is left, or the session has
+    /// stopped.
     pub(crate) fn turn<L: Round, D: Disk, C: Clock, G: Gate, R: Wait>(
         &mut self,
         rt: &R,

@@ -24,7 +24,8 @@ pub(crate) fn take_back(mut session: Session, seats: &mut Vec<Session>)
     seats.push_reserved(session);
 }
 
-/// Lends a seat to a session, which learns of all that is shown and has its jobs. `Memory`: an allocation was refused.
+/// Lends a seat to a session, which learns of all that is shown and has its jobs. `Memory`: an
+/// allocation was refused.
 pub(crate) fn lend<'a>(
     alloc: Global,
     sid: u32,

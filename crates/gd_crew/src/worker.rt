@@ -71,8 +71,8 @@ pub struct Worker<'a> {
 }
 
 impl<'a> Worker<'a> {
-    /// Runs the jobs of each session in their order, one slice or one write of each session in turn, until each has run them
-    /// all or has stopped. It waits for the lock of writes.
+    /// Runs the jobs of each session in their order, one slice or one write of each session in
+    /// turn, until each has run them all or has stopped. It waits for the lock of writes.
     pub fn run<L: Round, D: Disk, C: Clock, G: Gate, R: Wait>(
         &mut self,
         rt: &R,

@@ -16,9 +16,10 @@ use gd_writer::side::WriteSide;
 use std::marker::{Brand, Model, PhantomData};
 use std::sync::{Mutex, Wait};
 
-/// What stood when a round began, and its lines: the table of the published copies, the numbers that the clock may give,
-/// whether the disk told its content, its moment, the history, the number shown, the group in doubt and the disk's count.
-/// Whoever runs a round is generic in it, and is called with `Brand`, for which the caller picks what is named.
+/// What stood when a round began, and its lines: the table of the published copies, the numbers
+/// that the clock may give, whether the disk told its content, its moment, the history, the number
+/// shown, the group in doubt and the disk's count. Whoever runs a round is generic in it, and is
+/// called with `Brand`, for which the caller picks what is named.
 pub trait Round {
     ghost use Rattle.gd_crew.specs.Round.{Named};
 
@@ -76,7 +77,8 @@ impl<L: Round, D: Disk, C: Clock> Held<L, D, C> {
         }
     }
 
-    /// Writes a line of the round which is the next one of its session, and of which nothing is kept.
+    /// Writes a line of the round which is the next one of its session, and of which nothing is
+    /// kept.
     fn write_next<R: Wait>(
         &mut self,
         rt: &R,
@@ -104,8 +106,8 @@ impl<L: Round, D: Disk, C: Clock> Held<L, D, C> {
         self.side.receipt(line)
     }
 
-    /// Writes a line of the round where it is the next one of its session and nothing is kept of it, and gives a receipt
-    /// where the line is stored and shown.
+    /// Writes a line of the round where it is the next one of its session and nothing is kept of
+    /// it, and gives a receipt where the line is stored and shown.
     fn write<R: Wait>(
         &mut self,
         rt: &R,
@@ -157,9 +159,10 @@ impl<L: Round, D: Disk, C: Clock> Writers<L, D, C> {
         side
     }
 
-    /// Writes a line of the round, where nothing is kept of it yet, and something of the write line of its session
-    /// directly before it, `before`, if there is one. It gives a receipt where the line is stored and shown. `Memory`:
-    /// there was no room to keep an outcome, and nothing was done. It waits for the lock and for readers.
+    /// Writes a line of the round, where nothing is kept of it yet, and something of the write line
+    /// of its session directly before it, `before`, if there is one. It gives a receipt where the
+    /// line is stored and shown. `Memory`: there was no room to keep an outcome, and nothing was
+    /// done. It waits for the lock and for readers.
     pub fn write<R: Wait>(
         &self,
         rt: &R,

@@ -24,8 +24,8 @@ fn learn_of(session: &mut Session, found: Option<Receipt>)
     }
 }
 
-/// Writes a line of the round, and has the session learn of it where it is stored and shown. `Memory`: there was no room
-/// for its outcome.
+/// Writes a line of the round, and has the session learn of it where it is stored and shown.
+/// `Memory`: there was no room for its outcome.
 pub(crate) fn write_turn<L: Round, D: Disk, C: Clock, R: Wait>(
     session: &mut Session,
     rt: &R,

@@ -1,4 +1,5 @@
-//! The lines of an input, served round by round: workers on threads run the lines of a round, and their caller what is left.
+//! The lines of an input, served round by round: workers on threads run the lines of a round, and
+//! their caller what is left.
 #![tactic(auto)]
 
 pub mod rounds;

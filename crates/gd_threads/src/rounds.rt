@@ -49,12 +49,12 @@ use std::thread::Threads;
 /// The most steps that a slice of a read may take.
 const MOST_STEPS: u64 = 1_000_000;
 
-/// A run that is served round by round, by so many workers: the write side, the seats from which the workers read, the
-/// number of the next line, and how many steps a slice of a read may take. It is ended by `close` alone. Contracts see the
-/// write side and the number.
+/// A run that is served round by round, by so many workers: the write side, the seats from which
+/// the workers read, the number of the next line, and how many steps a slice of a read may take. It
+/// is ended by `close` alone. Contracts see the write side and the number.
 ///
-/// Its type keeps that each entry, and a write in doubt, is of a line before the next one, that nothing is kept of write
-/// lines, and that no seat reads.
+/// Its type keeps that each entry, and a write in doubt, is of a line before the next one, that
+/// nothing is kept of write lines, and that no seat reads.
 pub struct Rounds<D: Disk, C: Clock> {
     side: WriteSide<D, C>,
     seats: Vec<Session>,
@@ -96,10 +96,11 @@ fn idle_sessions(mut seats: Vec<Seat>, mut sessions: Vec<Session>) -> Vec<Sessio
 }
 
 impl<D: Disk, C: Clock> Rounds<D, C> {
-    /// Opens the store that a disk holds, before the first line is served: all is shown. So many workers are to run each
-    /// round, and its reads go on in slices of a budget of steps, or of 1,000,000 where the budget is greater. It waits for
-    /// nobody, since there is no reader yet. An error hands the disk and the clock back; it is one of `open_log`:
-    /// `NotStore`, `Damaged`, `DiskFault`, or `Memory`, also for the seats.
+    /// Opens the store that a disk holds, before the first line is served: all is shown. So many
+    /// workers are to run each round, and its reads go on in slices of a budget of steps, or of
+    /// 1,000,000 where the budget is greater. It waits for nobody, since there is no reader yet. An
+    /// error hands the disk and the clock back; it is one of `open_log`: `NotStore`, `Damaged`,
+    /// `DiskFault`, or `Memory`, also for the seats.
     pub fn start<R: Wait>(
         rt: &R,
         alloc: Global,
@@ -137,7 +138,8 @@ impl<D: Disk, C: Clock> Rounds<D, C> {
         }
     }
 
-    /// Goes on behind so many lines, which are not looked at for want of memory: the replies to them.
+    /// Goes on behind so many lines, which are not looked at for want of memory: the replies to
+    /// them.
     fn pass_over(&mut self, count: usize) -> Replies
         requires { self.old.lines + count < 2 ^ 63 }
         ensures replies { reply_texts result ≡ no_memory self.old.lines count }
@@ -158,7 +160,8 @@ impl<D: Disk, C: Clock> Rounds<D, C> {
     pub fn close<R: Wait>(self, rt: &R) -> (D, C)
         ensures parts { result ≡ (self.side.log.disk, self.side.clock) }
 
-        // All that a stop leaves of a disk that tells its content is the history, with all or none of the write in doubt.
+        // All that a stop leaves of a disk that tells its content is the history, with all or none
+        // of the write in doubt.
         ensures holds { Tells (D.content result.0) → (file : List ℕ) → D.images result.0 file → StandsForState (state_at self.side) file }
     {
         // A side says here what it keeps.
@@ -175,11 +178,13 @@ impl<D: Disk, C: Clock> Rounds<D, C> {
 }
 
 impl<D: Disk + Send, C: Clock + Send> Rounds<D, C> {
-    /// Answers the lines of a round, and gives their replies. First all that is stored is shown, if there is memory for
-    /// that. Then the workers run the lines, each on a thread of its own where one can be made, with the writes of each
-    /// session in the order of its lines; what they leave is done here. A read is answered at a number that fits what its
-    /// session was told before. Where there is no room for the lines, none of them is looked at, and each has the reply
-    /// that says that there was no memory. It waits for the workers, which pass the gate, and for readers.
+    /// Answers the lines of a round, and gives their replies. First all that is stored is shown, if
+    /// there is memory for that. Then the workers run the lines, each on a thread of its own where
+    /// one can be made, with the writes of each session in the order of its lines; what they leave
+    /// is done here. A read is answered at a number that fits what its session was told before.
+    /// Where there is no room for the lines, none of them is looked at, and each has the reply that
+    /// says that there was no memory. It waits for the workers, which pass the gate, and for
+    /// readers.
     pub fn answer_round<R: Threads + Wait + Sync, G: Gate>(
         &mut self,
         rt: &R,

@@ -29,7 +29,8 @@ use std::alloc::Global;
 use std::sync::Wait;
 use std::thread::Threads;
 
-/// Shows what was stored before, if there is memory for that, and says how much is shown. It waits for readers.
+/// Shows what was stored before, if there is memory for that, and says how much is shown. It waits
+/// for readers.
 pub(crate) fn show<R: Wait, D: Disk, C: Clock>(rt: &R, side: &mut WriteSide<D, C>) -> u32
     ensures shows { ShowsMore side.old side.new }
     ensures shown { result ≡ length side.new.shown }
@@ -42,8 +43,8 @@ pub(crate) fn show<R: Wait, D: Disk, C: Clock>(rt: &R, side: &mut WriteSide<D, C
     side.shown()
 }
 
-/// The workers of a round, with the sessions that have a line in it. There is none where not all lines were read, or
-/// where there was no memory to assign them.
+/// The workers of a round, with the sessions that have a line in it. There is none where not all
+/// lines were read, or where there was no memory to assign them.
 pub(crate) fn hire<'a, D: Disk, C: Clock>(
     alloc: Global,
     workers: u32,
@@ -83,8 +84,8 @@ struct Handed<'a, R, G> {
     workers: Vec<Worker<'a>>,
 }
 
-/// Runs workers with a side that is handed over to them, and gives both back. What its bounds say is asked of whoever passes
-/// it on by its name.
+/// Runs workers with a side that is handed over to them, and gives both back. What its bounds say
+/// is asked of whoever passes it on by its name.
 fn run_handed<'a, R: Threads + Wait + Sync, D: Disk + Send, C: Clock + Send, G: Gate>(
     side: WriteSide<D, C>,
     handed: Handed<'a, R, G>,
@@ -159,7 +160,8 @@ fn join<'a, R: Threads + Wait + Sync, D: Disk + Send, C: Clock + Send, G: Gate>(
     replace_with(side, handed, run_handed::<R, D, C, G>)
 }
 
-/// Runs the workers of a round, and then the writes that they left. It waits for the workers, and for readers.
+/// Runs the workers of a round, and then the writes that they left. It waits for the workers, and
+/// for readers.
 pub(crate) fn run<'a, R: Threads + Wait + Sync, D: Disk + Send, C: Clock + Send, G: Gate>(
     rt: &'a R,
     alloc: Global,
