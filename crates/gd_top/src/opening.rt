@@ -1,4 +1,5 @@
-//! The frame of every verb: the store that a command names is opened, the verb runs over its disk, and the disk is put back.
+//! The frame of every verb: the store that a command names is opened, the verb runs over its disk,
+//! and the disk is put back.
 ghost use Rattle.std.specs.Prelude.{◌≡◌, ◌≢◌, ◌^◌, ℕ, List, true, false, [], None, Some};
 ghost use Rattle.std.specs.Io.KnownBytes.{IsAtEnd};
 ghost use Rattle.gd_base.specs.Counts.{Rose, RoseBy};
@@ -27,7 +28,8 @@ use std::alloc::Global;
 use std::sync::Wait;
 use std::thread::Threads;
 
-/// Runs the verb of a command over the store that a disk holds. The disk is handed back, however it ends.
+/// Runs the verb of a command over the store that a disk holds. The disk is handed back, however it
+/// ends.
 fn run_over<
     R: Threads + Wait + Sync,
     D: Disk + Send,

@@ -26,7 +26,8 @@ fn print_made<K: Sink>(sink: &mut K, replies: &[Reply]) -> Result<(), Failed>
     Ok(())
 }
 
-/// Prints to each line from `first` up to `end` the reply that says that there was no memory, with its newline.
+/// Prints to each line from `first` up to `end` the reply that says that there was no memory, with
+/// its newline.
 fn print_no_memory<K: Sink>(sink: &mut K, first: u64, end: u64) -> Result<(), Failed>
     ensures all { OnOk result (Appends (K.held sink.old) (K.held sink.new) (printed (no_memory first (end - first)))) }
     ensures front { OnErr result (GainsFront (K.held sink.old) (K.held sink.new) (printed (no_memory first (end - first)))) }
@@ -39,8 +40,8 @@ fn print_no_memory<K: Sink>(sink: &mut K, first: u64, end: u64) -> Result<(), Fa
     Ok(())
 }
 
-/// Prints the replies to the lines of a round, each with its newline. `Failed`: the sink did, and a front of them is
-/// printed.
+/// Prints the replies to the lines of a round, each with its newline. `Failed`: the sink did, and a
+/// front of them is printed.
 pub fn print_replies<K: Sink>(sink: &mut K, replies: &Replies) -> Result<(), Failed>
     ensures all { OnOk result (Appends (K.held sink.old) (K.held sink.new) (printed (reply_texts replies.now))) }
     ensures front { OnErr result (GainsFront (K.held sink.old) (K.held sink.new) (printed (reply_texts replies.now))) }

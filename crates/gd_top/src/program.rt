@@ -28,15 +28,18 @@ use std::alloc::Global;
 use std::sync::Wait;
 use std::thread::Threads;
 
-/// Runs the program. With the words `serve` and its options it opens the store in the file that they name, or an empty
-/// one in memory, reads the input to its end, round by round, and prints one reply line for each line that is not
-/// blank, in the order of the lines: to a read at a dateline of the store, to a write at the moment of the clock, to any
-/// other line its refusal. The sessions of a round are run by as many workers as the words say, each on a thread of its
-/// own where one can be made, and held where the gate holds them. Where no memory is left for a reply, the reply line
-/// that says so is printed in its place; where the disk fails at a write, the line that says so. The sink is flushed at
-/// the end of each round. The status says how the run ended. With the words `replay` and its option it opens the store so
-/// too, reads the input to its end, line by line, carries each line out as an event of the core, on one thread, and prints
-/// its reply line; the sink is flushed at the end. The device of the file is put back on the shelf, however it ended.
+/// Runs the program. With the words `serve` and its options it opens the store in the file that
+/// they name, or an empty one in memory, reads the input to its end, round by round, and prints one
+/// reply line for each line that is not blank, in the order of the lines: to a read at a dateline
+/// of the store, to a write at the moment of the clock, to any other line its refusal. The sessions
+/// of a round are run by as many workers as the words say, each on a thread of its own where one
+/// can be made, and held where the gate holds them. Where no memory is left for a reply, the reply
+/// line that says so is printed in its place; where the disk fails at a write, the line that says
+/// so. The sink is flushed at the end of each round. The status says how the run ended. With the
+/// words `replay` and its option it opens the store so too, reads the input to its end, line by
+/// line, carries each line out as an event of the core, on one thread, and prints its reply line;
+/// the sink is flushed at the end. The device of the file is put back on the shelf, however it
+/// ended.
 pub fn graphd<
     R: Threads + Wait + Sync,
     S: Source,
@@ -62,13 +65,14 @@ pub fn graphd<
     ensures usage_found { command_of words.now ≡ None → (result ≡ Status.Usage) ⊎ (result ≡ Status.Memory) }
     ensures unread { command_of words.now ≡ None → IsIdle source.old source.new sink.old sink.new }
 
-    // Words that serve. Where the input was read to its end, one legal history explains the whole output for it (`done`).
-    // It begins with what the file stood for; the file is left so that it stands for this history, with or without the
-    // write that is in doubt; and the shelf counted at least as many faults as lines tell. Where the input could not be
-    // read further, the lines of all rounds that lie wholly in what was taken of it were answered so, and no other
-    // (`rounds`). At any stop what was printed is a front of an output that is explained so (`front`); without memory the
-    // run may also not have begun (`memory`). Where the run did not begin, nothing was read and nothing printed, and the
-    // file stands for the same batches as before (`nothing`).
+    // Words that serve. Where the input was read to its end, one legal history explains the whole
+    // output for it (`done`). It begins with what the file stood for; the file is left so that it
+    // stands for this history, with or without the write that is in doubt; and the shelf counted at
+    // least as many faults as lines tell. Where the input could not be read further, the lines of
+    // all rounds that lie wholly in what was taken of it were answered so, and no other (`rounds`).
+    // At any stop what was printed is a front of an output that is explained so (`front`); without
+    // memory the run may also not have begun (`memory`). Where the run did not begin, nothing was
+    // read and nothing printed, and the file stands for the same batches as before (`nothing`).
     ensures serves { verb_of words.now ≡ Some verb.serves → PrintsLines result (C.may clock)
         (BeginsWith (F.content shelf.old) (path_of words.now))
         (EndsWith (C.may clock) (F.content shelf.old) (F.images shelf.new) (path_of words.now))
@@ -77,10 +81,10 @@ pub fn graphd<
         × StaysAt (F.content shelf.old) (F.content shelf.new) (F.images shelf.old) (F.images shelf.new) (path_of words.now))
         (S.left source.old) (S.left source.new) (K.held sink.old) (K.held sink.new) }
 
-    // Words that replay. Over a file that the shelf tells or without one, what was printed is what the definitions' core
-    // replies to the lines, from the batches on for which the file stood, and the file is left so that it stands for the
-    // state that they make, with or without the write that is in doubt; and the shelf counted at least as many faults as
-    // lines tell.
+    // Words that replay. Over a file that the shelf tells or without one, what was printed is what
+    // the definitions' core replies to the lines, from the batches on for which the file stood, and
+    // the file is left so that it stands for the state that they make, with or without the write
+    // that is in doubt; and the shelf counted at least as many faults as lines tell.
     ensures events { verb_of words.now ≡ Some verb.replays → IsToldAt (F.content shelf.old) (path_of words.now)
         → (members : MembersOf) → PrintsEvents result members (C.may clock)
         (BeginsWith (F.content shelf.old) (path_of words.now)) (LeavesAt (F.images shelf.new) (path_of words.now))
@@ -92,7 +96,8 @@ pub fn graphd<
     // What follows here holds with every verb. A run that is done has read its input to the end.
     ensures at_end { result ≡ Status.Done → IsAtEnd (S.left source.new) }
 
-    // With Done all that was printed is sent on; a run of lines sends on what it prints round by round.
+    // With Done all that was printed is sent on; a run of lines sends on what it prints round by
+    // round.
     ensures sent { result ≡ Status.Done → K.sent sink.new ≡ true }
     ensures rounds_sent { verb_of words.now ≡ Some verb.serves → SendsRounds result K.sent sink.old sink.new }
 
@@ -102,7 +107,8 @@ pub fn graphd<
     ensures disk_fault { result ≡ Status.DiskFault → Rose (F.faults shelf.old) (F.faults shelf.new) }
     ensures too_much { result ≡ Status.TooMuch → TakesAtLeast (2 ^ 40) (S.left source.old) (S.left source.new) (S.given source.old) (S.given source.new) }
 
-    // What is said of the file is so, and is said where it is so, but for a failure of the disk or want of memory.
+    // What is said of the file is so, and is said where it is so, but for a failure of the disk or
+    // want of memory.
     ensures not_store { result ≡ Status.NotStore → MayMeanAt (F.content shelf.old) (path_of words.now) not_store }
     ensures damaged { (offset : ℕ) → result ≡ Status.Damaged offset
         → MayMeanAt (F.content shelf.old) (path_of words.now) (damaged offset) }
@@ -111,7 +117,8 @@ pub fn graphd<
     ensures damaged_found { (offset : ℕ) → DoesMean (told_at (F.content shelf.old) (path_of words.now)) (damaged offset)
         → (result ≡ Status.Damaged offset) ⊎ IsHindered result }
 
-    // Whatever the status, the file keeps what it stood for, and one that stands for no batches is left alone.
+    // Whatever the status, the file keeps what it stood for, and one that stands for no batches is
+    // left alone.
     ensures kept { (path : List ℕ) → path_of words.now ≡ Some path
         → Keeps (F.content shelf.old path) (F.content shelf.new path) (F.images shelf.old path) (F.images shelf.new path) }
 
@@ -120,8 +127,8 @@ pub fn graphd<
         → HoldsSame (F.content shelf.old other) (F.content shelf.new other)
         (F.images shelf.old other) (F.images shelf.new other) }
 
-    // With words of the grammar, no fault, a file that is told and stands for some batches or none at all, and input of
-    // a known length below 2^40, all is done but for want of memory.
+    // With words of the grammar, no fault, a file that is told and stands for some batches or none
+    // at all, and input of a known length below 2^40, all is done but for want of memory.
     ensures complete { command_of words.now ≢ None → ¬ Rose (S.faults source.old) (S.faults source.new)
         → ¬ Rose (K.faults sink.old) (K.faults sink.new)
         → ¬ Rose (F.faults shelf.old) (F.faults shelf.new)

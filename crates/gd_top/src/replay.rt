@@ -37,7 +37,8 @@ fn status_of(end: Result<(), Stop>) -> Status
     }
 }
 
-/// Replays the whole input over the store that a disk holds. The disk is handed back, however it ends.
+/// Replays the whole input over the store that a disk holds. The disk is handed back, however it
+/// ends.
 pub(crate) fn replay_over<R: Wait, D: Disk, S: Source, K: Sink, C: Clock + Drop>(
     rt: &R,
     alloc: Global,

@@ -26,8 +26,8 @@ use std::alloc::Global;
 use std::sync::Wait;
 use std::thread::Threads;
 
-/// Answers the lines of a round, prints what they come to and sends it on, also where it was not printed in full.
-/// `Failed`: a front of it is printed.
+/// Answers the lines of a round, prints what they come to and sends it on, also where it was not
+/// printed in full. `Failed`: a front of it is printed.
 fn answer_round<R: Threads + Wait + Sync, D: Disk + Send, K: Sink, C: Clock + Send, G: Gate>(
     rt: &R,
     alloc: Global,
@@ -49,10 +49,9 @@ fn answer_round<R: Threads + Wait + Sync, D: Disk + Send, K: Sink, C: Clock + Se
     Ok(())
 }
 
-/// Serves the whole input, round by round, from a run on that is before its first line. Its workers are held where the
-/// gate holds them. `ReadFault` and `TooMuch`:
-/// the lines of the unfinished round were not answered. `SinkFault`, `Memory`: what was printed is a front of what was
-/// due.
+/// Serves the whole input, round by round, from a run on that is before its first line. Its workers
+/// are held where the gate holds them. `ReadFault` and `TooMuch`: the lines of the unfinished round
+/// were not answered. `SinkFault`, `Memory`: what was printed is a front of what was due.
 pub fn serve_rounds<
     R: Threads + Wait + Sync,
     D: Disk + Send,
@@ -74,7 +73,8 @@ pub fn serve_rounds<
         (RoseBy (D.faults rounds.old.side.log.disk) (D.faults rounds.new.side.log.disk)) (K.held sink.old) (K.held sink.new))) }
     ensures at_end { OnOk result (IsAtEnd (S.left source.new)) }
 
-    // At the end all that was printed is sent on, and at each stop but one of the sink all, or nothing was printed.
+    // At the end all that was printed is sent on, and at each stop but one of the sink all, or
+    // nothing was printed.
     ensures sent { OnOk result (K.sent sink.new ≡ true) }
     ensures rounds_sent { result ≢ Err Stop.SinkFault → (sink.new ≡ sink.old) ⊎ (K.sent sink.new ≡ true) }
     ensures rounds { result ≡ Err Stop.ReadFault → IfSome (S.left source.old) (ServesRounds (C.may rounds.old.side.clock)

@@ -61,8 +61,8 @@ fn serve_all<
     }
 }
 
-/// Opens the store that a disk holds, before the first line is read, and serves the whole input over it at a pace. The
-/// disk is handed back, however it ends.
+/// Opens the store that a disk holds, before the first line is read, and serves the whole input
+/// over it at a pace. The disk is handed back, however it ends.
 pub(crate) fn serve_over<
     R: Threads + Wait + Sync,
     D: Disk + Send,

@@ -14,7 +14,8 @@ pub enum Status {
     Done,
     /// The words are not in the grammar. Nothing was read or printed.
     Usage,
-    /// The source failed. The lines of all whole rounds that were read before that were answered, and no other.
+    /// The source failed. The lines of all whole rounds that were read before that were answered,
+    /// and no other.
     ReadFault,
     /// The sink failed. What was printed is a front of what was due.
     SinkFault,
@@ -22,11 +23,14 @@ pub enum Status {
     DiskFault,
     /// The file is no store. Nothing was read or printed.
     NotStore,
-    /// The first damaged record of the file has its gate at this offset. Nothing was read or printed.
+    /// The first damaged record of the file has its gate at this offset. Nothing was read or
+    /// printed.
     Damaged { offset: u64 },
-    /// There was no memory to open the store or to read a round. What was printed is a front of what was due.
+    /// There was no memory to open the store or to read a round. What was printed is a front of
+    /// what was due.
     Memory,
-    /// 2^40 bytes of input were taken. The lines of all whole rounds in them were answered, and no other.
+    /// 2^40 bytes of input were taken. The lines of all whole rounds in them were answered, and no
+    /// other.
     TooMuch,
 }
 
