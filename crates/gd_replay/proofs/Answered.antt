@@ -1,7 +1,6 @@
 -- What an event comes to is what its line comes to.
-use Rattle.std.proofs.Common.{◌≡◌, ℕ, ◌<◌, List, length, Bool, false, Result, Ok, Err, IfOk, inl, inr, ⊎_elim, refl, sym, ap, subst, ◌∙◌, arith, lt-ltb}
-use Rattle.std.specs.Prelude.{if◌then◌else◌, ◌≢◌}
-use Rattle.std.specs.Global.{Vec}
+use Rattle.std.proofs.Common.{◌≡◌, ℕ, ◌<◌, List, length, Bool, true, false, Result, Ok, Err, IfOk, inl, inr, ⊎_elim, refl, ap, subst, ◌∙◌, arith, lt-ltb}
+use Rattle.std.specs.Prelude.{if◌then◌else◌, ◌≢◌, IsErr}
 use Rattle.gd_base.specs.declared.memory.Memory.{Memory}
 use Rattle.gd_grammar.specs.Chain.{◌>>=◌, map_err}
 use Rattle.gd_fault.specs.declared.fault.LineFault.{LineFault}
@@ -9,8 +8,8 @@ use Rattle.gd_fault.specs.declared.fault.LineFault.TheVariants as fault
 use Rattle.gd_mql.specs.Line.{fault_view}
 use Rattle.gd_json.specs.Reading.{json_from}
 use Rattle.gd_runs.specs.Owed.{MembersOf}
-use Rattle.gd_runs.specs.Input.{line_too_long, no_json, no_line, max_line}
-use Rattle.gd_runs.specs.Explained.{memory_line, tells_fault}
+use Rattle.gd_runs.specs.Input.{input_fault_line, line_too_long, no_json, no_line, max_line}
+use Rattle.gd_runs.specs.Explained.{tells_fault}
 use Rattle.gd_runs.specs.Side.{IsFresh}
 use Rattle.gd_runs.specs.Core as core
 use Rattle.gd_runs.specs.Core.{Event, State}
@@ -20,31 +19,25 @@ use Rattle.gd_replay_laws.specs.Runs.{BuiltLine, IsBounded, AreBelow}
 use Rattle.gd_replay_laws.specs.Faults.{IsCounted}
 use Rattle.gd_core_laws.proofs.Quiet.{fault_quiet, memory_quiet}
 use Rattle.gd_replay_laws.proofs.Faults.{takes_quiet, quiet_counted}
+use Rattle.gd_reply.specs.Replies.{reply_text, made_text}
+use Rattle.std.specs.Global.{Vec}
+use Rattle.gd_reply.specs.declared.reply.Reply.{Reply}
 use Rattle.gd_sessions.specs.Running.{Answers, MayTake}
 use Rattle.gd_replay.specs.Lines.{TellsTooLong, TellsFault}
 
 -- ---- answers
 
-pub answers_more : (P Q : List ℕ → Type 0) (result : Result (Vec ℕ) Memory) → ((line : List ℕ) → P line → Q line) → Answers P result → Answers Q result
-answers_more P Q (Ok bytes) more given = more bytes.items given
+pub answers_more : (P Q : List ℕ → Type 0) (result : Result Reply Memory) → ((line : List ℕ) → P line → Q line) → Answers P result → Answers Q result
+answers_more P Q (Ok reply) more given = more (reply_text reply) given
 answers_more P Q (Err e) more given = (given.0, more given.0 given.1)
 
-pub answers_say : (P : List ℕ → Type 0) (Q : Type 0) (result : Result (Vec ℕ) Memory) → ((line : List ℕ) → P line → Q) → Answers P result → Q
-answers_say P Q (Ok bytes) says given = says bytes.items given
+pub answers_say : (P : List ℕ → Type 0) (Q : Type 0) (result : Result Reply Memory) → ((line : List ℕ) → P line → Q) → Answers P result → Q
+answers_say P Q (Ok reply) says given = says (reply_text reply) given
 answers_say P Q (Err e) says given = says given.0 given.1
 
--- the first of two facts
-pub answers_first : (P Q : List ℕ → Type 0) (result : Result (Vec ℕ) Memory) → Answers (λ line. P line × Q line) result → Answers P result
-answers_first P Q result = answers_more (λ line. P line × Q line) P result (λ line both. both.0)
-
 -- a reply that tells no failure of the disk is counted
-pub answers_counted : (P : List ℕ → Type 0) (k before after : ℕ) (result : Result (Vec ℕ) Memory) → ((line : List ℕ) → P line → tells_fault k line ≡ false) → Answers P result → Answers (λ line. P line × IsCounted k line before after) result
+pub answers_counted : (P : List ℕ → Type 0) (k before after : ℕ) (result : Result Reply Memory) → ((line : List ℕ) → P line → tells_fault k line ≡ false) → Answers P result → Answers (λ line. P line × IsCounted k line before after) result
 answers_counted P k before after result quiet = answers_more P (λ line. P line × IsCounted k line before after) result (λ line is. (is, quiet_counted k line before after (quiet line is)))
-
--- want of memory, made or due
-pub answers_memory : (P : List ℕ → Type 0) (k : ℕ) (result : Result (Vec ℕ) Memory) → P (memory_line k) → IfOk result (λ bytes. bytes.items ≡ memory_line k) → Answers P result
-answers_memory P k (Ok bytes) none told = subst P (sym told) none
-answers_memory P k (Err e) none told = (memory_line k, none)
 
 -- ---- an event that may be carried out
 
@@ -88,10 +81,26 @@ long_line members may s k piece reply long tells = ⊎_elim
     (λ lacks. inr (inr (lacks, inl refl)))
     tells
 
+-- a line that is refused, or want of memory for that
+pub tells_long : (k : ℕ) (made : Result (Vec ℕ) Memory) (reply : List ℕ) → IfOk made (λ bytes. bytes.items ≡ input_fault_line k line_too_long) → reply ≡ made_text k made → TellsTooLong k reply
+tells_long k (Ok bytes) reply told is = inl (is ∙ told)
+tells_long k (Err e) reply told is = inr is
+
+never : false ≡ true → ⊥
+never is = cc
+
+pub tells_fault_of : (k : ℕ) (f : LineFault) (made : Result (Vec ℕ) Memory) (reply : List ℕ) → (f ≢ fault.Memory → IfOk made (λ bytes. bytes.items ≡ input_fault_line k (fault_view f))) → (f ≡ fault.Memory → IsErr made) → reply ≡ made_text k made
+    → TellsFault k f reply
+tells_fault_of k f (Ok bytes) reply told none is = inl (some, is ∙ told some)
+  where
+    some : f ≢ fault.Memory
+    some lacks = never (none lacks)
+tells_fault_of k f (Err e) reply told none is = inr is
+
 -- ---- counts of faults
 
 -- opening again tells no failure of the disk
-pub reopened_counted : (members : MembersOf) (may : ℕ → Bool) (s : State) (k bytes : ℕ) (t : State) (before after : ℕ) (result : Result (Vec ℕ) Memory) → Answers (λ line. Takes members may s k bytes core.reopen line t) result
+pub reopened_counted : (members : MembersOf) (may : ℕ → Bool) (s : State) (k bytes : ℕ) (t : State) (before after : ℕ) (result : Result Reply Memory) → Answers (λ line. Takes members may s k bytes core.reopen line t) result
     → Answers (λ line. Takes members may s k bytes core.reopen line t × IsCounted k line before after) result
 reopened_counted members may s k bytes t before after result = answers_counted (λ line. Takes members may s k bytes core.reopen line t) k before after result (λ line taken. takes_quiet k members may s bytes core.reopen line t tt taken)
 

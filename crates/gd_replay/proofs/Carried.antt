@@ -1,6 +1,5 @@
 -- An event that was carried out: what stays, and which lines stand before.
 use Rattle.std.proofs.Common.{◌≡◌, ℕ, ◌+◌, List, Bool, Option, Result, ⊎_elim, ◌⊎◌, refl, sym, subst, ◌∙◌, arith, IsTrue}
-use Rattle.std.specs.Global.{Vec}
 use Rattle.gd_base.specs.declared.memory.Memory.{Memory}
 use Rattle.gd_base.specs.Counts.{Rose}
 use Rattle.gd_prim.specs.declared.Batch.{Batch}
@@ -15,6 +14,7 @@ use Rattle.gd_replay_laws.proofs.Below.{later, opened_below, takes_below}
 use Rattle.gd_writer.specs.Parts.{Tells}
 use Rattle.gd_writer.specs.Side.{SideValue, GoesOn}
 use Rattle.gd_sessions.specs.Opened.{Opens}
+use Rattle.gd_reply.specs.declared.reply.Reply.{Reply}
 use Rattle.gd_sessions.specs.Running.{Answers}
 use Rattle.gd_replay.specs.Kept.{Grows, IsHindrance}
 use Rattle.gd_replay.specs.Stops.{Leaves, GoesAlong, IsLost}
@@ -31,14 +31,20 @@ anew_below k s t loaded below anew = ⊎_elim
     anew
 
 -- an event that was taken
-pub taken_below : (may : ℕ → Bool) (s : State) (k bytes : ℕ) (e : Event) (t : State) (reply : Result (Vec ℕ) Memory) → AreBelow k s → ((members : MembersOf) → Answers (λ line. Takes members may s k bytes e line t) reply) → AreBelow (k + 1) t
+pub taken_below : (may : ℕ → Bool) (s : State) (k bytes : ℕ) (e : Event) (t : State) (reply : List ℕ) → AreBelow k s → ((members : MembersOf) → Takes members may s k bytes e reply t) → AreBelow (k + 1) t
 taken_below may s k bytes e t reply below takes =
     let none : MembersOf = λ prims hop template. 0 in
-    answers_say (λ line. Takes none may s k bytes e line t) (AreBelow (k + 1) t) reply (λ line taken. takes_below none may s k bytes e line t below taken) (takes none)
+    takes_below none may s k bytes e reply t below (takes none)
 
 -- the batches that there were stay in front
-pub taken_grows : (may : ℕ → Bool) (s : State) (k bytes : ℕ) (e : Event) (t : State) (reply : Result (Vec ℕ) Memory) → ((members : MembersOf) → Answers (λ line. Takes members may s k bytes e line t) reply) → Grows (batches s.history) (batches t.history)
+pub taken_grows : (may : ℕ → Bool) (s : State) (k bytes : ℕ) (e : Event) (t : State) (reply : List ℕ) → ((members : MembersOf) → Takes members may s k bytes e reply t) → Grows (batches s.history) (batches t.history)
 taken_grows may s k bytes e t reply takes =
+    let none : MembersOf = λ prims hop template. 0 in
+    takes_grows none may s k bytes e reply t (takes none)
+
+-- so they do where it was taken by a reply that is due
+pub due_grows : (may : ℕ → Bool) (s : State) (k bytes : ℕ) (e : Event) (t : State) (reply : Result Reply Memory) → ((members : MembersOf) → Answers (λ line. Takes members may s k bytes e line t) reply) → Grows (batches s.history) (batches t.history)
+due_grows may s k bytes e t reply takes =
     let none : MembersOf = λ prims hop template. 0 in
     answers_say (λ line. Takes none may s k bytes e line t) (Grows (batches s.history) (batches t.history)) reply (λ line taken. takes_grows none may s k bytes e line t taken) (takes none)
 

@@ -1,6 +1,5 @@
 -- A line that was answered, and printed or not.
 use Rattle.std.proofs.Common.{◌≡◌, ℕ, List, [], ◌∷◌, ◌++◌, Bool, Option, Result, Ok, Err, MatchResult, ◌≤◌, refl, arith}
-use Rattle.std.specs.Global.{Vec}
 use Rattle.std.specs.Io.KnownBytes.{Appends}
 use Rattle.gd_base.specs.Counts.{Rose}
 use Rattle.gd_base.specs.declared.memory.Memory.{Memory}
@@ -8,6 +7,8 @@ use Rattle.gd_runs.specs.Owed.{MembersOf}
 use Rattle.gd_runs.specs.Core.{State}
 use Rattle.gd_replay_laws.specs.Runs.{BuiltLine}
 use Rattle.gd_replay_laws.specs.Faults.{IsCounted}
+use Rattle.gd_reply.specs.Replies.{reply_text}
+use Rattle.gd_reply.specs.declared.reply.Reply.{Reply}
 use Rattle.gd_sessions.specs.Running.{Answers}
 use Rattle.gd_journal.specs.declared.fault.JournalFault.{JournalFault}
 use Rattle.gd_journal.specs.declared.fault.JournalFault.TheVariants as journal
@@ -18,18 +19,18 @@ use Rattle.gd_outside.specs.Gains.{GainsFront}
 use Rattle.gd_replay.specs.Runs.{IsDue, LinePrints, LineFront, LineStops}
 
 -- the reply was made and printed
-pub printed_line : (members : MembersOf) (may : ℕ → Bool) (s t : State) (k : ℕ) (bytes : List ℕ) (old new : Option (List ℕ)) (a b : ℕ) (reply : Result (Vec ℕ) Memory) → Answers (λ line. BuiltLine members may s k bytes line t × IsCounted k line a b) reply
-    → MatchResult reply (λ made. Appends old new (made.items ++ 10 ∷ [])) (λ none. ⊥) → LinePrints members may s k bytes t old new a b
-printed_line members may s t k bytes old new a b (Ok made) answers printed = record { reply = made.items; line = answers.0; counted = answers.1; gained = printed }
+pub printed_line : (members : MembersOf) (may : ℕ → Bool) (s t : State) (k : ℕ) (bytes : List ℕ) (old new : Option (List ℕ)) (a b : ℕ) (reply : Result Reply Memory) → Answers (λ line. BuiltLine members may s k bytes line t × IsCounted k line a b) reply
+    → MatchResult reply (λ made. Appends old new (reply_text made ++ 10 ∷ [])) (λ none. ⊥) → LinePrints members may s k bytes t old new a b
+printed_line members may s t k bytes old new a b (Ok made) answers printed = record { reply = reply_text made; line = answers.0; counted = answers.1; gained = printed }
 printed_line members may s t k bytes old new a b (Err none) answers printed = absurd printed
 
 -- or a front of it was
-front_line : (members : MembersOf) (may : ℕ → Bool) (s t : State) (k : ℕ) (bytes : List ℕ) (leaves : State → Type 0) (old new : Option (List ℕ)) (a b : ℕ) (reply : Result (Vec ℕ) Memory) → Answers (λ line. BuiltLine members may s k bytes line t × IsCounted k line a b) reply
+front_line : (members : MembersOf) (may : ℕ → Bool) (s t : State) (k : ℕ) (bytes : List ℕ) (leaves : State → Type 0) (old new : Option (List ℕ)) (a b : ℕ) (reply : Result Reply Memory) → Answers (λ line. BuiltLine members may s k bytes line t × IsCounted k line a b) reply
     → ((line : List ℕ) → IsDue reply line → GainsFront old new (line ++ 10 ∷ [])) → leaves t → LineFront members may s k bytes leaves old new a b
-front_line members may s t k bytes leaves old new a b (Ok made) answers front left = record { reply = made.items; state = t; line = answers.0; counted = answers.1; left = left; front = front made.items refl }
+front_line members may s t k bytes leaves old new a b (Ok made) answers front left = record { reply = reply_text made; state = t; line = answers.0; counted = answers.1; left = left; front = front (reply_text made) refl }
 front_line members may s t k bytes leaves old new a b (Err none) (due, answers) front left = record { reply = due; state = t; line = answers.0; counted = answers.1; left = left; front = front due tt }
 
-pub halted_line : (members : MembersOf) (may : ℕ → Bool) (s t : State) (k : ℕ) (bytes : List ℕ) (leaves : State → Type 0) (why : Stop) (rose : Type 0) (old new : Option (List ℕ)) (a b : ℕ) (reply : Result (Vec ℕ) Memory) → IsHalt why rose
+pub halted_line : (members : MembersOf) (may : ℕ → Bool) (s t : State) (k : ℕ) (bytes : List ℕ) (leaves : State → Type 0) (why : Stop) (rose : Type 0) (old new : Option (List ℕ)) (a b : ℕ) (reply : Result Reply Memory) → IsHalt why rose
     → Answers (λ line. BuiltLine members may s k bytes line t × IsCounted k line a b) reply → ((line : List ℕ) → IsDue reply line → GainsFront old new (line ++ 10 ∷ [])) → leaves t → LineStops members may s k bytes leaves why old new a b
 halted_line members may s t k bytes leaves stop.SinkFault rose old new a b reply halt answers front left = front_line members may s t k bytes leaves old new a b reply answers front left
 halted_line members may s t k bytes leaves stop.Memory rose old new a b reply halt answers front left = front_line members may s t k bytes leaves old new a b reply answers front left

@@ -1,6 +1,5 @@
 -- What lines and pieces of the input come to, on the way to the end of a run of events.
 use Rattle.std.specs.Prelude.{◌≡◌, ℕ, ◌+◌, List, [], ◌∷◌, ◌++◌, length, Bool, Option, Result, Ok, Err}
-use Rattle.std.specs.Global.{Vec}
 use Rattle.std.specs.Io.KnownBytes.{Appends, Keeps}
 use Rattle.gd_base.specs.Counts.{RoseBy}
 use Rattle.gd_base.specs.declared.memory.Memory.{Memory}
@@ -11,14 +10,16 @@ use Rattle.gd_runs.specs.Core.{State, opened}
 use Rattle.gd_replay_laws.specs.Runs.{BuiltLine, BuiltReplies, PieceRuns, lines_at}
 use Rattle.gd_replay_laws.specs.Faults.{IsCounted, faults_from}
 use Rattle.gd_outside.specs.Gains.{GainsFront}
+use Rattle.gd_reply.specs.Replies.{reply_text}
+use Rattle.gd_reply.specs.declared.reply.Reply.{Reply}
 use Rattle.gd_replay.specs.declared.stop.Stop.{Stop}
 use Rattle.gd_replay.specs.declared.stop.Stop.TheVariants as stop
 
 -- ---- a line
 
 -- a reply that is due: the one that was made, or any where there was no memory for it
-abbrev pub IsDue : Result (Vec ℕ) Memory → List ℕ → Type 0
-IsDue (Ok bytes) line = line ≡ bytes.items
+abbrev pub IsDue : Result Reply Memory → List ℕ → Type 0
+IsDue (Ok made) line = line ≡ reply_text made
 IsDue (Err none) line = Unit {0}
 
 -- line k came to a state, the sink gained its reply, and a failure of the disk that it tells was counted

@@ -19,6 +19,7 @@ use gd_events::event::{Event, event_from};
 use gd_input::line::RoundLine;
 use gd_journal::fault::JournalFault;
 use gd_outside::clock::Clock;
+use gd_reply::reply::Reply;
 use gd_sessions::running::Running;
 use std::alloc::Global;
 use std::sync::Wait;
@@ -40,7 +41,7 @@ fn carry<R: Wait, D: Disk, C: Clock, L>(
     bytes: u64,
     event: Event,
     steps: &mut Steps<L>,
-) -> Result<(Running<D, C>, Result<Vec<u8>, Memory>), (JournalFault, D, C)>
+) -> Result<(Running<D, C>, Result<Reply, Memory>), (JournalFault, D, C)>
     requires line { line < 2 ^ 63 }
     requires bytes { bytes ≤ 262_144 }
     requires bounded { IsBounded (event_view event) }
@@ -57,7 +58,7 @@ fn carry<R: Wait, D: Disk, C: Clock, L>(
     }
     let mut running = running;
     let reply = running.step(rt, alloc, line, bytes, event, steps);
-    Ok((running, reply))
+    Ok((running, Ok(reply)))
 }
 
 /// Answers a line that is not blank.
@@ -68,7 +69,7 @@ pub(crate) fn answer<R: Wait, D: Disk, C: Clock, L>(
     line: u64,
     text: RoundLine,
     steps: &mut Steps<L>,
-) -> Result<(Running<D, C>, Result<Vec<u8>, Memory>), (JournalFault, D, C)>
+) -> Result<(Running<D, C>, Result<Reply, Memory>), (JournalFault, D, C)>
     requires line { line < 2 ^ 63 }
     requires short { IsShort text }
     requires below { AreBelow line (core_state running) }
@@ -84,12 +85,12 @@ pub(crate) fn answer<R: Wait, D: Disk, C: Clock, L>(
             Ok(event) => carry(rt, alloc, running, line, bytes.len() as u64, event, steps),
             Err(fault) => {
                 let reply = refuse(alloc, line, fault);
-                Ok((running, reply))
+                Ok((running, Ok(reply)))
             }
         },
         RoundLine::TooLong => {
             let reply = refuse_long(alloc, line);
-            Ok((running, reply))
+            Ok((running, Ok(reply)))
         }
     }
 }

@@ -1,24 +1,16 @@
 //! Reply lines to lines that are no event.
 ghost use Rattle.std.specs.Prelude.{◌≡◌, ◌≢◌, ◌<◌, ◌^◌, IfOk, IsErr};
 ghost use Rattle.gd_mql.specs.Line.{fault_view};
-ghost use Rattle.gd_runs.specs.Explained as explained;
 ghost use Rattle.gd_runs.specs.Input.{input_fault_line, line_too_long};
-ghost use Rattle.gd_sessions.specs.Running.{Answers};
+ghost use Rattle.gd_reply.specs.Replies.{reply_text};
 ghost use Rattle.gd_replay.specs.Lines.{TellsTooLong, TellsFault};
 
 use gd_base::memory::Memory;
 use gd_fault::fault::LineFault;
 use gd_reply::lines::err_line_plain;
 use gd_reply::refusal::Refusal;
+use gd_reply::reply::Reply;
 use std::alloc::Global;
-
-/// The reply line where no memory was found.
-fn memory_line(alloc: Global, line: u64) -> Result<Vec<u8>, Memory>
-    requires { line < 2 ^ 63 }
-    ensures { IfOk result (λ reply. reply.items ≡ explained.memory_line line) }
-{
-    err_line_plain(alloc, line, &Refusal::Memory)
-}
 
 /// The reply line to a line that has too many bytes.
 fn long_line(alloc: Global, line: u64) -> Result<Vec<u8>, Memory>
@@ -44,26 +36,18 @@ fn fault_line(alloc: Global, line: u64, fault: LineFault) -> Result<Vec<u8>, Mem
     }
 }
 
-/// Refuses a line that has too many bytes, or tells that there was no memory for that. `Memory`: nor was there for this, and
-/// it is due.
-pub(crate) fn refuse_long(alloc: Global, line: u64) -> Result<Vec<u8>, Memory>
+/// Refuses a line that has too many bytes, or tells that there was no memory for that.
+pub(crate) fn refuse_long(alloc: Global, line: u64) -> Reply
     requires { line < 2 ^ 63 }
-    ensures { Answers (TellsTooLong line) result }
+    ensures { TellsTooLong line (reply_text result) }
 {
-    match long_line(alloc, line) {
-        Ok(reply) => Ok(reply),
-        Err(_) => memory_line(alloc, line),
-    }
+    Reply::made(line, long_line(alloc, line))
 }
 
-/// Refuses a line that is no event, or tells that there was no memory for that. `Memory`: nor was there for this, and it is
-/// due.
-pub(crate) fn refuse(alloc: Global, line: u64, fault: LineFault) -> Result<Vec<u8>, Memory>
+/// Refuses a line that is no event, or tells that there was no memory for that.
+pub(crate) fn refuse(alloc: Global, line: u64, fault: LineFault) -> Reply
     requires { line < 2 ^ 63 }
-    ensures { Answers (TellsFault line fault) result }
+    ensures { TellsFault line fault (reply_text result) }
 {
-    match fault_line(alloc, line, fault) {
-        Ok(reply) => Ok(reply),
-        Err(_) => memory_line(alloc, line),
-    }
+    Reply::made(line, fault_line(alloc, line, fault))
 }

@@ -7,6 +7,7 @@ ghost use Rattle.gd_runs.specs.Owed.{MembersOf};
 ghost use Rattle.gd_input.specs.Line.{IsKept, IsShort};
 ghost use Rattle.gd_writer.specs.Parts.{Tells};
 ghost use Rattle.gd_replay_laws.specs.Runs.{AreBelow};
+ghost use Rattle.gd_reply.specs.Replies.{reply_text};
 ghost use Rattle.gd_sessions.specs.Running.{core_state};
 ghost use Rattle.gd_replay.specs.Stops.{Leaves, GoesAlong, IsHalt, IsCaused};
 ghost use Rattle.gd_replay.specs.Kept.{HasBatches, KeepsAs};
@@ -20,8 +21,9 @@ use gd_base::steps::Steps;
 use gd_disk::disk::Disk;
 use gd_input::line::RoundLine;
 use gd_outside::clock::Clock;
-use gd_outside::printing::write_line;
 use gd_outside::sink::Sink;
+use gd_reply::printing::print_reply;
+use gd_reply::reply::Reply;
 use gd_sessions::running::Running;
 use std::alloc::Global;
 use std::sync::Wait;
@@ -40,14 +42,14 @@ pub(crate) fn halted<R: Wait, D: Disk, C: Clock>(
 }
 
 /// Prints a reply, and ends the core where that fails, or where there was no memory for it.
-fn print_reply<R: Wait, D: Disk, K: Sink, C: Clock>(
+fn print_or_halt<R: Wait, D: Disk, K: Sink, C: Clock>(
     rt: &R,
     running: Running<D, C>,
-    reply: Result<Vec<u8>, Memory>,
+    reply: Result<Reply, Memory>,
     sink: &mut K,
 ) -> Result<Running<D, C>, (Stop, D, C)>
     ensures same { IfOk result (λ next. next ≡ running) }
-    ensures printed { IfOk result (λ _. MatchResult reply (λ bytes. Appends (K.held sink.old) (K.held sink.new) (bytes.items ++ 10 ∷ [])) (λ _. ⊥)) }
+    ensures printed { IfOk result (λ _. MatchResult reply (λ made. Appends (K.held sink.old) (K.held sink.new) (reply_text made ++ 10 ∷ [])) (λ _. ⊥)) }
     ensures front { IfErr result (λ _. (line : List ℕ) → IsDue reply line → GainsFront (K.held sink.old) (K.held sink.new) (line ++ 10 ∷ [])) }
     ensures halt { IfErr result (λ halt. IsHalt halt.0 (Rose (K.faults sink.old) (K.faults sink.new))) }
     ensures disk { IfErr result (λ halt. halt.1 ≡ running.side.log.disk) }
@@ -55,7 +57,7 @@ fn print_reply<R: Wait, D: Disk, K: Sink, C: Clock>(
     ensures later { K.faults sink.old ≤ K.faults sink.new }
 {
     match reply {
-        Ok(bytes) => match write_line(sink, &bytes) {
+        Ok(reply) => match print_reply(sink, &reply) {
             Ok(()) => Ok(running),
             Err(_) => Err(halted(rt, running, Stop::SinkFault)),
         },
@@ -91,7 +93,7 @@ fn take_line<R: Wait, D: Disk, K: Sink, C: Clock, L>(
     ensures later { K.faults sink.old ≤ K.faults sink.new }
 {
     match answer(rt, alloc, running, line, text, steps) {
-        Ok((running, reply)) => print_reply(rt, running, reply, sink),
+        Ok((running, reply)) => print_or_halt(rt, running, reply, sink),
         Err((fault, disk, clock)) => Err((Stop::Lost(fault), disk, clock)),
     }
 }

@@ -6,10 +6,11 @@ use Rattle.gd_replay_laws.specs.Built.{Takes}
 use Rattle.gd_replay_laws.specs.Runs.{BuiltLine}
 use Rattle.gd_replay_laws.specs.Faults.{IsCounted}
 use Rattle.gd_replay_laws.proofs.Bounds.{event_bounded}
+use Rattle.gd_replay_laws.proofs.Faults.{quiet_counted}
 use Rattle.gd_replay_laws.proofs.Below.{later}
+use Rattle.gd_reply.specs.Replies.{reply_text}
 use Rattle.gd_sessions.specs.Running.{core_state}
-use Rattle.gd_replay.specs.Lines.{TellsFault, TellsTooLong}
-use Rattle.gd_replay.proofs.Answered.{answers_more, answers_counted, takes_line, refuses_line, long_line, fault_told_quiet, long_told_quiet}
+use Rattle.gd_replay.proofs.Answered.{answers_more, takes_line, refuses_line, long_line, fault_told_quiet, long_told_quiet}
 use Rattle.gd_replay.proofs.Carried.{along_same}
 use Rattle.gd_replay.proofs.Outcomes.{ok_more}
 use Rattle.gd_replay.proofs.answering.answer.Goals as goal
@@ -38,26 +39,21 @@ returns-in-Ok-clause-answers g c = ok_more c.carry.result _ _
 pub returns-in-Bytes-clause-answers : goal.returns-in-Bytes-clause-answers
 returns-in-Bytes-clause-answers g c = λ tells members piece kept.
     let whole = rw c.in-Bytes.is at kept in
-    let may = g.C.Clock.may c.args.running.side.clock in
-    let s = core_state c.args.running in
     let faults = g.D.Disk.faults c.args.running.side.log.disk in
-    answers_more (λ line. TellsFault c.args.line c.in-Err.fault line × IsCounted c.args.line line faults faults) (λ line. BuiltLine members may s c.args.line piece line s × IsCounted c.args.line line faults faults) c.refuse-reply.result
-    (λ line (told, counted). (
-      refuses_line members may s c.args.line piece c.in-Err.fault line
-          (λ some. subst (λ (bytes : List ℕ). event_from bytes ≡ Err (fault_view c.in-Err.fault)) (c.deref.ensures.value ∙ whole.0) (c.in-Err.ensures.asked some)) told,
-      counted,
-    ))
-    (answers_counted (TellsFault c.args.line c.in-Err.fault) c.args.line faults faults c.refuse-reply.result (fault_told_quiet c.args.line c.in-Err.fault) c.refuse-reply.ensures)
+    let reply = reply_text c.refuse-reply.result in (
+      refuses_line members (g.C.Clock.may c.args.running.side.clock) (core_state c.args.running) c.args.line piece c.in-Err.fault reply
+          (λ some. subst (λ (bytes : List ℕ). event_from bytes ≡ Err (fault_view c.in-Err.fault)) (c.deref.ensures.value ∙ whole.0) (c.in-Err.ensures.asked some)) c.refuse-reply.ensures,
+      quiet_counted c.args.line reply faults faults (fault_told_quiet c.args.line c.in-Err.fault reply c.refuse-reply.ensures),
+    )
 
 pub returns-clause-answers : goal.returns-clause-answers
 returns-clause-answers g c = λ tells members piece kept.
     let long = rw c.in-TooLong.is at kept in
-    let may = g.C.Clock.may c.args.running.side.clock in
-    let s = core_state c.args.running in
     let faults = g.D.Disk.faults c.args.running.side.log.disk in
-    answers_more (λ line. TellsTooLong c.args.line line × IsCounted c.args.line line faults faults) (λ line. BuiltLine members may s c.args.line piece line s × IsCounted c.args.line line faults faults) c.refuse_long-reply.result
-    (λ line (told, counted). (long_line members may s c.args.line piece line long told, counted))
-    (answers_counted (TellsTooLong c.args.line) c.args.line faults faults c.refuse_long-reply.result (long_told_quiet c.args.line) c.refuse_long-reply.ensures)
+    let reply = reply_text c.refuse_long-reply.result in (
+      long_line members (g.C.Clock.may c.args.running.side.clock) (core_state c.args.running) c.args.line piece reply long c.refuse_long-reply.ensures,
+      quiet_counted c.args.line reply faults faults (long_told_quiet c.args.line reply c.refuse_long-reply.ensures),
+    )
 
 pub returns-in-Bytes-clause-below : goal.returns-in-Bytes-clause-below
 returns-in-Bytes-clause-below g c = later c.args.line (core_state c.args.running) c.requires.below

@@ -1,12 +1,11 @@
-use Rattle.std.proofs.Common.{sym, subst}
 use Rattle.gd_runs.specs.Core as core
-use Rattle.gd_replay_laws.specs.Built.{Takes}
 use Rattle.gd_events.specs.Events.{event_view}
-use Rattle.gd_sessions.specs.Running.{core_state, Answers}
-use Rattle.gd_replay.proofs.Carried.{anew_below, taken_below, taken_grows, along_opened, along_stepped, lost_opened}
+use Rattle.gd_reply.specs.Replies.{reply_text}
+use Rattle.gd_sessions.specs.Running.{core_state}
+use Rattle.gd_replay.proofs.Carried.{anew_below, taken_below, taken_grows, due_grows, along_opened, along_stepped, lost_opened}
 use Rattle.gd_replay.proofs.Kept.{hindered}
 use Rattle.gd_replay.proofs.Outcomes.{ok_more, ok_each, err_each}
-use Rattle.gd_replay.proofs.Answered.{may_take, answers_first, reopened_counted}
+use Rattle.gd_replay.proofs.Answered.{may_take, reopened_counted}
 use Rattle.gd_replay.proofs.answering.carry.Goals as goal
 
 pub returns-then-opens_again-clause-takes : goal.returns-then-opens_again-clause-takes
@@ -21,8 +20,7 @@ returns-then-opens_again-clause-takes g c =
 
 pub returns-clause-below : goal.returns-clause-below
 returns-clause-below g c =
-    taken_below (g.C.Clock.may c.args.running.side.clock) (core_state c.args.running) c.args.line c.args.bytes (event_view c.args.event) (core_state c.step-reply.new.self) c.step-reply.result c.requires.below
-    (λ members. answers_first _ _ c.step-reply.result (c.step-reply.ensures.takes members))
+    taken_below (g.C.Clock.may c.args.running.side.clock) (core_state c.args.running) c.args.line c.args.bytes (event_view c.args.event) (core_state c.step-reply.new.self) (reply_text c.step-reply.result) c.requires.below c.step-reply.ensures.takes
 
 pub returns-then-opens_again-clause-below : goal.returns-then-opens_again-clause-below
 returns-then-opens_again-clause-below g c = ok_more c.reopen.result _ _ (λ both anew. anew_below c.args.line (core_state c.args.running) (core_state both.0) both.0.side.history.loaded c.requires.below anew) c.reopen.ensures.anew
@@ -32,7 +30,7 @@ returns-then-opens_again-clause-along g c =
     let may = g.C.Clock.may c.args.running.side.clock in
     ok_each c.reopen.result _ _ _ _ _
     (λ both takes clock opens. along_opened g.D.Disk.content g.D.Disk.faults g.C.Clock.may g.D.Disk.moment g.D.Disk.images g.D.Disk.images_since c.args.running.side both.0.side clock opens
-    (λ tells. taken_grows may (core_state c.args.running) c.args.line 0 core.reopen (core_state both.0) both.1 (λ members. takes tells members may 0)))
+    (λ tells. due_grows may (core_state c.args.running) c.args.line 0 core.reopen (core_state both.0) both.1 (λ members. takes tells members may 0)))
     c.reopen.ensures.takes c.reopen.ensures.clock c.reopen.ensures.disk
 
 pub returns-then-opens_again-clause-lost : goal.returns-then-opens_again-clause-lost
@@ -43,8 +41,8 @@ returns-then-opens_again-clause-lost g c = err_each c.reopen.result _ _ _ _ _ _
 
 pub returns-clause-along : goal.returns-clause-along
 returns-clause-along g c = along_stepped g.D.Disk.content g.D.Disk.faults g.C.Clock.may g.D.Disk.moment g.D.Disk.images g.D.Disk.images_since c.args.running.side c.step-reply.new.self.side c.step-reply.ensures.goes
-    (taken_grows (g.C.Clock.may c.args.running.side.clock) (core_state c.args.running) c.args.line c.args.bytes (event_view c.args.event) (core_state c.step-reply.new.self) c.step-reply.result
-    (λ members. answers_first _ _ c.step-reply.result (c.step-reply.ensures.takes members)))
+    (taken_grows (g.C.Clock.may c.args.running.side.clock) (core_state c.args.running) c.args.line c.args.bytes (event_view c.args.event) (core_state c.step-reply.new.self) (reply_text c.step-reply.result)
+    c.step-reply.ensures.takes)
 
 pub step-reply-requires-clause-may : goal.step-reply-requires-clause-may
 step-reply-requires-clause-may g c = may_take (core_state c.args.running) c.args.line (event_view c.args.event) c.requires.below c.requires.bounded

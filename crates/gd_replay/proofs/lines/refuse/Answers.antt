@@ -1,7 +1,6 @@
-use Rattle.std.proofs.Common.{inr, refl}
-use Rattle.gd_replay.specs.Lines.{TellsFault}
-use Rattle.gd_replay.proofs.Answered.{answers_memory}
+use Rattle.gd_reply.specs.Replies.{reply_text}
+use Rattle.gd_replay.proofs.Answered.{tells_fault_of}
 use Rattle.gd_replay.proofs.lines.refuse.Goals as goal
 
-pub returns-in-Err : goal.returns-in-Err
-returns-in-Err c = answers_memory (TellsFault c.args.line c.args.fault) c.args.line c.memory_line.result (inr refl) c.memory_line.ensures
+pub returns : goal.returns
+returns c = tells_fault_of c.args.line c.args.fault c.fault_line.result (reply_text c.made.result) c.fault_line.ensures.refusal c.fault_line.ensures.memory c.made.ensures

@@ -18,57 +18,57 @@ returns-in-Ok-clause-prints g c =
     let may = g.C.Clock.may c.args.running.side.clock in
     let s = core_state c.args.running in
     let old = g.K.Sink.held c.args.sink.now in
-    let new = g.K.Sink.held c.print_reply.new.sink in
+    let new = g.K.Sink.held c.print_or_halt.new.sink in
     let faults = g.D.Disk.faults in
     let before = faults c.args.running.side.log.disk in
-    ok_two c.print_reply.result _ _ _
+    ok_two c.print_or_halt.result _ _ _
     (λ next is printed. λ tells members bytes kept.
     subst (λ (r : RunningValue _ _). LinePrints members may s c.args.line bytes (core_state r) old new before (faults r.side.log.disk)) (sym is)
     (printed_line members may s (core_state c.in-Ok.running) c.args.line bytes old new before (faults c.in-Ok.running.side.log.disk) c.in-Ok.reply (c.in-Ok.ensures.answers tells members bytes kept) printed))
-    c.print_reply.ensures.same c.print_reply.ensures.printed
+    c.print_or_halt.ensures.same c.print_or_halt.ensures.printed
 
 pub returns-in-Ok-clause-below : goal.returns-in-Ok-clause-below
-returns-in-Ok-clause-below g c = ok_more c.print_reply.result _ _ (λ next is. subst (λ (r : RunningValue _ _). AreBelow (c.args.line + 1) (core_state r)) (sym is) c.in-Ok.ensures.below) c.print_reply.ensures.same
+returns-in-Ok-clause-below g c = ok_more c.print_or_halt.result _ _ (λ next is. subst (λ (r : RunningValue _ _). AreBelow (c.args.line + 1) (core_state r)) (sym is) c.in-Ok.ensures.below) c.print_or_halt.ensures.same
 
 pub returns-in-Ok-clause-along : goal.returns-in-Ok-clause-along
-returns-in-Ok-clause-along g c = ok_more c.print_reply.result _ _ (λ next is. subst (λ (r : RunningValue _ _). GoesAlong g.D.Disk.content g.D.Disk.faults g.C.Clock.may c.args.running.side r.side) (sym is) c.in-Ok.ensures.along) c.print_reply.ensures.same
+returns-in-Ok-clause-along g c = ok_more c.print_or_halt.result _ _ (λ next is. subst (λ (r : RunningValue _ _). GoesAlong g.D.Disk.content g.D.Disk.faults g.C.Clock.may c.args.running.side r.side) (sym is) c.in-Ok.ensures.along) c.print_or_halt.ensures.same
 
 pub returns-in-Ok-clause-stops : goal.returns-in-Ok-clause-stops
 returns-in-Ok-clause-stops g c =
     let may = g.C.Clock.may c.args.running.side.clock in
     let s = core_state c.args.running in
     let old = g.K.Sink.held c.args.sink.now in
-    let new = g.K.Sink.held c.print_reply.new.sink in
+    let new = g.K.Sink.held c.print_or_halt.new.sink in
     let faults = g.D.Disk.faults in
     let before = faults c.args.running.side.log.disk in
-    let rose = Rose (g.K.Sink.faults c.args.sink.now) (g.K.Sink.faults c.print_reply.new.sink) in
-    err_four c.print_reply.result _ _ _ _ _
+    let rose = Rose (g.K.Sink.faults c.args.sink.now) (g.K.Sink.faults c.print_or_halt.new.sink) in
+    err_four c.print_or_halt.result _ _ _ _ _
     (λ halt why front disk holds. λ tells members bytes kept.
     subst (λ d. LineStops members may s c.args.line bytes (Leaves (g.D.Disk.images halt.1)) halt.0 old new before (faults d)) (sym disk)
     (halted_line members may s (core_state c.in-Ok.running) c.args.line bytes (Leaves (g.D.Disk.images halt.1)) halt.0 rose old new before (faults c.in-Ok.running.side.log.disk) c.in-Ok.reply why
     (c.in-Ok.ensures.answers tells members bytes kept) front (holds (tells_on g.D.Disk.content g.D.Disk.faults g.C.Clock.may c.args.running.side c.in-Ok.running.side c.in-Ok.ensures.along tells))))
-    c.print_reply.ensures.halt c.print_reply.ensures.front c.print_reply.ensures.disk c.print_reply.ensures.holds
+    c.print_or_halt.ensures.halt c.print_or_halt.ensures.front c.print_or_halt.ensures.disk c.print_or_halt.ensures.holds
 
 pub returns-in-Ok-clause-caused : goal.returns-in-Ok-clause-caused
-returns-in-Ok-clause-caused g c = err_more c.print_reply.result _ _
-    (λ halt why. halted_cause halt.0 (Rose (g.K.Sink.faults c.args.sink.now) (g.K.Sink.faults c.print_reply.new.sink)) (Rose (g.D.Disk.faults c.args.running.side.log.disk) (g.D.Disk.faults halt.1)) why)
-    c.print_reply.ensures.halt
+returns-in-Ok-clause-caused g c = err_more c.print_or_halt.result _ _
+    (λ halt why. halted_cause halt.0 (Rose (g.K.Sink.faults c.args.sink.now) (g.K.Sink.faults c.print_or_halt.new.sink)) (Rose (g.D.Disk.faults c.args.running.side.log.disk) (g.D.Disk.faults halt.1)) why)
+    c.print_or_halt.ensures.halt
 
 pub returns-in-Ok-clause-disk : goal.returns-in-Ok-clause-disk
-returns-in-Ok-clause-disk g c = err_more c.print_reply.result _ _
+returns-in-Ok-clause-disk g c = err_more c.print_or_halt.result _ _
     (λ halt is. subst (λ d. g.D.Disk.faults c.args.running.side.log.disk ≤ g.D.Disk.faults d) (sym is) c.in-Ok.ensures.along.later)
-    c.print_reply.ensures.disk
+    c.print_or_halt.ensures.disk
 
 pub returns-in-Ok-clause-kept : goal.returns-in-Ok-clause-kept
 returns-in-Ok-clause-kept g c =
     let side = c.args.running.side in
     let along = c.in-Ok.ensures.along in
-    err_three c.print_reply.result _ _ _ _
+    err_three c.print_or_halt.result _ _ _ _
     (λ halt why disk holds. λ tells.
     let now = tells_on g.D.Disk.content g.D.Disk.faults g.C.Clock.may side c.in-Ok.running.side along tells in
-    halted_keeps halt.0 (Rose (g.K.Sink.faults c.args.sink.now) (g.K.Sink.faults c.print_reply.new.sink)) _ _ why
+    halted_keeps halt.0 (Rose (g.K.Sink.faults c.args.sink.now) (g.K.Sink.faults c.print_or_halt.new.sink)) _ _ why
     (leaves_has (g.D.Disk.content halt.1) (g.D.Disk.images halt.1) (batches side.history) (core_state c.in-Ok.running) (subst (λ d. Tells (g.D.Disk.content d)) (sym disk) now) (along.grows tells) (holds now)))
-    c.print_reply.ensures.halt c.print_reply.ensures.disk c.print_reply.ensures.holds
+    c.print_or_halt.ensures.halt c.print_or_halt.ensures.disk c.print_or_halt.ensures.holds
 
 pub returns-in-Err-clause-kept : goal.returns-in-Err-clause-kept
 returns-in-Err-clause-kept g c = λ tells.
