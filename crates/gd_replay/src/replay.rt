@@ -55,7 +55,8 @@ fn stopped<R: Wait, D: Disk, C: Clock>(
     (Err(stop), disk, clock)
 }
 
-/// Reads the lines of an input to its end, answers each over a core that was just opened, and prints its reply.
+/// Reads the lines of an input to its end, answers each over a core that was just opened, and
+/// prints its reply.
 fn replay_lines<R: Wait, D: Disk, S: Source, K: Sink, C: Clock>(
     rt: &R,
     alloc: Global,
@@ -114,8 +115,9 @@ fn sent_on(end: Result<(), Stop>, sent: Result<(), Failed>) -> Result<(), Stop>
     }
 }
 
-/// Runs events over the store that a disk holds: opens it, reads the lines of the input to its end, and prints one reply line
-/// for each that is not blank. The sink is flushed once, at the end. The disk and the clock come back, however it ends.
+/// Runs events over the store that a disk holds: opens it, reads the lines of the input to its end,
+/// and prints one reply line for each that is not blank. The sink is flushed once, at the end. The
+/// disk and the clock come back, however it ends.
 pub fn replay<R: Wait, D: Disk, S: Source, K: Sink, C: Clock>(
     rt: &R,
     alloc: Global,
@@ -124,9 +126,10 @@ pub fn replay<R: Wait, D: Disk, S: Source, K: Sink, C: Clock>(
     sink: &mut K,
     clock: C,
 ) -> (Result<(), Stop>, D, C)
-    // Over a disk that tells its content, what is printed is what the definitions' core replies to the lines of the input, from
-    // the batches on for which the file stands: to all of them, or where the run has stopped between two lines to those before,
-    // or where it has stopped at a line a front of that. What is left on the disk stands for the state that they make. The
+    // Over a disk that tells its content, what is printed is what the definitions' core replies to
+    // the lines of the input, from the batches on for which the file stands: to all of them, or
+    // where the run has stopped between two lines to those before, or where it has stopped at a
+    // line a front of that. What is left on the disk stands for the state that they make. The
     // disk's count of faults rose by at least as many as there are lines that tell one.
     ensures ends { Tells (D.content disk) → (members : MembersOf) → EndsAs result.0
         (IfSome (S.left source.old) (Replays members (C.may clock) (Loads (D.content disk)) (Leaves (D.images result.1)) (RoseBy (D.faults disk) (D.faults result.1)) (K.held sink.old) (K.held sink.new)))
@@ -143,8 +146,9 @@ pub fn replay<R: Wait, D: Disk, S: Source, K: Sink, C: Clock>(
         (Rose (D.faults disk) (D.faults result.1)) (TakesAtLeast (2 ^ 40) (S.left source.old) (S.left source.new) (S.given source.old) (S.given source.new)) }
     ensures disk { D.faults disk ≤ D.faults result.1 }
 
-    // Of a file that is told is kept what it stood for, with further batches behind it; where the store was not opened, a read
-    // and a stop give the same bytes, or what stands for the same batches, and what is said of the file is so.
+    // Of a file that is told is kept what it stood for, with further batches behind it; where the
+    // store was not opened, a read and a stop give the same bytes, or what stands for the same
+    // batches, and what is said of the file is so.
     ensures kept { ForSome (D.content disk) (λ file. KeepsAs result.0
         ((bs : List Batch) × StandsFor file bs × HasBatches (D.content result.1) (D.images result.1) bs)
         (λ fault. IsKept D.content D.moment D.images D.images_since file disk result.1 × Refuses fault (meaning file))) }

@@ -98,8 +98,8 @@ fn take_line<R: Wait, D: Disk, K: Sink, C: Clock, L>(
     }
 }
 
-/// Takes a piece of the input, which is a line unless it is blank, and gives the number of the next line with the core. An
-/// error: the run stops at it.
+/// Takes a piece of the input, which is a line unless it is blank, and gives the number of the next
+/// line with the core. An error: the run stops at it.
 pub(crate) fn take_piece<R: Wait, D: Disk, K: Sink, C: Clock, L>(
     rt: &R,
     alloc: Global,

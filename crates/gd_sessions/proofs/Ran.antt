@@ -7,12 +7,12 @@ use Rattle.gd_base.specs.declared.memory.Memory.{Memory}
 use Rattle.gd_runs.specs.Explained.{memory_line}
 use Rattle.std.proofs.lemmas.List.{length-set}
 use Rattle.gd_prim.specs.declared.Batch.{Batch}
-use Rattle.gd_defs.specs.Write.{WriteRequest, ChangeFault}
+use Rattle.gd_defs.specs.Write.{WriteRequest}
 use Rattle.gd_runs.specs.Owed.{MembersOf}
 use Rattle.gd_runs.specs.Legal.{batches}
 use Rattle.gd_runs.specs.Request.{ReadRequest}
 use Rattle.gd_runs.specs.Core.{Session, State, with_session, entered, BeginStep, SliceStep, LearnStep, WriteStep}
-use Rattle.gd_runs.specs.Side.{Kept, kept_stored, kept_late, kept_refused, kept_doubt, kept_unsettled, kept_memory, WriteKeeps, stores, stores_late, refuses, doubts, leaves_doubt, lacks_memory, lacks_memory_settled, is_fault}
+use Rattle.gd_runs.specs.Side.{Kept, kept_stored, kept_late, kept_refused, kept_doubt, kept_unsettled, kept_memory, WriteKeeps, lacks_memory, is_fault}
 use Rattle.gd_runs.proofs.Rounds.{length_batches}
 use Rattle.gd_core_laws.specs.Round.{kept_reply}
 use Rattle.gd_replay_laws.specs.Faults.{IsCounted}
@@ -24,7 +24,7 @@ use Rattle.gd_read.specs.Left.{IsPastIds}
 use Rattle.gd_read.specs.Session.{reads, session_left}
 use Rattle.gd_sessions.specs.Sessions.{new_session, in_session, BeginsAs, SlicesAs, LearnsAs}
 use Rattle.gd_sessions.specs.Held.{session_view, sessions_of, IsGoingOn}
-use Rattle.gd_sessions.specs.Writes.{IsToldKept, TellsKept, WritesFor}
+use Rattle.gd_sessions.specs.Writes.{IsToldKept, WritesFor}
 use Rattle.gd_sessions.specs.Running.{IsRunning, IsSliced}
 use Rattle.gd_sessions.proofs.Steps.{session_stays, begin_step, slice_step, learn_step}
 use Rattle.gd_sessions.proofs.Growing.{write_grows}
@@ -173,25 +173,7 @@ writes_none may faults side new k bytes w before reply same none told =
 
 -- ---- what was kept is told
 
--- of a refusal it may be told that there was no memory: what settled before it stays
-forget_refusal : (may : ℕ → Bool) (s : State) (k bytes : ℕ) (w : WriteRequest) (kept : Kept) (t : State) (f : ChangeFault) (n : ℕ) → kept ≡ kept_refused f n → WriteKeeps may s k bytes w kept t → WriteKeeps may s k bytes w kept_memory t
-forget_refusal may s k bytes w _ _ f n is (stores t e can) = absurd (cc)
-forget_refusal may s k bytes w _ _ f n is (stores_late t e can) = absurd (cc)
-forget_refusal may s k bytes w _ _ f n is (refuses t moment g settled does) = lacks_memory_settled t settled
-forget_refusal may s k bytes w _ _ f n is (doubts t e can) = absurd (cc)
-forget_refusal may s k bytes w _ _ f n is (leaves_doubt e doubt) = absurd (cc)
-forget_refusal may s k bytes w _ _ f n is lacks_memory = lacks_memory
-forget_refusal may s k bytes w _ _ f n is (lacks_memory_settled t settled) = lacks_memory_settled t settled
-
 pub writes_told : {D C : Type 0} (may : ℕ → Bool) (faults : D → ℕ) (side new : SideValue D C) (k bytes : ℕ) (w : WriteRequest) (kept : Kept) (before after : Held) (reply : List ℕ)
     → ((sessions : ℕ → Session) → WriteKeeps may (state_of side sessions) k bytes w kept (state_of new sessions)) → new.outcomes ≡ [] → IsToldKept kept (length new.shown) before after
-    → (is_fault kept ≡ true → Rose (faults side.log.disk) (faults new.log.disk)) → TellsKept k kept reply → WritesFor may faults side k bytes w new before after reply
-writes_told may faults side new k bytes w (kept_refused f n) before after reply step none told fault tells = ⊎_elim
-    (λ is. record { kept = kept_refused f n; step = step; outcomes = none; told = told; reply = is; fault = fault })
-    (λ is. record { kept = kept_memory; step = λ sessions. forget_refusal may (state_of side sessions) k bytes w (kept_refused f n) (state_of new sessions) f n refl (step sessions); outcomes = none; told = told; reply = is; fault = λ bad. absurd (cc) })
-    tells
-writes_told may faults side new k bytes w (kept_stored e r) before after reply step none told fault tells = record { kept = kept_stored e r; step = step; outcomes = none; told = told; reply = tells; fault = fault }
-writes_told may faults side new k bytes w (kept_late e) before after reply step none told fault tells = record { kept = kept_late e; step = step; outcomes = none; told = told; reply = tells; fault = fault }
-writes_told may faults side new k bytes w (kept_doubt n) before after reply step none told fault tells = record { kept = kept_doubt n; step = step; outcomes = none; told = told; reply = tells; fault = fault }
-writes_told may faults side new k bytes w kept_unsettled before after reply step none told fault tells = record { kept = kept_unsettled; step = step; outcomes = none; told = told; reply = tells; fault = fault }
-writes_told may faults side new k bytes w kept_memory before after reply step none told fault tells = record { kept = kept_memory; step = step; outcomes = none; told = told; reply = tells; fault = fault }
+    → (is_fault kept ≡ true → Rose (faults side.log.disk) (faults new.log.disk)) → reply ≡ kept_reply k kept → WritesFor may faults side k bytes w new before after reply
+writes_told may faults side new k bytes w kept before after reply step none told fault is = record { kept = kept; step = step; outcomes = none; told = told; reply = is; fault = fault }

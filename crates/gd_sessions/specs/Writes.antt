@@ -1,10 +1,9 @@
 -- What a write does to the write side and to the session that asks for it.
-use Rattle.std.specs.Prelude.{◌≡◌, ◌⊎◌, ℕ, ◌+◌, ◌<◌, max, min, List, [], length, Bool, true}
+use Rattle.std.specs.Prelude.{◌≡◌, ℕ, ◌+◌, ◌<◌, max, min, List, [], length, Bool, true}
 use Rattle.gd_base.specs.Counts.{Rose}
 use Rattle.gd_defs.specs.Write.{WriteRequest}
 use Rattle.gd_runs.specs.Core.{Session}
-use Rattle.gd_runs.specs.Explained.{memory_line}
-use Rattle.gd_runs.specs.Side.{Kept, kept_stored, kept_refused, WriteKeeps, is_fault}
+use Rattle.gd_runs.specs.Side.{Kept, kept_stored, WriteKeeps, is_fault}
 use Rattle.gd_core_laws.specs.Round.{kept_reply}
 use Rattle.gd_writer.specs.Side.{SideValue, state_of}
 use Rattle.gd_sessions.specs.declared.held.Held.{Held}
@@ -18,11 +17,6 @@ IsShown shown _ = Unit {0}
 abbrev pub IsToldKept : Kept → ℕ → Held → Held → Type 0
 IsToldKept (kept_stored e r) shown old new = new ≡ record { seen = min shown (max (e + 1) old.seen); state = old.state }
 IsToldKept _ shown old new = new ≡ old
-
--- what is kept of line k is told, or of a refusal that there was no memory
-abbrev pub TellsKept : ℕ → Kept → List ℕ → Type 0
-TellsKept k (kept_refused f n) reply = (reply ≡ kept_reply k (kept_refused f n)) ⊎ (reply ≡ memory_line k)
-TellsKept k kept reply = reply ≡ kept_reply k kept
 
 -- a write of line k of so many bytes is carried out and its session is told, and the reply is the one to what was kept
 pub record WritesFor {D C : Type 0} (may : ℕ → Bool) (faults : D → ℕ) (old : SideValue D C) (k bytes : ℕ) (w : WriteRequest) (new : SideValue D C) (before after : Held) (told_line : List ℕ) : Type 0 where

@@ -55,8 +55,9 @@ impl Held {
         self.state = state;
     }
 
-    /// Begins a read over the requests of the store that are shown, and tells so, or tells why it does not begin. What the
-    /// session held is dropped. `Memory`: there was none, and the session stays.
+    /// Begins a read over the requests of the store that are shown, and tells so, or tells why it
+    /// does not begin. What the session held is dropped. `Memory`: there was none, and the session
+    /// stays.
     pub(crate) fn begin<L>(
         &mut self,
         alloc: Global,
@@ -87,9 +88,10 @@ impl Held {
         }
     }
 
-    /// Goes on with the reading that is held for a budget of steps, and tells that it is unfinished, or gives the reply that
-    /// it owes, and holds it no more. Without a reading it tells so. `Memory`: there was none, and the reading stays or is
-    /// dropped. It takes at most 1,024 steps more than the budget.
+    /// Goes on with the reading that is held for a budget of steps, and tells that it is
+    /// unfinished, or gives the reply that it owes, and holds it no more. Without a reading it
+    /// tells so. `Memory`: there was none, and the reading stays or is dropped. It takes at most
+    /// 1,024 steps more than the budget.
     pub(crate) fn slice<L>(
         &mut self,
         alloc: Global,
@@ -140,7 +142,8 @@ impl Held {
         self.seen = shown.min(dateline.max(self.seen));
     }
 
-    /// Learns of a dateline, and tells so, or that it is above what is shown. `Memory`: there was none, and the session stays.
+    /// Learns of a dateline, and tells so, or that it is above what is shown. `Memory`: there was
+    /// none, and the session stays.
     pub(crate) fn learn(
         &mut self,
         alloc: Global,

@@ -41,9 +41,9 @@ use std::sync::Wait;
 /// How many sessions there are, counted from 0.
 const SESSIONS: u32 = 64;
 
-/// A core that is open, on one thread: what is stored, how much of it is shown, the write in doubt, and what each session
-/// has seen and reads. It is ended by `close` alone. Contracts see its write side and its sessions, and by `core_state` the
-/// state of the core that it is in.
+/// A core that is open, on one thread: what is stored, how much of it is shown, the write in doubt,
+/// and what each session has seen and reads. It is ended by `close` alone. Contracts see its write
+/// side and its sessions, and by `core_state` the state of the core that it is in.
 pub struct Running<D: Disk, C: Clock> {
     side: WriteSide<D, C>,
     held: Vec<Held>,
@@ -96,9 +96,10 @@ fn reopened(alloc: Global, requests: u32, line: u64) -> Result<Reply, Memory>
 }
 
 impl<D: Disk, C: Clock> Running<D, C> {
-    /// Opens the store that a disk holds: all is shown, and nobody holds or has seen anything. It waits for nobody, since
-    /// there is no reader yet. An error hands the disk and the clock back; it is one of `open_log`: `NotStore`, `Damaged`,
-    /// `DiskFault`, or `Memory`, also for the sessions.
+    /// Opens the store that a disk holds: all is shown, and nobody holds or has seen anything. It
+    /// waits for nobody, since there is no reader yet. An error hands the disk and the clock back;
+    /// it is one of `open_log`: `NotStore`, `Damaged`, `DiskFault`, or `Memory`, also for the
+    /// sessions.
     pub fn start<R: Wait>(
         rt: &R,
         alloc: Global,
@@ -144,10 +145,11 @@ impl<D: Disk, C: Clock> Running<D, C> {
         }
     }
 
-    /// Closes the store and opens it again, and tells how many requests it has: all is shown, and nobody holds or has seen
-    /// anything. Closing waits for readers. Where there is no memory for new sessions nothing is done, and the reply says so.
-    /// The reply may be `Memory`: there was none for it, and it is due. An error is one of `start`; the core is gone then, and
-    /// the disk and the clock come back.
+    /// Closes the store and opens it again, and tells how many requests it has: all is shown, and
+    /// nobody holds or has seen anything. Closing waits for readers. Where there is no memory for
+    /// new sessions nothing is done, and the reply says so. The reply may be `Memory`: there was
+    /// none for it, and it is due. An error is one of `start`; the core is gone then, and the disk
+    /// and the clock come back.
     pub fn reopen<R: Wait>(
         self,
         rt: &R,
@@ -215,7 +217,8 @@ impl<D: Disk, C: Clock> Running<D, C> {
         shown_of(&self.side)
     }
 
-    /// A session begins a read, and drops the reading that it held. `Memory`: there was none, and nothing has changed.
+    /// A session begins a read, and drops the reading that it held. `Memory`: there was none, and
+    /// nothing has changed.
     fn try_begin<L>(
         &mut self,
         alloc: Global,
@@ -236,8 +239,8 @@ impl<D: Disk, C: Clock> Running<D, C> {
         held.begin(alloc, self.side.store(), shown, line, request, steps)
     }
 
-    /// A session goes on with its reading for a budget of steps. `Memory`: there was none, and nothing has changed but that
-    /// the reading may be gone.
+    /// A session goes on with its reading for a budget of steps. `Memory`: there was none, and
+    /// nothing has changed but that the reading may be gone.
     fn try_slice<L>(
         &mut self,
         alloc: Global,
@@ -366,8 +369,9 @@ impl<D: Disk, C: Clock> Running<D, C> {
         Reply::made(line, unbuilt_line(alloc, line))
     }
 
-    /// Carries an event out and gives its reply; `line` and `bytes` are the number and the length of its line. Opening
-    /// the store again is no matter of this call. A write waits for readers as it is published.
+    /// Carries an event out and gives its reply; `line` and `bytes` are the number and the length
+    /// of its line. Opening the store again is no matter of this call. A write waits for readers as
+    /// it is published.
     pub fn step<R: Wait, L>(
         &mut self,
         rt: &R,
@@ -382,15 +386,17 @@ impl<D: Disk, C: Clock> Running<D, C> {
         requires may { MayTake self.old.side.history self.old.side.doubt line (event_view event) }
         requires goes_by { GoesBy (event_view event) }
 
-        // The reply and the new state are what the event comes to, and the reply tells a failure of the disk only where the
-        // disk's count rose.
+        // The reply and the new state are what the event comes to, and the reply tells a failure of
+        // the disk only where the disk's count rose.
         ensures takes { (members : MembersOf) → Takes members (C.may self.old.side.clock) (core_state self.old) line bytes (event_view event) (reply_text result) (core_state self.new) }
         ensures counted { IsCounted line (reply_text result) (D.faults self.old.side.log.disk) (D.faults self.new.side.log.disk) }
 
-        // What the disk holds stays what the core has; a stop leaves what it had before or has after.
+        // What the disk holds stays what the core has; a stop leaves what it had before or has
+        // after.
         ensures goes { GoesOn D.content D.moment D.images D.images_since D.faults C.may self.old.side self.new.side }
 
-        // A slice leaves a reading only where its budget was reached, and what is left of the reading falls by its steps.
+        // A slice leaves a reading only where its budget was reached, and what is left of the
+        // reading falls by its steps.
         ensures sliced { SlicesBy (event_view event) self.old self.new steps.old steps.new }
         ensures later { steps.old ≤ steps.new }
     {
@@ -411,7 +417,8 @@ impl<D: Disk, C: Clock> Running<D, C> {
     pub fn close<R: Wait>(self, rt: &R) -> (D, C)
         ensures parts { result ≡ (self.side.log.disk, self.side.clock) }
 
-        // All that a stop leaves of a disk that tells its content is the history, with all or none of the write in doubt.
+        // All that a stop leaves of a disk that tells its content is the history, with all or none
+        // of the write in doubt.
         ensures holds { Tells (D.content result.0) → (file : List ℕ) → D.images result.0 file → StandsForState (core_state self) file }
     {
         // It is said here what the write side keeps.
