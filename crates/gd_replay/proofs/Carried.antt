@@ -13,7 +13,7 @@ use Rattle.gd_replay_laws.specs.Runs.{AreBelow}
 use Rattle.gd_replay_laws.proofs.Below.{later, opened_below, takes_below}
 use Rattle.gd_writer.specs.Parts.{Tells}
 use Rattle.gd_writer.specs.Side.{SideValue, GoesOn}
-use Rattle.gd_sessions.specs.Opened.{Opens}
+use Rattle.gd_writer.specs.Opened.{Opens}
 use Rattle.gd_reply.specs.declared.reply.Reply.{Reply}
 use Rattle.gd_sessions.specs.Running.{Answers}
 use Rattle.gd_replay.specs.Kept.{Grows, IsHindrance}

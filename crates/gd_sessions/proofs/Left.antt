@@ -14,7 +14,7 @@ use Rattle.gd_runs.specs.Core.{Session}
 use Rattle.gd_writer.specs.Parts.{Tells}
 use Rattle.gd_writer.specs.Side.{SideValue, state_of, KeepsAll}
 use Rattle.gd_sessions.specs.Running.{StandsForState}
-use Rattle.gd_sessions.specs.Opened.{Opens}
+use Rattle.gd_writer.specs.Opened.{Opens}
 
 module _ {D : Type 0} (content : D → Option (List ℕ)) (moment : D → ℕ) (images : D → List ℕ → Type 0) (images_since : D → ℕ → List ℕ → Type 0) (faults : D → ℕ) where
   pub opens_same : ((disk : D) (c : List ℕ) → images_since disk (moment disk) c → images disk c) → (d : D) → Opens content moment images images_since faults d d

@@ -1,4 +1,3 @@
-pub mod Opened
 pub mod Served
 pub mod Rounds
 pub mod Working

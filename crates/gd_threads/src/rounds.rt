@@ -13,7 +13,7 @@ ghost use Rattle.gd_input.specs.Line.{IsShort};
 ghost use Rattle.gd_input.specs.Rounds.{AreKept};
 ghost use Rattle.gd_runs.specs.Explained.{Numbered};
 ghost use Rattle.gd_shared.specs.Shared.{IsNewSeat};
-ghost use Rattle.gd_threads.specs.Opened.{Opens};
+ghost use Rattle.gd_writer.specs.Opened.{Opens};
 ghost use Rattle.gd_writer.specs.Parts.{Tells};
 ghost use Rattle.gd_writer.specs.Side.{Begins};
 ghost use Rattle.gd_reply.specs.Replies.{reply_text};
