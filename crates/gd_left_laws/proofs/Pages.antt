@@ -27,17 +27,13 @@ use Rattle.gd_match_laws.specs.Laws.{AtEnd}
 use Rattle.gd_match_laws.specs.Rows.{rows_order}
 use Rattle.gd_match_laws.proofs.Laws.{runs_give}
 use Rattle.gd_window.specs.Kept.{Kept}
+use Rattle.gd_list_laws.proofs.Fronts.{take_longer}
 use Rattle.gd_window.specs.Laws.{RowsBehindAreAsDefined}
 use Rattle.gd_suspended_laws.specs.Standing.{rows_of, page_rows, page_objects, IsOrderOf, HasScanned, trees_among, weight_among}
 use Rattle.gd_suspended_laws.proofs.Building.{numbered}
 use Rattle.gd_suspended_laws.proofs.Gathered.{trees_built, weight_built}
 use Rattle.gd_suspended_laws.proofs.Windows.{best_of, keeps_best}
 use Rattle.gd_left_laws.specs.Laws.{KeepsPage, IsLightPage}
-
-take_longer : {A : Type 0} (n : ℕ) (xs : List A) → take n (take (suc n) xs) ≡ take n xs
-take_longer zero xs = refl
-take_longer (suc n) [] = refl
-take_longer (suc n) (x ∷ xs) = ap (λ l. x ∷ l) (take_longer n xs)
 
 pub scan_page : RowsBehindAreAsDefined → (prims : List Primitive) (written : Query) (q : Asked) → AreHeld prims → asked_query prims written ≡ Ok q → (order : ScanOrder) (after : Option Mark) (s : Scan) (w : Kept)
     → IsOrderOf prims q order → HasScanned prims q after order s w → AtEnd prims order (template_of q) s → KeepsPage prims q after w
