@@ -382,15 +382,12 @@ class Pipe:
 
 
 class Asked:
-    """Lines that a thread has asked, at most a round of them: the replies, or the status of a program that ended before it had answered.
-
-    `done` is held until one of them is there.
-    """
+    """Lines that a thread has asked, at most a round of them: the replies, or why there are none. `done` is held until either is there."""
 
     def __init__(self, lines: List[bytes]) -> None:
         self.lines = lines
         self.replies: List[bytes] = []
-        self.status: Optional[int] = None
+        self.failed: Optional[Exception] = None
         self.done = threading.Lock()
         self.done.acquire()
 
@@ -507,8 +504,8 @@ class Store:
                 raise Ended(self.pipe.close())
             self._asked.put(asked)
         asked.done.acquire()
-        if asked.status is not None:
-            raise Ended(asked.status)
+        if asked.failed is not None:
+            raise asked.failed
         return asked.replies
 
     def _answer(self) -> None:
@@ -532,14 +529,15 @@ class Store:
 
     def _give(self, chosen: List[Asked]) -> None:
         """Sends a round, and gives each who asked the replies, which come in the order of the lines."""
+        lines = [line + b"\n" for asked in chosen for line in asked.lines]
         try:
-            replies = self.pipe.ask(b"".join(line + b"\n" for asked in chosen for line in asked.lines) + b"\n", sum(len(asked.lines) for asked in chosen))
-        except Ended as ended:
+            replies = iter(self.pipe.ask(b"".join(lines) + b"\n", len(lines)))
             for asked in chosen:
-                asked.status = ended.status
+                asked.replies = list(itertools.islice(replies, len(asked.lines)))
+        except Exception as failed:
+            for asked in chosen:
+                asked.failed = failed
         for asked in chosen:
-            if asked.status is None:
-                asked.replies, replies = replies[:len(asked.lines)], replies[len(asked.lines):]
             asked.done.release()
 
     def close(self) -> int:
