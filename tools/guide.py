@@ -10,11 +10,14 @@ folder, where `tools`, `examples` and `graphd` are those of the repository; what
 another program than the one that is built here, and then no session runs any other. The status is 0 where all pages are as wanted, 1
 where one is not, and 2 where the words are wrong.
 """
+from __future__ import annotations
+
 import os
 import re
 import subprocess
 import sys
 import tempfile
+from typing import List, Optional, Tuple
 
 TOP = os.path.dirname(os.path.dirname(os.path.abspath(__file__)))
 # Sessions run in another folder, so the program is named by its whole path, and what it is is settled before anything asks for it.
@@ -27,9 +30,9 @@ SESSION = re.compile(r"(?m)^    \$ .*\n(?:    .*\n|\n(?=    ))*")
 PROMPT = re.compile(r"(?:graphd> |   \.\.\.> )(.*)")
 
 
-def commands(block):
+def commands(block: str) -> List[Tuple[str, List[str]]]:
     """The commands of a session, each with the lines below it."""
-    found = []
+    found: List[Tuple[str, List[str]]] = []
     for line in block.split("\n")[:-1]:
         line = line[4:]
         if line.startswith("$ "):
@@ -39,7 +42,7 @@ def commands(block):
     return found
 
 
-def printed(command, below, folder):
+def printed(command: str, below: List[str], folder: str) -> str:
     """What a command prints; to the shell the lines behind its prompts are typed."""
     typed = "".join(found.group(1) + "\n" for found in map(PROMPT.fullmatch, below) if found)
     if command.startswith("tools/shell") and typed:
@@ -51,14 +54,15 @@ def printed(command, below, folder):
     return done.stdout
 
 
-def rewritten(page, folder):
-    def session(found):
+def rewritten(page: str, folder: str) -> str:
+    """A page whose sessions of the command line print what they print now, run in a folder that has the tools."""
+    def session(found: re.Match) -> str:
         text = "".join("$ %s\n%s" % (command, printed(command, below, folder)) for command, below in commands(found.group(0)))
         return "".join(("    " + line).rstrip() + "\n" for line in text.split("\n")[:-1])
     return SESSION.sub(session, page)
 
 
-def differs(name, before, after):
+def differs(name: str, before: str, after: str) -> Optional[str]:
     """Says where a page shows anything else than its sessions print, if it does."""
     for number, (shown, said) in enumerate(zip(before.split("\n"), after.split("\n")), 1):
         if shown != said:
@@ -66,7 +70,7 @@ def differs(name, before, after):
     return "the sessions print more or less than %s shows" % name if before != after else None
 
 
-def checked(name, is_check):
+def checked(name: str, is_check: bool) -> bool:
     """Runs the sessions of a page, and writes it or compares; gives whether it is as wanted."""
     with open(os.path.join(TOP, name), encoding="utf-8") as text:
         before = text.read()
@@ -84,13 +88,13 @@ def checked(name, is_check):
     return fault is None
 
 
-def main():
+def main() -> int:
     words = sys.argv[1:]
     if "--help" in words or "-h" in words:
-        print(__doc__.strip())
+        print((__doc__ or "").strip())
         return 0
     is_check = words[:1] == ["--check"]
-    names = [os.path.relpath(os.path.abspath(name), TOP) for name in words[is_check:]] or PAGES
+    names = [os.path.relpath(os.path.abspath(name), TOP) for name in words[is_check:]] or list(PAGES)
     unknown = [name for name in names if not os.path.isfile(os.path.join(TOP, name))]
     if unknown:
         print("guide.py: %s is no page; guide.py --help shows the words" % unknown[0], file=sys.stderr)
