@@ -1,13 +1,15 @@
 -- An event that was carried out: what stays, and which lines stand before.
-use Rattle.std.proofs.Common.{◌≡◌, ℕ, ◌+◌, List, Bool, Option, Result, ⊎_elim, ◌⊎◌, refl, sym, subst, ◌∙◌, arith, IsTrue}
+use Rattle.std.proofs.Common.{◌≡◌, ℕ, ◌+◌, List, [], ◌∷◌, ◌++◌, Bool, Option, Some, None, Result, Ok, Err, OnErr, ⊎_elim, ◌⊎◌, inl, inr, append-nil, refl, sym, subst, ◌∙◌, arith, IsTrue}
 use Rattle.gd_base.specs.declared.memory.Memory.{Memory}
 use Rattle.gd_base.specs.Counts.{Rose}
 use Rattle.gd_prim.specs.declared.Batch.{Batch}
 use Rattle.gd_journal.specs.declared.fault.JournalFault.{JournalFault}
 use Rattle.gd_journal.specs.declared.fault.JournalFault.TheVariants as journal
 use Rattle.gd_runs.specs.Owed.{MembersOf}
-use Rattle.gd_runs.specs.Legal.{batches}
-use Rattle.gd_runs.specs.Core.{Event, State, opened}
+use Rattle.gd_bytes.specs.File.{StandsFor, MayStandFor}
+use Rattle.gd_runs.specs.Side.{doubt_groups}
+use Rattle.gd_runs.specs.Legal.{Entry, batches}
+use Rattle.gd_runs.specs.Core.{Event, State, opened, reopen, ReopenStep}
 use Rattle.gd_replay_laws.specs.Built.{Takes}
 use Rattle.gd_replay_laws.specs.Runs.{AreBelow}
 use Rattle.gd_replay_laws.proofs.Below.{later, opened_below, takes_below}
@@ -15,9 +17,9 @@ use Rattle.gd_writer.specs.Parts.{Tells}
 use Rattle.gd_writer.specs.Side.{SideValue, GoesOn}
 use Rattle.gd_writer.specs.Opened.{Opens}
 use Rattle.gd_reply.specs.declared.reply.Reply.{Reply}
-use Rattle.gd_sessions.specs.Running.{Answers}
+use Rattle.gd_sessions.specs.Running.{Answers, StandsForState}
 use Rattle.gd_replay.specs.Kept.{Grows, IsHindrance}
-use Rattle.gd_replay.specs.Stops.{Leaves, GoesAlong, IsLost}
+use Rattle.gd_replay.specs.Stops.{Leaves, StandsBefore, GoesAlong, IsLost}
 use Rattle.gd_replay.proofs.Answered.{answers_say}
 use Rattle.gd_replay.proofs.Grown.{grows_same, grows_then, takes_grows}
 
@@ -47,6 +49,36 @@ pub due_grows : (may : ℕ → Bool) (s : State) (k bytes : ℕ) (e : Event) (t 
 due_grows may s k bytes e t reply takes =
     let none : MembersOf = λ prims hop template. 0 in
     answers_say (λ line. Takes none may s k bytes e line t) (Grows (batches s.history) (batches t.history)) reply (λ line taken. takes_grows none may s k bytes e line t taken) (takes none)
+
+-- ---- a store that was opened again
+
+-- what stands for batches stands for them whatever is in doubt
+whatever_doubt : (bs : List Batch) (d : Option Entry) (file : List ℕ) → StandsFor file bs → MayStandFor bs (doubt_groups d) file
+whatever_doubt bs None file stands = stands
+whatever_doubt bs (Some e) file stands = inl stands
+
+-- what stands for a store that was opened with batches stands for them
+opened_stands : (bs : List Batch) (t : State) (file : List ℕ) → t ≡ opened bs → StandsForState t file → StandsFor file bs
+opened_stands bs t file is stands = subst (StandsFor file) (append-nil bs) (subst (λ (u : State). StandsForState u file) is stands)
+
+reopened_before : (s : State) (k : ℕ) (line : List ℕ) (t : State) → ReopenStep s k line t → StandsBefore s t
+reopened_before s k line t step = λ file stands. ⊎_elim
+    (λ without. whatever_doubt (batches s.history) s.doubt file (opened_stands (batches s.history) t file without stands))
+    (λ (e, doubt, with_it). subst (λ (d : Option Entry). MayStandFor (batches s.history) (doubt_groups d) file) (sym doubt) (inr (opened_stands (batches s.history ++ e.batch ∷ []) t file with_it stands)))
+    step.1
+
+takes_before : (members : MembersOf) (may : ℕ → Bool) (s : State) (k bytes : ℕ) (line : List ℕ) (t : State) → Takes members may s k bytes reopen line t → StandsBefore s t
+takes_before members may s k bytes line t takes = ⊎_elim
+    (λ step. reopened_before s k line t step)
+    (λ lacks. λ file stands. subst (λ (u : State). StandsForState u file) lacks.1 stands)
+    takes
+
+-- where there was no memory for its reply
+pub unmade_before : (may : ℕ → Bool) (s : State) (k bytes : ℕ) (t : State) (reply : Result Reply Memory) → ((members : MembersOf) → Answers (λ line. Takes members may s k bytes reopen line t) reply) → OnErr reply (StandsBefore s t)
+unmade_before may s k bytes t (Ok made) takes = tt
+unmade_before may s k bytes t (Err none) takes =
+    let zero : MembersOf = λ prims hop template. 0 in
+    let (line, taken) = takes zero in takes_before zero may s k bytes line t taken
 
 -- ---- the clock and the disk
 

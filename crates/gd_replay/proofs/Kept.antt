@@ -57,13 +57,13 @@ input_keeps input.TooMuch P U kept = kept
 input_keeps input.Memory P U kept = kept
 
 -- a reply was not printed
-pub halted_keeps : (why : Stop) (rose P : Type 0) (U : JournalFault → Type 0) → IsHalt why rose → P → KeepsAs (Err why) P U
-halted_keeps stop.SinkFault rose P U halt kept = kept
-halted_keeps stop.Memory rose P U halt kept = kept
-halted_keeps stop.ReadFault rose P U halt kept = absurd halt
-halted_keeps stop.TooMuch rose P U halt kept = absurd halt
-halted_keeps (stop.Unopened f) rose P U halt kept = absurd halt
-halted_keeps (stop.Lost f) rose P U halt kept = absurd halt
+pub halted_keeps : (why : Stop) (rose unmade P : Type 0) (U : JournalFault → Type 0) → IsHalt why rose unmade → P → KeepsAs (Err why) P U
+halted_keeps stop.SinkFault rose unmade P U halt kept = kept
+halted_keeps stop.Memory rose unmade P U halt kept = kept
+halted_keeps stop.ReadFault rose unmade P U halt kept = absurd halt
+halted_keeps stop.TooMuch rose unmade P U halt kept = absurd halt
+halted_keeps (stop.Unopened f) rose unmade P U halt kept = absurd halt
+halted_keeps (stop.Lost f) rose unmade P U halt kept = absurd halt
 
 -- the output was sent on or was not
 pub sent_keeps : (end : Result (Unit {0}) Stop) (sent : Result (Unit {0}) Failed) (result : Result (Unit {0}) Stop) (P : Type 0) (U : JournalFault → Type 0) → EndsSent end sent result → KeepsAs end P (λ f. ⊥) → KeepsAs result P U

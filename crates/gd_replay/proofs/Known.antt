@@ -1,8 +1,9 @@
 -- The same where the input is known, and nothing where it is not.
-use Rattle.std.proofs.Common.{◌≡◌, ℕ, ◌≤◌, Bool, true, false, List, [], ◌++◌, length, take, Option, Some, None, IfSome, Result, Ok, Err, OnErr, OnOk, refl, sym, subst, ap, ◌∙◌, arith, length-append, append_assoc, append-nil, take_all}
+use Rattle.std.proofs.Common.{◌≡◌, ℕ, ◌+◌, ◌≤◌, Bool, true, false, List, [], ◌++◌, length, take, Option, Some, None, IfSome, Result, Ok, Err, OnErr, OnOk, refl, sym, subst, ap, ◌∙◌, arith, length-append, append_assoc, append-nil, take_all}
 use Rattle.std.specs.Io.KnownBytes.{Keeps, prepend_known}
 use Rattle.std.proofs.KnownBytes.{Consumes-nil, Appends-kept, Keeps-refl}
 use Rattle.gd_base.specs.Counts.{RoseBy}
+use Rattle.gd_replay_laws.proofs.Faults.{rose_then}
 use Rattle.gd_prim.specs.declared.Batch.{Batch}
 use Rattle.gd_outside.specs.declared.Failed.{Failed}
 use Rattle.gd_runs.specs.Owed.{MembersOf}
@@ -17,10 +18,16 @@ use Rattle.gd_journal.specs.declared.fault.JournalFault.{JournalFault}
 use Rattle.gd_journal.specs.declared.fault.JournalFault.TheVariants as journal
 use Rattle.gd_replay.specs.declared.stop.Stop.{Stop}
 use Rattle.gd_replay.specs.declared.stop.Stop.TheVariants as stop
-use Rattle.gd_replay.specs.Stops.{stop_of, IsCaused, EndsAs, EndsBy, EndsSent}
+use Rattle.gd_replay.specs.Stops.{stop_of, IsCaused, end_faults, RoseWith, EndsAs, EndsBy, EndsSent}
 use Rattle.gd_replay.specs.Replays.{Accounts, Replays, ReplaysTaken, ReplaysFront}
-use Rattle.gd_replay.specs.Runs.{PiecePrints, PieceStops, RunUpto}
-use Rattle.gd_replay.proofs.Upto.{upto_start, upto_more, upto_end, upto_taken, taken_front, upto_front}
+use Rattle.gd_replay.specs.Runs.{LineLost, PiecePrints, PieceStops, RunUpto}
+use Rattle.gd_replay.proofs.Upto.{upto_start, upto_more, upto_end, upto_taken, upto_front}
+
+-- ---- counts
+
+-- an end that is no failure of the disk
+rose_alone : (a b n : ℕ) → RoseBy a b n → RoseBy a b (n + 0)
+rose_alone a b n rose = omega (arith, rose)
 
 -- ---- the loop
 
@@ -56,43 +63,48 @@ module _ (members : MembersOf) (may : ℕ → Bool) (loaded : List Batch) (old m
 
   -- the last one
   pub done_known : (leaves : State → Type 0) (n : ℕ) (t : State) (x y z : Option (List ℕ)) (piece : Piece) → piece.by_newline ≡ false → Known x y (RunUpto members may loaded old mid a b k s) → Known y z (TakesPiece piece)
-      → ((bytes : List ℕ) → IsKept 262_144 piece.line bytes → PiecePrints members may s k bytes t n mid new b c) → leaves t → IfSome x (Replays members may (λ l. l ≡ loaded) leaves (RoseBy a c) old new)
+      → ((bytes : List ℕ) → IsKept 262_144 piece.line bytes → PiecePrints members may s k bytes t n mid new b c) → leaves t → IfSome x (Replays members may (λ l. l ≡ loaded) leaves (RoseWith a c (Ok tt)) old new)
   done_known leaves n t None y z piece last upto takes prints left = tt
   done_known leaves n t (Some x) None z piece last upto takes prints left = absurd upto
   done_known leaves n t (Some x) (Some y) None piece last upto takes prints left = absurd takes
-  done_known leaves n t (Some x) (Some y) (Some z) piece last upto takes prints left = upto_end members may loaded leaves a c old mid new b k n s t x y z piece upto takes last (prints takes.line takes.kept) left
+  done_known leaves n t (Some x) (Some y) (Some z) piece last upto takes prints left = upto_end members may loaded leaves (RoseWith a c (Ok tt)) a b c (rose_alone a c) old mid new k n s t x y z piece upto takes last (prints takes.line takes.kept) left
+
+  -- a line of which nothing was printed
+  lost_some : (leaves : State → Type 0) (why : Stop) (x y : List ℕ) → RunUpto members may loaded old mid a b k s x y → LineLost s leaves mid new b c (end_faults (Err why)) → ReplaysTaken members may (λ l. l ≡ loaded) leaves (RoseWith a c (Err why)) old new x
+  lost_some leaves why x y upto lost =
+      upto_taken members may loaded leaves (RoseWith a c (Err why)) a b (λ n rose. rose_then a b c n (end_faults (Err why)) rose lost.rose) old mid new k s x y upto lost.left lost.kept
 
   -- a piece at which it stops
-  stops_some : (leaves : State → Type 0) (why : Stop) (x y z : List ℕ) (piece : Piece) → b ≤ c → RunUpto members may loaded old mid a b k s x y → (takes : TakesPiece piece y z) → PieceStops members may s k takes.line leaves why mid new b c
-      → EndsAs (Err why) (Replays members may (λ l. l ≡ loaded) leaves (RoseBy a c) old new x) (ReplaysTaken members may (λ l. l ≡ loaded) leaves (RoseBy a c) old new x) (ReplaysFront members may (λ l. l ≡ loaded) leaves (RoseBy a c) old new x) ⊥
-  stops_some leaves stop.ReadFault x y z piece later upto takes stops = absurd stops
-  stops_some leaves stop.TooMuch x y z piece later upto takes stops = absurd stops
-  stops_some leaves (stop.Unopened f) x y z piece later upto takes stops = stops
-  stops_some leaves stop.SinkFault x y z piece later upto takes stops = upto_front members may loaded leaves a c old mid new b k s x y z piece upto takes stops
-  stops_some leaves stop.Memory x y z piece later upto takes stops = upto_front members may loaded leaves a c old mid new b k s x y z piece upto takes stops
-  stops_some leaves (stop.Lost f) x y z piece later upto takes stops = upto_taken members may loaded leaves a c old mid new b k s x y later upto stops.left stops.kept
+  stops_some : (leaves : State → Type 0) (why : Stop) (x y z : List ℕ) (piece : Piece) → RunUpto members may loaded old mid a b k s x y → (takes : TakesPiece piece y z) → PieceStops members may s k takes.line leaves why mid new b c
+      → EndsAs (Err why) (Replays members may (λ l. l ≡ loaded) leaves (RoseWith a c (Err why)) old new x) (ReplaysTaken members may (λ l. l ≡ loaded) leaves (RoseWith a c (Err why)) old new x) (ReplaysFront members may (λ l. l ≡ loaded) leaves (RoseWith a c (Err why)) old new x) ⊥
+  stops_some leaves stop.ReadFault x y z piece upto takes stops = absurd stops
+  stops_some leaves stop.TooMuch x y z piece upto takes stops = absurd stops
+  stops_some leaves (stop.Unopened f) x y z piece upto takes stops = stops
+  stops_some leaves stop.SinkFault x y z piece upto takes stops = upto_front members may loaded leaves (RoseWith a c (Err stop.SinkFault)) a b c (rose_alone a c) old mid new k s x y z piece upto takes stops
+  stops_some leaves stop.Memory x y z piece upto takes stops = lost_some leaves stop.Memory x y upto stops
+  stops_some leaves (stop.Lost f) x y z piece upto takes stops = lost_some leaves (stop.Lost f) x y upto stops
 
   stops_none : (why : Stop) (p q : Type 0) (whole between within : Type 0) → between → within → IsCaused why p q → EndsAs (Err why) whole between within ⊥
   stops_none stop.ReadFault p q whole between within m n caused = m
   stops_none stop.TooMuch p q whole between within m n caused = m
   stops_none (stop.Unopened f) p q whole between within m n caused = caused
   stops_none stop.SinkFault p q whole between within m n caused = n
-  stops_none stop.Memory p q whole between within m n caused = n
+  stops_none stop.Memory p q whole between within m n caused = m
   stops_none (stop.Lost f) p q whole between within m n caused = m
 
-  pub stops_known : (leaves : State → Type 0) (why : Stop) (p q : Type 0) → IsCaused why p q → (x y z : Option (List ℕ)) (piece : Piece) → b ≤ c → Known x y (RunUpto members may loaded old mid a b k s) → Known y z (TakesPiece piece)
+  pub stops_known : (leaves : State → Type 0) (why : Stop) (p q : Type 0) → IsCaused why p q → (x y z : Option (List ℕ)) (piece : Piece) → Known x y (RunUpto members may loaded old mid a b k s) → Known y z (TakesPiece piece)
       → ((bytes : List ℕ) → IsKept 262_144 piece.line bytes → PieceStops members may s k bytes leaves why mid new b c)
-      → EndsAs (Err why) (IfSome x (Replays members may (λ l. l ≡ loaded) leaves (RoseBy a c) old new)) (IfSome x (ReplaysTaken members may (λ l. l ≡ loaded) leaves (RoseBy a c) old new))
-      (IfSome x (ReplaysFront members may (λ l. l ≡ loaded) leaves (RoseBy a c) old new)) ⊥
-  stops_known leaves why p q caused None y z piece later upto takes stops = stops_none why p q _ _ _ tt tt caused
-  stops_known leaves why p q caused (Some x) None z piece later upto takes stops = absurd upto
-  stops_known leaves why p q caused (Some x) (Some y) None piece later upto takes stops = absurd takes
-  stops_known leaves why p q caused (Some x) (Some y) (Some z) piece later upto takes stops = stops_some leaves why x y z piece later upto takes (stops takes.line takes.kept)
+      → EndsAs (Err why) (IfSome x (Replays members may (λ l. l ≡ loaded) leaves (RoseWith a c (Err why)) old new)) (IfSome x (ReplaysTaken members may (λ l. l ≡ loaded) leaves (RoseWith a c (Err why)) old new))
+      (IfSome x (ReplaysFront members may (λ l. l ≡ loaded) leaves (RoseWith a c (Err why)) old new)) ⊥
+  stops_known leaves why p q caused None y z piece upto takes stops = stops_none why p q _ _ _ tt tt caused
+  stops_known leaves why p q caused (Some x) None z piece upto takes stops = absurd upto
+  stops_known leaves why p q caused (Some x) (Some y) None piece upto takes stops = absurd takes
+  stops_known leaves why p q caused (Some x) (Some y) (Some z) piece upto takes stops = stops_some leaves why x y z piece upto takes (stops takes.line takes.kept)
 
 -- the input could not be read further
 pub input_known : (members : MembersOf) (may : ℕ → Bool) (loaded : List Batch) (leaves : State → Type 0) (old new : Option (List ℕ)) (a b : ℕ) (k : ℕ) (s : State) (fault : InputFault) (x y : Option (List ℕ)) → Known x y (RunUpto members may loaded old new a b k s) → leaves s
-    → EndsAs (Err (stop_of fault)) (IfSome x (Replays members may (λ l. l ≡ loaded) leaves (RoseBy a b) old new)) (IfSome x (ReplaysTaken members may (λ l. l ≡ loaded) leaves (RoseBy a b) old new))
-    (IfSome x (ReplaysFront members may (λ l. l ≡ loaded) leaves (RoseBy a b) old new)) ⊥
+    → EndsAs (Err (stop_of fault)) (IfSome x (Replays members may (λ l. l ≡ loaded) leaves (RoseWith a b (Err (stop_of fault))) old new)) (IfSome x (ReplaysTaken members may (λ l. l ≡ loaded) leaves (RoseWith a b (Err (stop_of fault))) old new))
+    (IfSome x (ReplaysFront members may (λ l. l ≡ loaded) leaves (RoseWith a b (Err (stop_of fault))) old new)) ⊥
 input_known members may loaded leaves old new a b k s fault None y upto left = by fault
   where
     by : (f : InputFault) → EndsAs (Err (stop_of f)) (Unit {0}) (Unit {0}) (Unit {0}) ⊥
@@ -102,13 +114,14 @@ input_known members may loaded leaves old new a b k s fault None y upto left = b
 input_known members may loaded leaves old new a b k s fault (Some x) None upto left = absurd upto
 input_known members may loaded leaves old new a b k s fault (Some x) (Some y) upto left = by fault
   where
-    taken : ReplaysTaken members may (λ l. l ≡ loaded) leaves (RoseBy a b) old new x
-    taken = upto_taken members may loaded leaves a b old new new b k s x y (omega arith) upto left (Keeps-refl new)
+    taken : (rises : ℕ → Type 0) → ((n : ℕ) → RoseBy a b n → rises n) → ReplaysTaken members may (λ l. l ≡ loaded) leaves rises old new x
+    taken rises rose = upto_taken members may loaded leaves rises a b rose old new new k s x y upto left (Keeps-refl new)
 
-    by : (f : InputFault) → EndsAs (Err (stop_of f)) (Replays members may (λ l. l ≡ loaded) leaves (RoseBy a b) old new x) (ReplaysTaken members may (λ l. l ≡ loaded) leaves (RoseBy a b) old new x) (ReplaysFront members may (λ l. l ≡ loaded) leaves (RoseBy a b) old new x) ⊥
-    by input.Failed = taken
-    by input.TooMuch = taken
-    by input.Memory = taken_front members may loaded leaves a b old new x taken
+    by : (f : InputFault) → EndsAs (Err (stop_of f)) (Replays members may (λ l. l ≡ loaded) leaves (RoseWith a b (Err (stop_of f))) old new x) (ReplaysTaken members may (λ l. l ≡ loaded) leaves (RoseWith a b (Err (stop_of f))) old new x)
+        (ReplaysFront members may (λ l. l ≡ loaded) leaves (RoseWith a b (Err (stop_of f))) old new x) ⊥
+    by input.Failed = taken (RoseWith a b (Err stop.ReadFault)) (rose_alone a b)
+    by input.TooMuch = taken (RoseWith a b (Err stop.TooMuch)) (rose_alone a b)
+    by input.Memory = taken (RoseWith a b (Err stop.Memory)) (rose_alone a b)
 
 -- ---- causes
 
@@ -192,8 +205,14 @@ module _ (members : MembersOf) (may : ℕ → Bool) (loads also : List Batch →
   sent_ends idle x (Err stop.TooMuch) sent result is ends = rw is (known_on (ReplaysTaken members may loads leaves rises old mid) (ReplaysTaken members may also leaves wider old new) between_on x ends)
   sent_ends idle x (Err (stop.Lost f)) sent result is ends = rw is (known_on (ReplaysTaken members may loads leaves rises old mid) (ReplaysTaken members may also leaves wider old new) between_on x ends)
   sent_ends idle x (Err stop.SinkFault) sent result is ends = rw is (known_on (ReplaysFront members may loads leaves rises old mid) (ReplaysFront members may also leaves wider old new) within_on x ends)
-  sent_ends idle x (Err stop.Memory) sent result is ends = rw is (known_on (ReplaysFront members may loads leaves rises old mid) (ReplaysFront members may also leaves wider old new) within_on x ends)
+  sent_ends idle x (Err stop.Memory) sent result is ends = rw is (known_on (ReplaysTaken members may loads leaves rises old mid) (ReplaysTaken members may also leaves wider old new) between_on x ends)
   sent_ends idle x (Err (stop.Unopened f)) sent result is ends = absurd ends
+
+-- as many failures of the disk as before
+pub sent_faults : (end : Result (Unit {0}) Stop) (sent : Result (Unit {0}) Failed) (result : Result (Unit {0}) Stop) → EndsSent end sent result → end_faults result ≡ end_faults end
+sent_faults (Ok u) (Ok v) result is = ap (λ (e : Result (Unit {0}) Stop). end_faults e) is
+sent_faults (Ok u) (Err e) result is = ap (λ (e : Result (Unit {0}) Stop). end_faults e) is
+sent_faults (Err why) sent result is = ap (λ (e : Result (Unit {0}) Stop). end_faults e) is
 
 -- at the end of the input it is at its end, whether that was sent on or not
 pub sent_at_end : (end : Result (Unit {0}) Stop) (sent : Result (Unit {0}) Failed) (result : Result (Unit {0}) Stop) (P : Type 0) → EndsSent end sent result → OnOk end P → OnOk result P

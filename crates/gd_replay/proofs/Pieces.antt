@@ -49,7 +49,7 @@ pub line_stops : (members : MembersOf) (may : ℕ → Bool) (s : State) (k : ℕ
     → PieceStops members may s k piece leaves why old new a b
 line_stops members may s k piece leaves stop.ReadFault old new a b some later stops = stops
 line_stops members may s k piece leaves stop.SinkFault old new a b some later stops = line_front members may s k piece leaves old new a b some later stops
-line_stops members may s k piece leaves stop.Memory old new a b some later stops = line_front members may s k piece leaves old new a b some later stops
+line_stops members may s k piece leaves stop.Memory old new a b some later stops = stops
 line_stops members may s k piece leaves stop.TooMuch old new a b some later stops = stops
 line_stops members may s k piece leaves (stop.Unopened f) old new a b some later stops = stops
 line_stops members may s k piece leaves (stop.Lost f) old new a b some later stops = stops

@@ -14,7 +14,7 @@ use Rattle.gd_input.specs.Pieces.{TakesPiece, later_pieces}
 use Rattle.gd_replay_laws.specs.Runs.{BuiltReplies, PieceRuns, lines_at}
 use Rattle.gd_replay_laws.specs.Faults.{faults_from}
 use Rattle.gd_replay_laws.proofs.Joined.{runs_join}
-use Rattle.gd_replay_laws.proofs.Faults.{faults_run, rose_none, rose_then, rose_within}
+use Rattle.gd_replay_laws.proofs.Faults.{faults_run, rose_none, rose_then}
 use Rattle.gd_replay.specs.Replays.{Accounts, Replays, ReplaysTaken, ReplaysFront}
 use Rattle.gd_replay.specs.Runs.{PiecePrints, PieceFront, RunUpto}
 
@@ -92,11 +92,11 @@ module _ (members : MembersOf) (may : ℕ → Bool) (loaded : List Batch) where
   take_front : (xs ys : List Numbered) → take (length xs) (xs ++ ys) ≡ xs
   take_front xs ys = take-append-le (length xs) xs ys (omega arith) ∙ take_all (length xs) xs (omega arith)
 
-  module _ (leaves : State → Type 0) (a c : ℕ) where
+  module _ (leaves : State → Type 0) (rises : ℕ → Type 0) where
     abbrev AccountsFor : List Numbered → List ℕ → Type 0
-    AccountsFor given output = Accounts members may (λ l. l ≡ loaded) leaves (RoseBy a c) given output
+    AccountsFor given output = Accounts members may (λ l. l ≡ loaded) leaves rises given output
 
-    accounts : (given : List Numbered) (output : List ℕ) (s : State) → BuiltReplies members may (opened loaded) 0 given output s → leaves s → RoseBy a c (faults_told output) → AccountsFor given output
+    accounts : (given : List Numbered) (output : List ℕ) (s : State) → BuiltReplies members may (opened loaded) 0 given output s → leaves s → rises (faults_told output) → AccountsFor given output
     accounts given output s replies left rose = record { loaded = loaded; state = s; begun = refl; replies = replies; left = left; counted = rose }
 
     of_lines : (given lines : List Numbered) (output : List ℕ) → lines ≡ given → AccountsFor given output → AccountsFor lines output
@@ -106,9 +106,9 @@ module _ (members : MembersOf) (may : ℕ → Bool) (loaded : List Batch) where
     front_lines given more input lines = ap (take (length given)) lines ∙ take_front given more
 
     -- the last piece
-    pub upto_end : (old mid new : Option (List ℕ)) (b : ℕ) (k n : ℕ) (s t : State) (input left after : List ℕ) (piece : Piece) → RunUpto members may loaded old mid a b k s input left → (takes : TakesPiece piece left after) → piece.by_newline ≡ false
-        → PiecePrints members may s k takes.line t n mid new b c → leaves t → Replays members may (λ l. l ≡ loaded) leaves (RoseBy a c) old new input
-    upto_end old mid new b k n s t input left after piece upto takes last prints leave =
+    pub upto_end : (a b c : ℕ) → ((n : ℕ) → RoseBy a c n → rises n) → (old mid new : Option (List ℕ)) (k n : ℕ) (s t : State) (input left after : List ℕ) (piece : Piece) → RunUpto members may loaded old mid a b k s input left → (takes : TakesPiece piece left after) → piece.by_newline ≡ false
+        → PiecePrints members may s k takes.line t n mid new b c → leaves t → Replays members may (λ l. l ≡ loaded) leaves rises old new input
+    upto_end a b c rose old mid new k n s t input left after piece upto takes last prints leave =
         let first : pieces [] left ≡ takes.line ∷ [] = takes.first ∙ ap (λ (b : Bool). takes.line ∷ later_pieces b after) last in
         let given = upto.given ++ lines_at upto.round takes.line in
         let lines : lines_of input ≡ given = lines_then upto.given upto.round upto.in_round takes.line [] input left upto.lines first ∙ append-nil given in
@@ -116,34 +116,25 @@ module _ (members : MembersOf) (may : ℕ → Bool) (loaded : List Batch) where
           output = upto.output ++ prints.output;
           accounts = of_lines given (lines_of input) (upto.output ++ prints.output) lines
               (accounts given (upto.output ++ prints.output) t (replies_then upto.given upto.output prints.output k upto.round takes.line s t upto.replies upto.many prints.runs) leave
-              (rose_piece upto.given upto.output prints.output k s a b c upto.replies upto.many upto.rose prints.rose));
+              (rose _ (rose_piece upto.given upto.output prints.output k s a b c upto.replies upto.many upto.rose prints.rose)));
           gained = Appends-trans old mid new upto.output prints.output upto.gained prints.gained;
         }
 
     -- nothing more
-    pub upto_taken : (old mid new : Option (List ℕ)) (b : ℕ) (k : ℕ) (s : State) (input left : List ℕ) → b ≤ c → RunUpto members may loaded old mid a b k s input left → leaves s → Keeps mid new
-        → ReplaysTaken members may (λ l. l ≡ loaded) leaves (RoseBy a c) old new input
-    upto_taken old mid new b k s input left later upto leave kept = record {
+    pub upto_taken : (a b : ℕ) → ((n : ℕ) → RoseBy a b n → rises n) → (old mid new : Option (List ℕ)) (k : ℕ) (s : State) (input left : List ℕ) → RunUpto members may loaded old mid a b k s input left → leaves s → Keeps mid new
+        → ReplaysTaken members may (λ l. l ≡ loaded) leaves rises old new input
+    upto_taken a b rose old mid new k s input left upto leave kept = record {
       taken = length upto.given;
       output = upto.output;
       accounts = of_lines upto.given (take (length upto.given) (lines_of input)) upto.output (front_lines upto.given (numbered upto.round upto.in_round (pieces [] left)) input upto.lines)
-          (accounts upto.given upto.output s upto.replies leave (rose_within a b a c (faults_told upto.output) (omega arith) later upto.rose));
+          (accounts upto.given upto.output s upto.replies leave (rose (faults_told upto.output) upto.rose));
       gained = Appends-kept old mid new upto.output upto.gained kept;
     }
 
-    pub taken_front : (old new : Option (List ℕ)) (input : List ℕ) → ReplaysTaken members may (λ l. l ≡ loaded) leaves (RoseBy a c) old new input → ReplaysFront members may (λ l. l ≡ loaded) leaves (RoseBy a c) old new input
-    taken_front old new input has = record {
-      taken = has.taken;
-      output = has.output;
-      rest = [];
-      accounts = subst (λ (out : List ℕ). AccountsFor (take has.taken (lines_of input)) out) (sym (append-nil has.output)) has.accounts;
-      gained = has.gained;
-    }
-
     -- a front of a piece
-    pub upto_front : (old mid new : Option (List ℕ)) (b : ℕ) (k : ℕ) (s : State) (input left after : List ℕ) (piece : Piece) → RunUpto members may loaded old mid a b k s input left → (takes : TakesPiece piece left after)
-        → PieceFront members may s k takes.line leaves mid new b c → ReplaysFront members may (λ l. l ≡ loaded) leaves (RoseBy a c) old new input
-    upto_front old mid new b k s input left after piece upto takes front =
+    pub upto_front : (a b c : ℕ) → ((n : ℕ) → RoseBy a c n → rises n) → (old mid new : Option (List ℕ)) (k : ℕ) (s : State) (input left after : List ℕ) (piece : Piece) → RunUpto members may loaded old mid a b k s input left → (takes : TakesPiece piece left after)
+        → PieceFront members may s k takes.line leaves mid new b c → ReplaysFront members may (λ l. l ≡ loaded) leaves rises old new input
+    upto_front a b c rose old mid new k s input left after piece upto takes front =
         let given = upto.given ++ lines_at upto.round takes.line in
         let ps = later_pieces piece.by_newline after in
         let lines = lines_then upto.given upto.round upto.in_round takes.line ps input left upto.lines takes.first in
@@ -156,6 +147,6 @@ module _ (members : MembersOf) (may : ℕ → Bool) (loaded : List Batch) where
           accounts = of_lines given (take (length given) (lines_of input)) due (front_lines given more input lines)
               (subst (λ (out : List ℕ). AccountsFor given out) (sym (append_assoc upto.output front.output front.rest))
               (accounts given (upto.output ++ (front.output ++ front.rest)) front.state (replies_then upto.given upto.output (front.output ++ front.rest) k upto.round takes.line s front.state upto.replies upto.many front.runs) front.left
-              (rose_piece upto.given upto.output (front.output ++ front.rest) k s a b c upto.replies upto.many upto.rose front.rose)));
+              (rose _ (rose_piece upto.given upto.output (front.output ++ front.rest) k s a b c upto.replies upto.many upto.rose front.rose))));
           gained = Appends-trans old mid new upto.output front.output upto.gained front.gained;
         }

@@ -1,5 +1,5 @@
 -- What lines and pieces of the input come to, on the way to the end of a run of events.
-use Rattle.std.specs.Prelude.{◌≡◌, ℕ, ◌+◌, List, [], ◌∷◌, ◌++◌, length, Bool, Option, Result, Ok, Err}
+use Rattle.std.specs.Prelude.{◌≡◌, ℕ, ◌+◌, List, [], ◌∷◌, ◌++◌, length, Bool, Option, Result, Ok, Err, OnOk}
 use Rattle.std.specs.Io.KnownBytes.{Appends, Keeps}
 use Rattle.gd_base.specs.Counts.{RoseBy}
 use Rattle.gd_base.specs.declared.memory.Memory.{Memory}
@@ -14,6 +14,7 @@ use Rattle.gd_reply.specs.Replies.{reply_text}
 use Rattle.gd_reply.specs.declared.reply.Reply.{Reply}
 use Rattle.gd_replay.specs.declared.stop.Stop.{Stop}
 use Rattle.gd_replay.specs.declared.stop.Stop.TheVariants as stop
+use Rattle.gd_replay.specs.Stops.{end_faults}
 
 -- ---- a line
 
@@ -21,6 +22,11 @@ use Rattle.gd_replay.specs.declared.stop.Stop.TheVariants as stop
 abbrev pub IsDue : Result Reply Memory → List ℕ → Type 0
 IsDue (Ok made) line = line ≡ reply_text made
 IsDue (Err none) line = Unit {0}
+
+-- there was no memory for a reply, and nothing was printed
+pub record IsUnmade (reply : Result Reply Memory) (old new : Option (List ℕ)) : Type 0 where
+  pub none : OnOk reply ⊥
+  pub kept : Keeps old new
 
 -- line k came to a state, the sink gained its reply, and a failure of the disk that it tells was counted
 pub record LinePrints (members : MembersOf) (may : ℕ → Bool) (s : State) (k : ℕ) (bytes : List ℕ) (t : State) (old new : Option (List ℕ)) (before after : ℕ) : Type 0 where
@@ -38,19 +44,20 @@ pub record LineFront (members : MembersOf) (may : ℕ → Bool) (s : State) (k :
   pub left : leaves state
   pub front : GainsFront old new (reply ++ 10 ∷ [])
 
--- nothing of a line was printed, and the state before it is left
-pub record LineLost (s : State) (leaves : State → Type 0) (old new : Option (List ℕ)) : Type 0 where
+-- nothing of a line was printed, the state before it is left, and the count of faults rose by so many
+pub record LineLost (s : State) (leaves : State → Type 0) (old new : Option (List ℕ)) (before after n : ℕ) : Type 0 where
   pub left : leaves s
   pub kept : Keeps old new
+  pub rose : RoseBy before after n
 
 -- a line stopped a run so
 abbrev pub LineStops : MembersOf → (ℕ → Bool) → State → ℕ → List ℕ → (State → Type 0) → Stop → (old new : Option (List ℕ)) → (before after : ℕ) → Type 0
-LineStops members may s k bytes leaves (stop.Lost f) old new before after = LineLost s leaves old new
+LineStops members may s k bytes leaves (stop.Lost f) old new before after = LineLost s leaves old new before after (end_faults (Err (stop.Lost f)))
 LineStops members may s k bytes leaves stop.ReadFault old new before after = ⊥
 LineStops members may s k bytes leaves stop.TooMuch old new before after = ⊥
 LineStops members may s k bytes leaves (stop.Unopened f) old new before after = ⊥
 LineStops members may s k bytes leaves stop.SinkFault old new before after = LineFront members may s k bytes leaves old new before after
-LineStops members may s k bytes leaves stop.Memory old new before after = LineFront members may s k bytes leaves old new before after
+LineStops members may s k bytes leaves stop.Memory old new before after = LineLost s leaves old new before after (end_faults (Err stop.Memory))
 
 -- ---- a piece of the input
 
@@ -74,12 +81,12 @@ pub record PieceFront (members : MembersOf) (may : ℕ → Bool) (s : State) (k 
 
 -- a piece of the input stopped a run so
 abbrev pub PieceStops : MembersOf → (ℕ → Bool) → State → ℕ → List ℕ → (State → Type 0) → Stop → (old new : Option (List ℕ)) → (before after : ℕ) → Type 0
-PieceStops members may s k piece leaves (stop.Lost f) old new before after = LineLost s leaves old new
+PieceStops members may s k piece leaves (stop.Lost f) old new before after = LineLost s leaves old new before after (end_faults (Err (stop.Lost f)))
 PieceStops members may s k piece leaves stop.ReadFault old new before after = ⊥
 PieceStops members may s k piece leaves stop.TooMuch old new before after = ⊥
 PieceStops members may s k piece leaves (stop.Unopened f) old new before after = ⊥
 PieceStops members may s k piece leaves stop.SinkFault old new before after = PieceFront members may s k piece leaves old new before after
-PieceStops members may s k piece leaves stop.Memory old new before after = PieceFront members may s k piece leaves old new before after
+PieceStops members may s k piece leaves stop.Memory old new before after = LineLost s leaves old new before after (end_faults (Err stop.Memory))
 
 -- ---- on the way
 

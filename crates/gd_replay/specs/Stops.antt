@@ -1,7 +1,7 @@
 -- How a run of events goes on, and why it stops.
-use Rattle.std.specs.Prelude.{◌≡◌, ℕ, ◌≤◌, List, Bool, Option, Result, Ok, Err}
+use Rattle.std.specs.Prelude.{◌≡◌, ℕ, ◌+◌, ◌≤◌, List, Bool, Option, Result, Ok, Err}
 use Rattle.std.specs.Option.{is_some}
-use Rattle.gd_base.specs.Counts.{Rose}
+use Rattle.gd_base.specs.Counts.{Rose, RoseBy}
 use Rattle.gd_outside.specs.declared.Failed.{Failed}
 use Rattle.gd_input.specs.declared.fault.InputFault.{InputFault}
 use Rattle.gd_input.specs.declared.fault.InputFault.TheVariants as input
@@ -26,6 +26,10 @@ stop_of input.Memory = stop.Memory
 abbrev pub Leaves : (List ℕ → Type 0) → State → Type 0
 Leaves images s = (file : List ℕ) → images file → StandsForState s file
 
+-- all that stands for the state afterwards stands for the one before
+abbrev pub StandsBefore : (before after : State) → Type 0
+StandsBefore before after = (file : List ℕ) → StandsForState after file → StandsForState before file
+
 -- The clock goes on to give the same moments, the disk goes on to tell its content, its count does not fall, and a disk that tells its content keeps the batches that there were.
 pub record GoesAlong {D C : Type 0} (content : D → Option (List ℕ)) (faults : D → ℕ) (may : C → ℕ → Bool) (old new : SideValue D C) : Type 0 where
   pub clock : may new.clock ≡ may old.clock
@@ -41,11 +45,11 @@ pub record IsLost {D : Type 0} (content : D → Option (List ℕ)) (images : D �
   pub hindered : Tells (content old) → IsHindrance fault
   pub later : faults old ≤ faults new
 
--- a reply stops a run where it is not printed, by a failure of the sink or for want of memory
-abbrev pub IsHalt : Stop → Type 0 → Type 0
-IsHalt stop.SinkFault sink_failed = sink_failed
-IsHalt stop.Memory sink_failed = Unit {0}
-IsHalt _ sink_failed = ⊥
+-- a reply stops a run where it is not printed: the sink failed, or there was no memory for it
+abbrev pub IsHalt : Stop → (sink_failed unmade : Type 0) → Type 0
+IsHalt stop.SinkFault sink_failed unmade = sink_failed
+IsHalt stop.Memory sink_failed unmade = unmade
+IsHalt _ sink_failed unmade = ⊥
 
 -- a line stops a run so, or for the store that was not opened again
 abbrev pub IsCaused : Stop → (sink_failed disk_failed : Type 0) → Type 0
@@ -55,6 +59,16 @@ IsCaused (stop.Lost journal.DiskFault) sink_failed disk_failed = disk_failed
 IsCaused (stop.Lost _) sink_failed disk_failed = Unit {0}
 IsCaused _ sink_failed disk_failed = ⊥
 
+-- how many failures of the disk an end is itself
+abbrev pub end_faults : Result (Unit {0}) Stop → ℕ
+end_faults (Err (stop.Lost journal.DiskFault)) = 1
+end_faults (Err (stop.Unopened journal.DiskFault)) = 1
+end_faults _ = 0
+
+-- over a run that ended so the count rose by so many, and by the failure that the end is itself, or stands at its type's end
+abbrev pub RoseWith : ℕ → ℕ → Result (Unit {0}) Stop → ℕ → Type 0
+RoseWith before now end n = RoseBy before now (n + end_faults end)
+
 -- a run has read all of its input, has stopped between two lines, has stopped at a line, or was not begun
 abbrev pub EndsAs : Result (Unit {0}) Stop → (whole between within idle : Type 0) → Type 0
 EndsAs (Ok u) whole between within idle = whole
@@ -62,7 +76,7 @@ EndsAs (Err stop.ReadFault) whole between within idle = between
 EndsAs (Err stop.TooMuch) whole between within idle = between
 EndsAs (Err (stop.Lost f)) whole between within idle = between
 EndsAs (Err stop.SinkFault) whole between within idle = within
-EndsAs (Err stop.Memory) whole between within idle = within
+EndsAs (Err stop.Memory) whole between within idle = between
 EndsAs (Err (stop.Unopened f)) whole between within idle = idle
 
 -- a run has stopped only where its cause is there

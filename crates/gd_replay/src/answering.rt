@@ -1,5 +1,5 @@
 //! A line is answered over a core that is open.
-ghost use Rattle.std.specs.Prelude.{◌≡◌, ◌≤◌, ◌<◌, ◌+◌, ◌^◌, ℕ, List, Ok, IfOk, IfErr, MatchResult, true, false};
+ghost use Rattle.std.specs.Prelude.{◌≡◌, ◌≤◌, ◌<◌, ◌+◌, ◌^◌, ℕ, List, Ok, IfOk, IfErr, OnErr, MatchResult, true, false};
 ghost use Rattle.gd_runs.specs.Core as core;
 ghost use Rattle.gd_runs.specs.Owed.{MembersOf};
 ghost use Rattle.gd_events.specs.Events.{event_view};
@@ -9,7 +9,7 @@ ghost use Rattle.gd_replay_laws.specs.Built.{Takes};
 ghost use Rattle.gd_replay_laws.specs.Runs.{BuiltLine, IsBounded, AreBelow};
 ghost use Rattle.gd_replay_laws.specs.Faults.{IsCounted};
 ghost use Rattle.gd_sessions.specs.Running.{core_state, Answers, GoesBy};
-ghost use Rattle.gd_replay.specs.Stops.{GoesAlong, IsLost};
+ghost use Rattle.gd_replay.specs.Stops.{StandsBefore, GoesAlong, IsLost};
 
 use crate::lines::{refuse, refuse_long};
 use gd_base::memory::Memory;
@@ -32,7 +32,8 @@ fn opens_again(event: &Event) -> bool
     matches!(event, Event::Reopen)
 }
 
-/// Carries out an event. An error: the store was closed for it, and not opened again.
+/// Carries out an event. Only the reply to one that opens the store again may be wanting for want of
+/// memory; what is left then stands for the state before it too. An error: the store was closed for it, and not opened again.
 fn carry<R: Wait, D: Disk, C: Clock, L>(
     rt: &R,
     alloc: Global,
@@ -49,6 +50,7 @@ fn carry<R: Wait, D: Disk, C: Clock, L>(
     ensures takes { IfOk result (λ both. Tells (D.content running.side.log.disk) → (members : MembersOf)
         → Answers (λ reply. Takes members (C.may running.side.clock) (core_state running) line bytes (event_view event) reply (core_state both.0)
         × IsCounted line reply (D.faults running.side.log.disk) (D.faults both.0.side.log.disk)) both.1) }
+    ensures unmade { IfOk result (λ both. Tells (D.content running.side.log.disk) → OnErr both.1 (StandsBefore (core_state running) (core_state both.0))) }
     ensures below { IfOk result (λ both. AreBelow (line + 1) (core_state both.0)) }
     ensures along { IfOk result (λ both. GoesAlong D.content D.faults C.may running.side both.0.side) }
     ensures lost { IfErr result (λ lost. IsLost D.content D.images D.faults running.side.log.disk (core_state running) lost.0 lost.1) }
@@ -76,6 +78,7 @@ pub(crate) fn answer<R: Wait, D: Disk, C: Clock, L>(
     ensures answers { IfOk result (λ both. Tells (D.content running.side.log.disk) → (members : MembersOf) (piece : List ℕ) → IsKept 262_144 text piece
         → Answers (λ reply. BuiltLine members (C.may running.side.clock) (core_state running) line piece reply (core_state both.0)
         × IsCounted line reply (D.faults running.side.log.disk) (D.faults both.0.side.log.disk)) both.1) }
+    ensures unmade { IfOk result (λ both. Tells (D.content running.side.log.disk) → OnErr both.1 (StandsBefore (core_state running) (core_state both.0))) }
     ensures below { IfOk result (λ both. AreBelow (line + 1) (core_state both.0)) }
     ensures along { IfOk result (λ both. GoesAlong D.content D.faults C.may running.side both.0.side) }
     ensures lost { IfErr result (λ lost. IsLost D.content D.images D.faults running.side.log.disk (core_state running) lost.0 lost.1) }

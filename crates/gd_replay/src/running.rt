@@ -12,7 +12,7 @@ ghost use Rattle.gd_sessions.specs.Running.{core_state};
 ghost use Rattle.gd_replay.specs.Stops.{Leaves, GoesAlong, IsHalt, IsCaused};
 ghost use Rattle.gd_replay.specs.Kept.{HasBatches, KeepsAs};
 ghost use Rattle.gd_outside.specs.Gains.{GainsFront};
-ghost use Rattle.gd_replay.specs.Runs.{IsDue, LinePrints, LineStops, PiecePrints, PieceStops};
+ghost use Rattle.gd_replay.specs.Runs.{IsDue, IsUnmade, LinePrints, LineStops, PiecePrints, PieceStops};
 
 use crate::answering::answer;
 use crate::stop::Stop;
@@ -51,7 +51,7 @@ fn print_or_halt<R: Wait, D: Disk, K: Sink, C: Clock>(
     ensures same { IfOk result (λ next. next ≡ running) }
     ensures printed { IfOk result (λ _. MatchResult reply (λ made. Appends (K.held sink.old) (K.held sink.new) (reply_text made ++ 10 ∷ [])) (λ _. ⊥)) }
     ensures front { IfErr result (λ _. (line : List ℕ) → IsDue reply line → GainsFront (K.held sink.old) (K.held sink.new) (line ++ 10 ∷ [])) }
-    ensures halt { IfErr result (λ halt. IsHalt halt.0 (Rose (K.faults sink.old) (K.faults sink.new))) }
+    ensures halt { IfErr result (λ halt. IsHalt halt.0 (Rose (K.faults sink.old) (K.faults sink.new)) (IsUnmade reply (K.held sink.old) (K.held sink.new))) }
     ensures disk { IfErr result (λ halt. halt.1 ≡ running.side.log.disk) }
     ensures holds { IfErr result (λ halt. Tells (D.content running.side.log.disk) → Leaves (D.images halt.1) (core_state running)) }
     ensures later { K.faults sink.old ≤ K.faults sink.new }

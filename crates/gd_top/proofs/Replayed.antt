@@ -1,5 +1,5 @@
 -- A run of events as the status tells it.
-use Rattle.std.proofs.Common.{◌≡◌, ℕ, List, [], ◌++◌, take, Bool, true, false, Option, Some, None, IfSome, Result, Ok, Err, OnOk, refl, sym, subst, ap, ◌∙◌, ◌⊎◌, inl, inr, ⊎_elim, append-nil, arith}
+use Rattle.std.proofs.Common.{◌≡◌, ℕ, ◌+◌, ◌≤◌, List, [], ◌++◌, take, Bool, true, false, Option, Some, None, IfSome, Result, Ok, Err, OnOk, refl, sym, subst, ap, ◌∙◌, ◌⊎◌, inl, inr, ⊎_elim, arith}
 use Rattle.std.specs.Option.{ForSome}
 use Rattle.gd_base.specs.Counts.{RoseBy}
 use Rattle.gd_prim.specs.declared.Batch.{Batch}
@@ -17,14 +17,14 @@ use Rattle.gd_replay.specs.declared.stop.Stop.{Stop}
 use Rattle.gd_replay.specs.declared.stop.Stop.TheVariants as stop
 use Rattle.gd_replay.specs.Kept.{HasBatches, IsHindrance, KeepsAs}
 use Rattle.gd_replay.specs.Replays.{Accounts, Replays, ReplaysTaken, ReplaysFront}
-use Rattle.gd_replay.specs.Stops.{EndsAs, EndsBy}
+use Rattle.gd_replay.specs.Stops.{end_faults, EndsAs, EndsBy}
 use Rattle.gd_top.specs.declared.status.Status.{Status}
 use Rattle.gd_top.specs.declared.status.Status.TheVariants as status
 use Rattle.gd_top.specs.Stops.{status_of_store, status_of_shelf, status_of_events}
 use Rattle.gd_top.specs.Ends.{IsHindered, IsIdle, Causes}
 use Rattle.gd_top.specs.Held.{Loads, MayMean, DoesMean}
 use Rattle.gd_top.specs.Kept.{Keeps, StaysTold}
-use Rattle.gd_top.specs.Replays.{PrintsEvents}
+use Rattle.gd_top.specs.Replays.{status_faults, PrintsEvents}
 use Rattle.gd_top.proofs.Kept.{keeps_refused, stays_refused}
 
 -- ---- a status that is not one of these
@@ -46,6 +46,13 @@ of_store journal.Memory = refl
 not_of_store : (f : JournalFault) (s : Status) → is_of_store s ≡ false → status_of_store f ≡ s → ⊥
 not_of_store f s other is = let e : true ≡ false = sym (of_store f) ∙ (ap is_of_store is ∙ other) in cc
 
+-- a store that was lost by a failure of the disk, by its status
+lost_faults : (f : JournalFault) → end_faults (Err (stop.Lost f)) ≡ status_faults (status_of_store f)
+lost_faults journal.DiskFault = refl
+lost_faults journal.NotStore = refl
+lost_faults (journal.Damaged offset) = refl
+lost_faults journal.Memory = refl
+
 -- ---- what was printed
 
 module _ (members : MembersOf) (may : ℕ → Bool) (begins begins' : List Batch → Type 0) (leaves leaves' : State → Type 0) (rises rises' : ℕ → Type 0)
@@ -65,55 +72,54 @@ module _ (members : MembersOf) (may : ℕ → Bool) (begins begins' : List Batch
   front old new None r = tt
   front old new (Some input) r = record { taken = r.taken; output = r.output; rest = r.rest; accounts = accounts (take r.taken (lines_of input)) (r.output ++ r.rest) r.accounts; gained = r.gained }
 
+module _ (members : MembersOf) (may : ℕ → Bool) (begins begins' : List Batch → Type 0) (leaves leaves' : State → Type 0) (rises rises' : ℕ → Type 0)
+    (begun : (loaded : List Batch) → begins loaded → begins' loaded) (left : (s : State) → leaves s → leaves' s) (rose : (n : ℕ) → rises n → rises' n) where
   -- the same, said of what stands further out
   pub events_weaker : (s : Status) (idle idle' : Type 0) (known old new : Option (List ℕ)) → (idle → idle') → PrintsEvents s members may begins leaves rises idle known old new → PrintsEvents s members may begins' leaves' rises' idle' known old new
   events_weaker s idle idle' known old new still p = record {
-    done = λ is. whole old new known (p.done is);
-    between = λ is. taken old new known (p.between is);
-    within = λ is. front old new known (p.within is);
-    memory = λ is. ⊎_elim (λ i. inl (still i)) (λ r. inr (front old new known r)) (p.memory is);
-    closed = λ is. ⊎_elim (λ i. inl (still i)) (λ r. inr (taken old new known r)) (p.closed is);
+    done = λ is. whole members may begins begins' leaves leaves' rises rises' begun left rose old new known (p.done is);
+    between = λ is. taken members may begins begins' leaves leaves' rises rises' begun left rose old new known (p.between is);
+    within = λ is. front members may begins begins' leaves leaves' rises rises' begun left rose old new known (p.within is);
+    memory = λ is. ⊎_elim (λ i. inl (still i)) (λ r. inr (taken members may begins begins' leaves leaves' rises rises' begun left rose old new known r)) (p.memory is);
+    closed = λ is. ⊎_elim (λ i. inl (still i))
+        (λ r. inr (taken members may begins begins' leaves leaves' (λ n. rises (n + status_faults s)) (λ n. rises' (n + status_faults s)) begun left (λ n. rose (n + status_faults s)) old new known r)) (p.closed is);
   }
 
 module _ (members : MembersOf) (may : ℕ → Bool) (begins : List Batch → Type 0) (leaves : State → Type 0) (rises : ℕ → Type 0) (idle : Type 0) (known old new : Option (List ℕ)) where
-  abbrev Whole : Type 0
-  Whole = IfSome known (Replays members may begins leaves rises old new)
+  -- by a count for a number of faults, one for fewer
+  module _ (fewer : (m n : ℕ) → n ≤ m → rises m → rises n) where
+    whole_by : (own : ℕ) → IfSome known (Replays members may begins leaves (λ n. rises (n + own)) old new) → IfSome known (Replays members may begins leaves rises old new)
+    whole_by own r = whole members may begins begins leaves leaves (λ n. rises (n + own)) rises (λ l is. is) (λ s is. is) (λ n rose. fewer (n + own) n (omega arith) rose) old new known r
 
-  abbrev Between : Type 0
-  Between = IfSome known (ReplaysTaken members may begins leaves rises old new)
+    taken_by : (own : ℕ) → IfSome known (ReplaysTaken members may begins leaves (λ n. rises (n + own)) old new) → IfSome known (ReplaysTaken members may begins leaves rises old new)
+    taken_by own r = taken members may begins begins leaves leaves (λ n. rises (n + own)) rises (λ l is. is) (λ s is. is) (λ n rose. fewer (n + own) n (omega arith) rose) old new known r
 
-  abbrev Within : Type 0
-  Within = IfSome known (ReplaysFront members may begins leaves rises old new)
+    front_by : (own : ℕ) → IfSome known (ReplaysFront members may begins leaves (λ n. rises (n + own)) old new) → IfSome known (ReplaysFront members may begins leaves rises old new)
+    front_by own r = front members may begins begins leaves leaves (λ n. rises (n + own)) rises (λ l is. is) (λ s is. is) (λ n rose. fewer (n + own) n (omega arith) rose) old new known r
 
-  -- lines before which a run stopped, as a front of what they come to
-  as_front : (x : Option (List ℕ)) → IfSome x (ReplaysTaken members may begins leaves rises old new) → IfSome x (ReplaysFront members may begins leaves rises old new)
-  as_front None r = tt
-  as_front (Some input) r = record {
-    taken = r.taken;
-    output = r.output;
-    rest = [];
-    accounts = subst (λ (out : List ℕ). Accounts members may begins leaves rises (take r.taken (lines_of input)) out) (sym (append-nil r.output)) r.accounts;
-    gained = r.gained;
-  }
+    -- a store that is not opened, or is not opened again
+    closed_prints : (f : JournalFault) → idle ⊎ IfSome known (ReplaysTaken members may begins leaves (λ n. rises (n + end_faults (Err (stop.Lost f)))) old new) → PrintsEvents (status_of_store f) members may begins leaves rises idle known old new
+    closed_prints f ends = record {
+      done = λ is. absurd (not_of_store f status.Done refl is);
+      between = λ is. absurd (⊎_elim (λ e. not_of_store f status.ReadFault refl e) (λ e. not_of_store f status.TooMuch refl e) is);
+      within = λ is. absurd (not_of_store f status.SinkFault refl is);
+      memory = λ is. ⊎_elim (λ i. inl i) (λ r. inr (taken_by (end_faults (Err (stop.Lost f))) r)) ends;
+      closed = λ is. subst (λ (own : ℕ). idle ⊎ IfSome known (ReplaysTaken members may begins leaves (λ n. rises (n + own)) old new)) (lost_faults f) ends;
+    }
 
-  -- a store that is not opened, or is not opened again
-  closed_prints : (f : JournalFault) → idle ⊎ Between → PrintsEvents (status_of_store f) members may begins leaves rises idle known old new
-  closed_prints f ends = record {
-    done = λ is. absurd (not_of_store f status.Done refl is);
-    between = λ is. absurd (⊎_elim (λ e. not_of_store f status.ReadFault refl e) (λ e. not_of_store f status.TooMuch refl e) is);
-    within = λ is. absurd (not_of_store f status.SinkFault refl is);
-    memory = λ is. ⊎_elim (λ i. inl i) (λ r. inr (as_front known r)) ends;
-    closed = λ is. ends;
-  }
+    -- an end of a run that was begun, or not
+    abbrev Ended : Result (Unit {0}) Stop → Type 0
+    Ended end = EndsAs end (IfSome known (Replays members may begins leaves (λ n. rises (n + end_faults end)) old new)) (IfSome known (ReplaysTaken members may begins leaves (λ n. rises (n + end_faults end)) old new))
+        (IfSome known (ReplaysFront members may begins leaves (λ n. rises (n + end_faults end)) old new)) idle
 
-  pub events_print : (end : Result (Unit {0}) Stop) → EndsAs end Whole Between Within idle → PrintsEvents (status_of_events end) members may begins leaves rises idle known old new
-  events_print (Ok u) ends = record { done = λ is. ends; between = λ is. absurd (⊎_elim (λ e. cc) (λ e. cc) is); within = λ is. absurd (cc); memory = λ is. absurd (cc); closed = λ is. absurd (cc) }
-  events_print (Err stop.ReadFault) ends = record { done = λ is. absurd (cc); between = λ is. ends; within = λ is. absurd (cc); memory = λ is. absurd (cc); closed = λ is. absurd (cc) }
-  events_print (Err stop.TooMuch) ends = record { done = λ is. absurd (cc); between = λ is. ends; within = λ is. absurd (cc); memory = λ is. absurd (cc); closed = λ is. absurd (cc) }
-  events_print (Err stop.SinkFault) ends = record { done = λ is. absurd (cc); between = λ is. absurd (⊎_elim (λ e. cc) (λ e. cc) is); within = λ is. ends; memory = λ is. absurd (cc); closed = λ is. absurd (cc) }
-  events_print (Err stop.Memory) ends = record { done = λ is. absurd (cc); between = λ is. absurd (⊎_elim (λ e. cc) (λ e. cc) is); within = λ is. absurd (cc); memory = λ is. inr ends; closed = λ is. absurd (cc) }
-  events_print (Err (stop.Unopened f)) ends = closed_prints f (inl ends)
-  events_print (Err (stop.Lost f)) ends = closed_prints f (inr ends)
+    pub events_print : (end : Result (Unit {0}) Stop) → Ended end → PrintsEvents (status_of_events end) members may begins leaves rises idle known old new
+    events_print (Ok u) ends = record { done = λ is. whole_by 0 ends; between = λ is. absurd (⊎_elim (λ e. cc) (λ e. cc) is); within = λ is. absurd (cc); memory = λ is. absurd (cc); closed = λ is. absurd (cc) }
+    events_print (Err stop.ReadFault) ends = record { done = λ is. absurd (cc); between = λ is. taken_by 0 ends; within = λ is. absurd (cc); memory = λ is. absurd (cc); closed = λ is. absurd (cc) }
+    events_print (Err stop.TooMuch) ends = record { done = λ is. absurd (cc); between = λ is. taken_by 0 ends; within = λ is. absurd (cc); memory = λ is. absurd (cc); closed = λ is. absurd (cc) }
+    events_print (Err stop.SinkFault) ends = record { done = λ is. absurd (cc); between = λ is. absurd (⊎_elim (λ e. cc) (λ e. cc) is); within = λ is. front_by 0 ends; memory = λ is. absurd (cc); closed = λ is. absurd (cc) }
+    events_print (Err stop.Memory) ends = record { done = λ is. absurd (cc); between = λ is. absurd (⊎_elim (λ e. cc) (λ e. cc) is); within = λ is. absurd (cc); memory = λ is. inr (taken_by 0 ends); closed = λ is. absurd (cc) }
+    events_print (Err (stop.Unopened f)) ends = closed_prints f (inl ends)
+    events_print (Err (stop.Lost f)) ends = closed_prints f (inr ends)
 
   -- the shelf did not open the file
   pub shelf_prints : (f : ShelfFault) → idle → PrintsEvents (status_of_shelf f) members may begins leaves rises idle known old new
@@ -356,6 +362,10 @@ empty_causes s r k d l told is steady c = record {
   not_store_found = λ e. absurd e;
   damaged_found = λ at e. absurd e;
 }
+
+-- a count that rose for many faults, for fewer
+pub fewer_rose : (before now m n : ℕ) → n ≤ m → RoseBy before now m → RoseBy before now n
+fewer_rose before now m n less rose = omega (arith, less, rose)
 
 -- a count that never rises, for as many as it rose by
 pub rose_nowhere : (n faults : ℕ) → RoseBy 0 0 n → RoseBy faults faults n

@@ -84,7 +84,7 @@ pub fn graphd<
     // Words that replay. Over a file that the shelf tells or without one, what was printed is what
     // the definitions' core replies to the lines, from the batches on for which the file stood, and
     // the file is left so that it stands for the state that they make, with or without the write
-    // that is in doubt; and the shelf counted at least as many faults as lines tell.
+    // that is in doubt; and the shelf counted at least as many faults as lines and the status tell.
     ensures events { verb_of words.now ≡ Some verb.replays → IsToldAt (F.content shelf.old) (path_of words.now)
         → (members : MembersOf) → PrintsEvents result members (C.may clock)
         (BeginsWith (F.content shelf.old) (path_of words.now)) (LeavesAt (F.images shelf.new) (path_of words.now))

@@ -2,7 +2,7 @@ use Rattle.gd_runs.specs.Core as core
 use Rattle.gd_events.specs.Events.{event_view}
 use Rattle.gd_reply.specs.Replies.{reply_text}
 use Rattle.gd_sessions.specs.Running.{core_state}
-use Rattle.gd_replay.proofs.Carried.{anew_below, taken_below, taken_grows, due_grows, along_opened, along_stepped, lost_opened}
+use Rattle.gd_replay.proofs.Carried.{anew_below, taken_below, taken_grows, due_grows, unmade_before, along_opened, along_stepped, lost_opened}
 use Rattle.gd_replay.proofs.Kept.{hindered}
 use Rattle.gd_replay.proofs.Outcomes.{ok_more, ok_each, err_each}
 use Rattle.gd_replay.proofs.Answered.{may_take, reopened_counted}
@@ -17,6 +17,11 @@ returns-then-opens_again-clause-takes g c =
     (ok_more c.reopen.result _ _
     (λ both takes. λ tells members. reopened_counted members may s c.args.line c.args.bytes (core_state both.0) before (g.D.Disk.faults both.0.side.log.disk) both.1 (takes tells members may c.args.bytes))
     c.reopen.ensures.takes)
+
+pub returns-then-opens_again-clause-unmade : goal.returns-then-opens_again-clause-unmade
+returns-then-opens_again-clause-unmade g c =
+    let may = g.C.Clock.may c.args.running.side.clock in
+    ok_more c.reopen.result _ _ (λ both takes. λ tells. unmade_before may (core_state c.args.running) c.args.line 0 (core_state both.0) both.1 (λ members. takes tells members may 0)) c.reopen.ensures.takes
 
 pub returns-clause-below : goal.returns-clause-below
 returns-clause-below g c =

@@ -1,4 +1,4 @@
-use Rattle.std.proofs.Common.{◌≡◌, ◌∙◌, ℕ, List, Bool, Option, IfSome, refl, sym, ap, subst, arith, append-nil, IsTrue}
+use Rattle.std.proofs.Common.{◌≡◌, ◌∙◌, ℕ, ◌+◌, List, Bool, Option, IfSome, refl, sym, ap, subst, arith, append-nil, IsTrue}
 use Rattle.gd_base.specs.Counts.{Rose, RoseBy}
 use Rattle.gd_prim.specs.declared.Batch.{Batch}
 use Rattle.gd_runs.specs.Legal.{batches}
@@ -6,9 +6,9 @@ use Rattle.gd_runs.specs.Core.{State}
 use Rattle.gd_writer.specs.Parts.{Tells}
 use Rattle.gd_replay_laws.proofs.Faults.{rose_within}
 use Rattle.gd_replay.specs.Kept.{HasBatches}
-use Rattle.gd_replay.specs.Stops.{Leaves, EndsAs}
+use Rattle.gd_replay.specs.Stops.{Leaves, end_faults, RoseWith, EndsAs}
 use Rattle.gd_replay.specs.Replays.{Loads, Replays, ReplaysTaken, ReplaysFront}
-use Rattle.gd_replay.proofs.Known.{sent_ends, sent_at_end, sent_on, sent_causes, wider_ends, unopened_ends}
+use Rattle.gd_replay.proofs.Known.{sent_ends, sent_faults, sent_at_end, sent_on, sent_causes, wider_ends, unopened_ends}
 use Rattle.gd_replay.proofs.Kept.{keeps_more, sent_keeps}
 use Rattle.gd_replay.proofs.Outcomes.{on_err_more}
 use Rattle.gd_replay.proofs.Taken.{rose_since}
@@ -28,11 +28,14 @@ returns-in-Ok-clause-ends g c = λ tells members.
     let opened = g.D.Disk.faults running.side.log.disk in
     let after = g.D.Disk.faults c.replay_lines-end.result.1 in
     let idle : Type 0 = (c.replay_lines-end.new.source ≡ c.args.source.now) × (c.flush-sent.new.self ≡ c.args.sink.now) in
-    subst (λ (m : ℕ → Bool). EndsAs c.sent_on.result (IfSome x (Replays members m (Loads content) leaves (RoseBy before after) old new)) (IfSome x (ReplaysTaken members m (Loads content) leaves (RoseBy before after) old new))
-    (IfSome x (ReplaysFront members m (Loads content) leaves (RoseBy before after) old new)) idle) begins.clock
+    let end = c.replay_lines-end.result.0 in
+    let same = sent_faults end c.flush-sent.result c.sent_on.result c.sent_on.ensures in
+    let rises = RoseWith before after c.sent_on.result in
+    subst (λ (m : ℕ → Bool). EndsAs c.sent_on.result (IfSome x (Replays members m (Loads content) leaves rises old new)) (IfSome x (ReplaysTaken members m (Loads content) leaves rises old new))
+    (IfSome x (ReplaysFront members m (Loads content) leaves rises old new)) idle) begins.clock
     (sent_ends members (g.C.Clock.may running.side.clock) (λ l. l ≡ running.side.history.loaded) (Loads content) (λ l is. subst (λ (bs : List Batch). Loads content bs) (sym is) begins.means) leaves
-    (RoseBy opened after) (RoseBy before after) (λ n rose. rose_within opened after before after n c.in-Ok.ensures.disk.later (omega arith) rose) old mid new c.flush-sent.ensures.bytes idle x
-    c.replay_lines-end.result.0 c.flush-sent.result c.sent_on.result c.sent_on.ensures
+    (RoseWith opened after end) rises (λ n rose. subst (λ (own : ℕ). RoseBy before after (n + own)) (sym same) (rose_within opened after before after (n + end_faults end) c.in-Ok.ensures.disk.later (omega arith) rose)) old mid new c.flush-sent.ensures.bytes idle x
+    end c.flush-sent.result c.sent_on.result c.sent_on.ensures
     (c.replay_lines-end.ensures.ends (subst (λ (told : Bool). IsTrue told) (sym c.in-Ok.ensures.disk.told) tells) members))
 
 pub returns-in-Ok-clause-at_end : goal.returns-in-Ok-clause-at_end

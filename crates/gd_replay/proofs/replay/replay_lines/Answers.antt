@@ -100,7 +100,7 @@ returns-in-Err-take_piece-clause-ends g c = λ tells members.
     let y = prepend_known c.loop-piece.reader.bytes (g.S.Source.left c.loop-piece.source) in
     let z = prepend_known c.read_line.new.self.bytes (g.S.Source.left c.read_line.new.source) in
     let now = tells_on g.D.Disk.content g.D.Disk.faults g.C.Clock.may c.args.running.side c.loop-piece.current.side inv.along tells in
-    stops_known members given loaded old mid new begun before after k s (Leaves (g.D.Disk.images c.in-Err-take_piece.disk)) c.in-Err-take_piece.stop _ _ c.in-Err-take_piece.ensures.caused x y z c.in-Ok.piece c.in-Err-take_piece.ensures.disk (inv.upto tells members) c.in-Ok.ensures.line
+    stops_known members given loaded old mid new begun before after k s (Leaves (g.D.Disk.images c.in-Err-take_piece.disk)) c.in-Err-take_piece.stop _ _ c.in-Err-take_piece.ensures.caused x y z c.in-Ok.piece (inv.upto tells members) c.in-Ok.ensures.line
     (λ bytes kept. stops_by members given may inv.along.clock s k bytes mid new before after (Leaves (g.D.Disk.images c.in-Err-take_piece.disk)) c.in-Err-take_piece.stop (c.in-Err-take_piece.ensures.stops now members bytes kept))
 
 pub returns-in-Err-take_piece-clause-caused : goal.returns-in-Err-take_piece-clause-caused

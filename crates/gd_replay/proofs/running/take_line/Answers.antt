@@ -1,4 +1,5 @@
 use Rattle.std.proofs.Common.{◌≤◌, ◌+◌, Bool, IsTrue, sym, subst}
+use Rattle.std.proofs.KnownBytes.{Keeps-refl}
 use Rattle.gd_base.specs.Counts.{Rose}
 use Rattle.gd_runs.specs.Legal.{batches}
 use Rattle.gd_writer.specs.Parts.{Tells}
@@ -9,8 +10,8 @@ use Rattle.gd_replay.specs.Runs.{LinePrints, LineStops}
 use Rattle.gd_replay.proofs.Carried.{tells_on}
 use Rattle.gd_replay.proofs.Grown.{grows_same}
 use Rattle.gd_replay.proofs.Kept.{leaves_has, halted_keeps}
-use Rattle.gd_replay.proofs.Taken.{printed_line, halted_line, halted_cause}
-use Rattle.gd_replay.proofs.Outcomes.{ok_two, ok_more, err_three, err_four, err_more}
+use Rattle.gd_replay.proofs.Taken.{printed_line, halted_line, halted_cause, lost_rose}
+use Rattle.gd_replay.proofs.Outcomes.{ok_two, ok_more, err_three, err_four, err_more, on_err_more}
 use Rattle.gd_replay.proofs.running.take_line.Goals as goal
 
 pub returns-in-Ok-clause-prints : goal.returns-in-Ok-clause-prints
@@ -46,12 +47,13 @@ returns-in-Ok-clause-stops g c =
     (λ halt why front disk holds. λ tells members bytes kept.
     subst (λ d. LineStops members may s c.args.line bytes (Leaves (g.D.Disk.images halt.1)) halt.0 old new before (faults d)) (sym disk)
     (halted_line members may s (core_state c.in-Ok.running) c.args.line bytes (Leaves (g.D.Disk.images halt.1)) halt.0 rose old new before (faults c.in-Ok.running.side.log.disk) c.in-Ok.reply why
-    (c.in-Ok.ensures.answers tells members bytes kept) front (holds (tells_on g.D.Disk.content g.D.Disk.faults g.C.Clock.may c.args.running.side c.in-Ok.running.side c.in-Ok.ensures.along tells))))
+    (c.in-Ok.ensures.answers tells members bytes kept) front (holds (tells_on g.D.Disk.content g.D.Disk.faults g.C.Clock.may c.args.running.side c.in-Ok.running.side c.in-Ok.ensures.along tells))
+    (on_err_more c.in-Ok.reply _ _ (λ before left file is. before file (left file is)) (c.in-Ok.ensures.unmade tells)) c.in-Ok.ensures.along.later))
     c.print_or_halt.ensures.halt c.print_or_halt.ensures.front c.print_or_halt.ensures.disk c.print_or_halt.ensures.holds
 
 pub returns-in-Ok-clause-caused : goal.returns-in-Ok-clause-caused
 returns-in-Ok-clause-caused g c = err_more c.print_or_halt.result _ _
-    (λ halt why. halted_cause halt.0 (Rose (g.K.Sink.faults c.args.sink.now) (g.K.Sink.faults c.print_or_halt.new.sink)) (Rose (g.D.Disk.faults c.args.running.side.log.disk) (g.D.Disk.faults halt.1)) why)
+    (λ halt why. halted_cause halt.0 (Rose (g.K.Sink.faults c.args.sink.now) (g.K.Sink.faults c.print_or_halt.new.sink)) _ (Rose (g.D.Disk.faults c.args.running.side.log.disk) (g.D.Disk.faults halt.1)) why)
     c.print_or_halt.ensures.halt
 
 pub returns-in-Ok-clause-disk : goal.returns-in-Ok-clause-disk
@@ -66,7 +68,7 @@ returns-in-Ok-clause-kept g c =
     err_three c.print_or_halt.result _ _ _ _
     (λ halt why disk holds. λ tells.
     let now = tells_on g.D.Disk.content g.D.Disk.faults g.C.Clock.may side c.in-Ok.running.side along tells in
-    halted_keeps halt.0 (Rose (g.K.Sink.faults c.args.sink.now) (g.K.Sink.faults c.print_or_halt.new.sink)) _ _ why
+    halted_keeps halt.0 (Rose (g.K.Sink.faults c.args.sink.now) (g.K.Sink.faults c.print_or_halt.new.sink)) _ _ _ why
     (leaves_has (g.D.Disk.content halt.1) (g.D.Disk.images halt.1) (batches side.history) (core_state c.in-Ok.running) (subst (λ d. Tells (g.D.Disk.content d)) (sym disk) now) (along.grows tells) (holds now)))
     c.print_or_halt.ensures.halt c.print_or_halt.ensures.disk c.print_or_halt.ensures.holds
 
@@ -77,3 +79,12 @@ returns-in-Err-clause-kept g c = λ tells.
       leaves_has (g.D.Disk.content c.in-Err.disk) (g.D.Disk.images c.in-Err.disk) (batches side.history) (core_state c.args.running) (subst (λ (b : Bool). IsTrue b) (sym lost.told) tells) (grows_same (batches side.history)) (lost.holds tells),
       lost.hindered tells,
     )
+
+pub returns-in-Err-clause-stops : goal.returns-in-Err-clause-stops
+returns-in-Err-clause-stops g c = λ tells members bytes kept.
+    let lost = c.in-Err.ensures.lost in
+    record {
+      left = lost.holds tells;
+      kept = Keeps-refl (g.K.Sink.held c.args.sink.now);
+      rose = lost_rose c.in-Err.fault (g.D.Disk.faults c.args.running.side.log.disk) (g.D.Disk.faults c.in-Err.disk) lost.cause lost.later;
+    }

@@ -6,7 +6,7 @@ use Rattle.gd_replay.specs.Stops.{Leaves}
 use Rattle.gd_top.specs.Ends.{IsIdle}
 use Rattle.gd_top.specs.Held.{Loads}
 use Rattle.gd_top.specs.Kept.{StaysTold}
-use Rattle.gd_top.proofs.Replayed.{events_print, ends_unbegun, idle_is, events_at_end, events_used, events_keep, events_causes}
+use Rattle.gd_top.proofs.Replayed.{events_print, ends_unbegun, idle_is, events_at_end, events_used, events_keep, events_causes, fewer_rose}
 use Rattle.gd_top.proofs.replay.replay_over.Goals as goal
 
 pub returns-clause-prints : goal.returns-clause-prints
@@ -18,7 +18,7 @@ returns-clause-prints g c = λ tells members.
     rw c.status_of.ensures
     (events_print members (g.C.Clock.may c.args.clock) (Loads (g.D.Disk.content c.args.disk)) (Leaves (g.D.Disk.images run.result.1))
     (RoseBy (g.D.Disk.faults c.args.disk) (g.D.Disk.faults run.result.1))
-    (IsIdle source run.new.source sink run.new.sink × StaysTold (d.content c.args.disk) (d.content run.result.1) (d.images c.args.disk) (d.images run.result.1)) (g.S.Source.left source) (g.K.Sink.held sink) (g.K.Sink.held run.new.sink) run.result.0
+    (IsIdle source run.new.source sink run.new.sink × StaysTold (d.content c.args.disk) (d.content run.result.1) (d.images c.args.disk) (d.images run.result.1)) (g.S.Source.left source) (g.K.Sink.held sink) (g.K.Sink.held run.new.sink) (λ m n less rose. fewer_rose (d.faults c.args.disk) (d.faults run.result.1) m n less rose) run.result.0
     (ends_unbegun d.content d.moment d.images d.images_since c.args.disk run.result.1 run.result.0 run.ensures.kept _ _ _ _ _ (idle_is source run.new.source sink run.new.sink) (run.ensures.ends tells members)))
 
 pub returns-clause-at_end : goal.returns-clause-at_end
