@@ -23,6 +23,9 @@ returns-then-opens_again-clause-unmade g c =
     let may = g.C.Clock.may c.args.running.side.clock in
     ok_more c.reopen.result _ _ (λ both takes. λ tells. unmade_before may (core_state c.args.running) c.args.line 0 (core_state both.0) both.1 (λ members. takes tells members may 0)) c.reopen.ensures.takes
 
+pub returns-clause-takes : goal.returns-clause-takes
+returns-clause-takes g c = λ tells members. (c.step-reply.ensures.takes members, c.step-reply.ensures.counted)
+
 pub returns-clause-below : goal.returns-clause-below
 returns-clause-below g c =
     taken_below (g.C.Clock.may c.args.running.side.clock) (core_state c.args.running) c.args.line c.args.bytes (event_view c.args.event) (core_state c.step-reply.new.self) (reply_text c.step-reply.result) c.requires.below c.step-reply.ensures.takes
