@@ -90,7 +90,7 @@ CRATES = [
     ("gd_threads", "What contracts see of a run that is served on threads, and what a round comes to.", ["Served", "Rounds"], False),
     ("gd_round_laws", "Whole rounds, one after another.", ["Rounds"], False),
     ("gd_replay_laws", "Runs of events, as far as events are built.", ["Built", "Runs", "Faults"], False),
-    ("gd_replay", "What a run of events prints and leaves, and why it stops.", ["Replays", "Runs", "Stops", "Kept"], False),
+    ("gd_replay", "What a run of events prints and leaves, and why it stops.", ["Sure", "Replays", "Runs", "Stops", "Kept"], False),
     ("gd_top", "The top call: which words it takes, what it finds in a file and leaves there, what it prints for its input, and how it ends.", ["Words", "Ends", "Held", "Kept", "Serves", "Replays"], False),
 ]
 

@@ -9,6 +9,7 @@ use Rattle.gd_input.specs.Pieces.{Known, Advances}
 use Rattle.gd_replay_laws.specs.Runs.{AreBelow}
 use Rattle.gd_replay_laws.proofs.Below.{opened_below}
 use Rattle.gd_replay.specs.declared.stop.Stop.{Stop}
+use Rattle.gd_replay.specs.declared.stop.Stop.TheVariants as stop
 use Rattle.gd_replay.specs.Runs.{PiecePrints, PieceStops, RunUpto}
 use Rattle.gd_replay.proofs.Known.{start_known, advances_none}
 
@@ -35,3 +36,12 @@ module _ (members : MembersOf) (given may : ℕ → Bool) (same : may ≡ given)
 
   pub stops_by : (leaves : State → Type 0) (why : Stop) → PieceStops members may s k piece leaves why old new a b → PieceStops members given s k piece leaves why old new a b
   stops_by leaves why stops = subst (λ (m : ℕ → Bool). PieceStops members m s k piece leaves why old new a b) same stops
+
+  -- and by what is left that follows
+  pub stops_more : (leaves also : State → Type 0) → ((t : State) → leaves t → also t) → (why : Stop) → PieceStops members may s k piece leaves why old new a b → PieceStops members may s k piece also why old new a b
+  stops_more leaves also more stop.ReadFault stops = stops
+  stops_more leaves also more stop.TooMuch stops = stops
+  stops_more leaves also more (stop.Unopened f) stops = stops
+  stops_more leaves also more stop.SinkFault stops = record { output = stops.output; rest = stops.rest; state = stops.state; runs = stops.runs; left = more stops.state stops.left; gained = stops.gained; rose = stops.rose }
+  stops_more leaves also more stop.Memory stops = record { left = more s stops.left; kept = stops.kept; rose = stops.rose }
+  stops_more leaves also more (stop.Lost f) stops = record { left = more s stops.left; kept = stops.kept; rose = stops.rose }

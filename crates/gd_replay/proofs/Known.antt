@@ -19,9 +19,10 @@ use Rattle.gd_journal.specs.declared.fault.JournalFault.TheVariants as journal
 use Rattle.gd_replay.specs.declared.stop.Stop.{Stop}
 use Rattle.gd_replay.specs.declared.stop.Stop.TheVariants as stop
 use Rattle.gd_replay.specs.Stops.{stop_of, IsCaused, end_faults, RoseWith, EndsAs, EndsBy, EndsSent}
+use Rattle.gd_replay.specs.Sure.{IsSure, IsSureOf}
 use Rattle.gd_replay.specs.Replays.{Accounts, Replays, ReplaysTaken, ReplaysFront}
 use Rattle.gd_replay.specs.Runs.{LineLost, PiecePrints, PieceStops, RunUpto}
-use Rattle.gd_replay.proofs.Upto.{upto_start, upto_more, upto_end, upto_taken, upto_front}
+use Rattle.gd_replay.proofs.Upto.{upto_start, sure_piece, upto_more, upto_end, upto_taken, upto_front}
 
 -- ---- counts
 
@@ -54,20 +55,20 @@ advances_then (Some x) (Some y) (Some z) n m first more =
 
 module _ (members : MembersOf) (may : ℕ → Bool) (loaded : List Batch) (old mid new : Option (List ℕ)) (a b c : ℕ) (k : ℕ) (s : State) where
   -- a piece more
-  pub more_known : (n : ℕ) (t : State) (x y z : Option (List ℕ)) (piece : Piece) → piece.by_newline ≡ true → Known x y (RunUpto members may loaded old mid a b k s) → Known y z (TakesPiece piece)
-      → ((bytes : List ℕ) → IsKept 262_144 piece.line bytes → PiecePrints members may s k bytes t n mid new b c) → Known x z (RunUpto members may loaded old new a c n t)
-  more_known n t None y z piece newline upto takes prints = tt
-  more_known n t (Some x) None z piece newline upto takes prints = absurd upto
-  more_known n t (Some x) (Some y) None piece newline upto takes prints = absurd takes
-  more_known n t (Some x) (Some y) (Some z) piece newline upto takes prints = upto_more members may loaded old mid new a b c k n s t x y z piece upto takes newline (prints takes.line takes.kept)
+  pub more_known : (T U : Type 0) → (T → U) → (n : ℕ) (t : State) (x y z : Option (List ℕ)) → IsSure T x → (piece : Piece) → piece.by_newline ≡ true → Known x y (RunUpto members may loaded old mid a b k s) → Known y z (TakesPiece piece)
+      → ((bytes : List ℕ) → IsSureOf U bytes → IsKept 262_144 piece.line bytes → PiecePrints members may s k bytes t n mid new b c) → Known x z (RunUpto members may loaded old new a c n t)
+  more_known T U on n t None y z sure piece newline upto takes prints = tt
+  more_known T U on n t (Some x) None z sure piece newline upto takes prints = absurd upto
+  more_known T U on n t (Some x) (Some y) None sure piece newline upto takes prints = absurd takes
+  more_known T U on n t (Some x) (Some y) (Some z) sure piece newline upto takes prints = upto_more members may loaded old mid new a b c k n s t x y z piece upto takes newline (prints takes.line (sure_piece members may loaded T U on old mid a b k s x y z piece upto takes sure) takes.kept)
 
   -- the last one
-  pub done_known : (leaves : State → Type 0) (n : ℕ) (t : State) (x y z : Option (List ℕ)) (piece : Piece) → piece.by_newline ≡ false → Known x y (RunUpto members may loaded old mid a b k s) → Known y z (TakesPiece piece)
-      → ((bytes : List ℕ) → IsKept 262_144 piece.line bytes → PiecePrints members may s k bytes t n mid new b c) → leaves t → IfSome x (Replays members may (λ l. l ≡ loaded) leaves (RoseWith a c (Ok tt)) old new)
-  done_known leaves n t None y z piece last upto takes prints left = tt
-  done_known leaves n t (Some x) None z piece last upto takes prints left = absurd upto
-  done_known leaves n t (Some x) (Some y) None piece last upto takes prints left = absurd takes
-  done_known leaves n t (Some x) (Some y) (Some z) piece last upto takes prints left = upto_end members may loaded leaves (RoseWith a c (Ok tt)) a b c (rose_alone a c) old mid new k n s t x y z piece upto takes last (prints takes.line takes.kept) left
+  pub done_known : (T U : Type 0) → (T → U) → (leaves : State → Type 0) (n : ℕ) (t : State) (x y z : Option (List ℕ)) → IsSure T x → (piece : Piece) → piece.by_newline ≡ false → Known x y (RunUpto members may loaded old mid a b k s) → Known y z (TakesPiece piece)
+      → ((bytes : List ℕ) → IsSureOf U bytes → IsKept 262_144 piece.line bytes → PiecePrints members may s k bytes t n mid new b c) → leaves t → IfSome x (Replays members may (λ l. l ≡ loaded) leaves (RoseWith a c (Ok tt)) old new)
+  done_known T U on leaves n t None y z sure piece last upto takes prints left = tt
+  done_known T U on leaves n t (Some x) None z sure piece last upto takes prints left = absurd upto
+  done_known T U on leaves n t (Some x) (Some y) None sure piece last upto takes prints left = absurd takes
+  done_known T U on leaves n t (Some x) (Some y) (Some z) sure piece last upto takes prints left = upto_end members may loaded leaves (RoseWith a c (Ok tt)) a b c (rose_alone a c) old mid new k n s t x y z piece upto takes last (prints takes.line (sure_piece members may loaded T U on old mid a b k s x y z piece upto takes sure) takes.kept) left
 
   -- a line of which nothing was printed
   lost_some : (leaves : State → Type 0) (why : Stop) (x y : List ℕ) → RunUpto members may loaded old mid a b k s x y → LineLost s leaves mid new b c (end_faults (Err why)) → ReplaysTaken members may (λ l. l ≡ loaded) leaves (RoseWith a c (Err why)) old new x
@@ -92,14 +93,14 @@ module _ (members : MembersOf) (may : ℕ → Bool) (loaded : List Batch) (old m
   stops_none stop.Memory p q whole between within m n caused = m
   stops_none (stop.Lost f) p q whole between within m n caused = m
 
-  pub stops_known : (leaves : State → Type 0) (why : Stop) (p q : Type 0) → IsCaused why p q → (x y z : Option (List ℕ)) (piece : Piece) → Known x y (RunUpto members may loaded old mid a b k s) → Known y z (TakesPiece piece)
-      → ((bytes : List ℕ) → IsKept 262_144 piece.line bytes → PieceStops members may s k bytes leaves why mid new b c)
+  pub stops_known : (T U : Type 0) → (T → U) → (leaves : State → Type 0) (why : Stop) (p q : Type 0) → IsCaused why p q → (x y z : Option (List ℕ)) → IsSure T x → (piece : Piece) → Known x y (RunUpto members may loaded old mid a b k s) → Known y z (TakesPiece piece)
+      → ((bytes : List ℕ) → IsSureOf U bytes → IsKept 262_144 piece.line bytes → PieceStops members may s k bytes leaves why mid new b c)
       → EndsAs (Err why) (IfSome x (Replays members may (λ l. l ≡ loaded) leaves (RoseWith a c (Err why)) old new)) (IfSome x (ReplaysTaken members may (λ l. l ≡ loaded) leaves (RoseWith a c (Err why)) old new))
       (IfSome x (ReplaysFront members may (λ l. l ≡ loaded) leaves (RoseWith a c (Err why)) old new)) ⊥
-  stops_known leaves why p q caused None y z piece upto takes stops = stops_none why p q _ _ _ tt tt caused
-  stops_known leaves why p q caused (Some x) None z piece upto takes stops = absurd upto
-  stops_known leaves why p q caused (Some x) (Some y) None piece upto takes stops = absurd takes
-  stops_known leaves why p q caused (Some x) (Some y) (Some z) piece upto takes stops = stops_some leaves why x y z piece upto takes (stops takes.line takes.kept)
+  stops_known T U on leaves why p q caused None y z sure piece upto takes stops = stops_none why p q _ _ _ tt tt caused
+  stops_known T U on leaves why p q caused (Some x) None z sure piece upto takes stops = absurd upto
+  stops_known T U on leaves why p q caused (Some x) (Some y) None sure piece upto takes stops = absurd takes
+  stops_known T U on leaves why p q caused (Some x) (Some y) (Some z) sure piece upto takes stops = stops_some leaves why x y z piece upto takes (stops takes.line (sure_piece members may loaded T U on old mid a b k s x y z piece upto takes sure) takes.kept)
 
 -- the input could not be read further
 pub input_known : (members : MembersOf) (may : ℕ → Bool) (loaded : List Batch) (leaves : State → Type 0) (old new : Option (List ℕ)) (a b : ℕ) (k : ℕ) (s : State) (fault : InputFault) (x y : Option (List ℕ)) → Known x y (RunUpto members may loaded old new a b k s) → leaves s

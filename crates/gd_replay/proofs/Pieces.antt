@@ -1,18 +1,26 @@
 -- A piece of the input, as the line that it is.
-use Rattle.std.proofs.Common.{◌≡◌, ℕ, ◌+◌, ◌≤◌, List, [], ◌∷◌, ◌++◌, bytes_eq, Bool, true, false, Option, refl, sym, subst, arith}
+use Rattle.std.proofs.Common.{◌≡◌, ℕ, ◌+◌, ◌≤◌, List, [], ◌∷◌, ◌++◌, bytes_eq, Bool, true, false, Option, Ok, ◌⊎◌, inl, inr, ⊎_elim, refl, sym, subst, arith}
+use Rattle.std.specs.Prelude.{◌≢◌}
 use Rattle.std.proofs.KnownBytes.{Appends-nil}
 use Rattle.gd_base.specs.Counts.{RoseBy}
 use Rattle.gd_runs.specs.Owed.{MembersOf}
-use Rattle.gd_runs.specs.Core.{State}
+use Rattle.gd_runs.specs.Core.{State, reopen}
+use Rattle.gd_runs.specs.Replay.{event_from}
 use Rattle.gd_replay_laws.specs.Runs.{BuiltLine, PieceRuns}
 use Rattle.gd_replay_laws.specs.Faults.{faults_from}
 use Rattle.gd_replay_laws.proofs.Faults.{plain_built, rose_none, rose_line}
 use Rattle.gd_replay.specs.declared.stop.Stop.{Stop}
 use Rattle.gd_replay.specs.declared.stop.Stop.TheVariants as stop
+use Rattle.gd_replay.specs.Sure.{IsSureOf}
 use Rattle.gd_replay.specs.Runs.{LinePrints, LineFront, LineStops, PiecePrints, PieceFront, PieceStops}
 
 one_line : (members : MembersOf) (may : ℕ → Bool) (s : State) (k c : ℕ) (cs reply : List ℕ) (t : State) → BuiltLine members may s k (c ∷ cs) reply t → PieceRuns members may s k (c ∷ cs) (reply ++ 10 ∷ []) t
 one_line members may s k c cs reply t line = λ round. (reply, t, [], line, refl, (refl, refl))
+
+-- what is sure of a piece that is a line
+pub sure_line : (T : Type 0) (piece : List ℕ) → bytes_eq piece [] ≡ false → IsSureOf T piece → T ⊎ (event_from piece ≢ Ok reopen)
+sure_line T [] some sure = absurd (cc)
+sure_line T (c ∷ cs) some sure = ⊎_elim (λ told. inl told) (λ never. inr never.0) sure
 
 -- a line that is not blank
 pub line_prints : (members : MembersOf) (may : ℕ → Bool) (s : State) (k : ℕ) (piece : List ℕ) (t : State) (old new : Option (List ℕ)) (a b : ℕ) → bytes_eq piece [] ≡ false → a ≤ b → LinePrints members may s k piece t old new a b

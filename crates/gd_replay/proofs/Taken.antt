@@ -68,6 +68,11 @@ lost_rose journal.NotStore a b cause later = rose_none a b later
 lost_rose (journal.Damaged offset) a b cause later = rose_none a b later
 lost_rose journal.Memory a b cause later = rose_none a b later
 
+-- by a disk that tells its content
+pub back_told : (reply : Result Reply Memory) (T A B : Type 0) → (T → OnErr reply (A → B)) → OnErr reply ((T → A) → T → B)
+back_told (Ok made) T A B back = tt
+back_told (Err none) T A B back = λ left tells. back tells (left tells)
+
 -- a count that rose since then rose since before
 pub rose_since : (a b c : ℕ) → a ≤ b → Rose b c → Rose a c
 rose_since a b c before rose = omega (arith, before, rose)

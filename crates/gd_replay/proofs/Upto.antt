@@ -1,5 +1,5 @@
 -- A run up to some place of its input.
-use Rattle.std.proofs.Common.{◌≡◌, ℕ, ◌+◌, ◌≤◌, ◌==◌, List, [], ◌∷◌, ◌++◌, length, take, Bool, true, false, Option, refl, sym, ap, subst, ◌∙◌, arith, append_assoc, append-nil, length-append, take_all}
+use Rattle.std.proofs.Common.{◌≡◌, ℕ, ◌+◌, ◌≤◌, ◌==◌, List, [], ◌∷◌, ◌++◌, length, take, Bool, true, false, Option, ◌⊎◌, inl, inr, ⊎_elim, refl, sym, ap, subst, ◌∙◌, arith, append_assoc, append-nil, length-append, take_all}
 use Rattle.std.specs.Prelude.{if◌then◌else◌}
 use Rattle.std.proofs.lemmas.List.{take-append-le}
 use Rattle.std.proofs.KnownBytes.{Appends-trans, Appends-nil, Appends-kept}
@@ -15,6 +15,7 @@ use Rattle.gd_replay_laws.specs.Runs.{BuiltReplies, PieceRuns, lines_at}
 use Rattle.gd_replay_laws.specs.Faults.{faults_from}
 use Rattle.gd_replay_laws.proofs.Joined.{runs_join}
 use Rattle.gd_replay_laws.proofs.Faults.{faults_run, rose_none, rose_then}
+use Rattle.gd_replay.specs.Sure.{NeverReopen, IsSureOf}
 use Rattle.gd_replay.specs.Replays.{Accounts, Replays, ReplaysTaken, ReplaysFront}
 use Rattle.gd_replay.specs.Runs.{PiecePrints, PieceFront, RunUpto}
 
@@ -36,6 +37,19 @@ behind round in_round (c ∷ cs) ps = by (in_round + 1 == max_round) refl
     by : (b : Bool) → (in_round + 1 == max_round) ≡ b → Behind round in_round (c ∷ cs) ps
     by true is = record { round_then = round + 1; in_then = 0; parts = ap (λ (b : Bool). line ∷ (if b then numbered (round + 1) 0 ps else numbered round (in_round + 1) ps)) is }
     by false is = record { round_then = round; in_then = in_round + 1; parts = ap (λ (b : Bool). line ∷ (if b then numbered (round + 1) 0 ps else numbered round (in_round + 1) ps)) is }
+
+-- lines of which none opens the store again
+never_front : (ls ms : List Numbered) → NeverReopen (ls ++ ms) → NeverReopen ls
+never_front [] ms never = tt
+never_front (l ∷ ls) ms never = (never.0, never_front ls ms never.1)
+
+never_behind : (ls ms : List Numbered) → NeverReopen (ls ++ ms) → NeverReopen ms
+never_behind [] ms never = never
+never_behind (l ∷ ls) ms never = never_behind ls ms never.1
+
+never_at : (round : ℕ) (piece : List ℕ) → NeverReopen (lines_at round piece) → NeverReopen (lines_at 0 piece)
+never_at round [] never = tt
+never_at round (c ∷ cs) never = never
 
 -- how many lines a piece is does not depend on its round
 same_many : (round : ℕ) (piece : List ℕ) → length (lines_at round piece) ≡ length (lines_at 0 piece)
@@ -68,6 +82,18 @@ module _ (members : MembersOf) (may : ℕ → Bool) (loaded : List Batch) where
   lines_then given round in_round piece ps input left lines first =
       lines ∙ (ap (λ (qs : List (List ℕ)). given ++ numbered round in_round qs) first
       ∙ (ap (λ (ls : List Numbered). given ++ ls) (behind round in_round piece ps).parts ∙ sym (append_assoc given (lines_at round piece) (numbered (behind round in_round piece ps).round_then (behind round in_round piece ps).in_then ps))))
+
+  -- what is sure of the run is sure of its next piece
+  pub sure_piece : (T U : Type 0) → (T → U) → (old mid : Option (List ℕ)) (a b : ℕ) (k : ℕ) (s : State) (input left after : List ℕ) (piece : Piece) → RunUpto members may loaded old mid a b k s input left → (takes : TakesPiece piece left after)
+      → T ⊎ NeverReopen (lines_of input) → IsSureOf U takes.line
+  sure_piece T U on old mid a b k s input left after piece upto takes sure =
+      let ps = later_pieces piece.by_newline after in
+      let lines = lines_then upto.given upto.round upto.in_round takes.line ps input left upto.lines takes.first in
+      let more = numbered (behind upto.round upto.in_round takes.line ps).round_then (behind upto.round upto.in_round takes.line ps).in_then ps in
+      ⊎_elim
+      (λ told. inl (on told))
+      (λ never. inr (never_at upto.round takes.line (never_behind upto.given (lines_at upto.round takes.line) (never_front (upto.given ++ lines_at upto.round takes.line) more (subst (λ (ls : List Numbered). NeverReopen ls) lines never)))))
+      sure
 
   -- a piece more
   pub upto_more : (old mid new : Option (List ℕ)) (a b c : ℕ) (k n : ℕ) (s t : State) (input left after : List ℕ) (piece : Piece) → RunUpto members may loaded old mid a b k s input left → (takes : TakesPiece piece left after) → piece.by_newline ≡ true

@@ -14,6 +14,7 @@ ghost use Rattle.gd_writer.specs.Parts.{Tells};
 ghost use Rattle.gd_sessions.specs.Running.{core_state};
 ghost use Rattle.gd_replay.specs.Stops.{Leaves, RoseWith, EndsAs, EndsBy, EndsSent, stop_of};
 ghost use Rattle.gd_replay.specs.Kept.{HasBatches, KeepsAs};
+ghost use Rattle.gd_replay.specs.Sure.{IsSure};
 ghost use Rattle.gd_replay.specs.Replays.{Loads, Replays, ReplaysTaken, ReplaysFront};
 
 use crate::running::{halted, take_piece};
@@ -65,10 +66,10 @@ fn replay_lines<R: Wait, D: Disk, S: Source, K: Sink, C: Clock>(
     sink: &mut K,
 ) -> (Result<(), Stop>, D, C)
     requires { core_state running ≡ core.opened running.side.history.loaded }
-    ensures ends { Tells (D.content running.side.log.disk) → (members : MembersOf) → EndsAs result.0
-        (IfSome (S.left source.old) (Replays members (C.may running.side.clock) (λ loaded. loaded ≡ running.side.history.loaded) (Leaves (D.images result.1)) (RoseWith (D.faults running.side.log.disk) (D.faults result.1) result.0) (K.held sink.old) (K.held sink.new)))
-        (IfSome (S.left source.old) (ReplaysTaken members (C.may running.side.clock) (λ loaded. loaded ≡ running.side.history.loaded) (Leaves (D.images result.1)) (RoseWith (D.faults running.side.log.disk) (D.faults result.1) result.0) (K.held sink.old) (K.held sink.new)))
-        (IfSome (S.left source.old) (ReplaysFront members (C.may running.side.clock) (λ loaded. loaded ≡ running.side.history.loaded) (Leaves (D.images result.1)) (RoseWith (D.faults running.side.log.disk) (D.faults result.1) result.0) (K.held sink.old) (K.held sink.new)))
+    ensures ends { IsSure (Tells (D.content running.side.log.disk)) (S.left source.old) → (members : MembersOf) → EndsAs result.0
+        (IfSome (S.left source.old) (Replays members (C.may running.side.clock) (λ loaded. loaded ≡ running.side.history.loaded) (λ s. Tells (D.content running.side.log.disk) → Leaves (D.images result.1) s) (RoseWith (D.faults running.side.log.disk) (D.faults result.1) result.0) (K.held sink.old) (K.held sink.new)))
+        (IfSome (S.left source.old) (ReplaysTaken members (C.may running.side.clock) (λ loaded. loaded ≡ running.side.history.loaded) (λ s. Tells (D.content running.side.log.disk) → Leaves (D.images result.1) s) (RoseWith (D.faults running.side.log.disk) (D.faults result.1) result.0) (K.held sink.old) (K.held sink.new)))
+        (IfSome (S.left source.old) (ReplaysFront members (C.may running.side.clock) (λ loaded. loaded ≡ running.side.history.loaded) (λ s. Tells (D.content running.side.log.disk) → Leaves (D.images result.1) s) (RoseWith (D.faults running.side.log.disk) (D.faults result.1) result.0) (K.held sink.old) (K.held sink.new)))
         ⊥ }
     ensures at_end { OnOk result.0 (IsAtEnd (S.left source.new)) }
     ensures caused { EndsBy result.0 (Rose (S.faults source.old) (S.faults source.new)) (Rose (K.faults sink.old) (K.faults sink.new))
@@ -126,16 +127,17 @@ pub fn replay<R: Wait, D: Disk, S: Source, K: Sink, C: Clock>(
     sink: &mut K,
     clock: C,
 ) -> (Result<(), Stop>, D, C)
-    // Over a disk that tells its content, what is printed is what the definitions' core replies to
-    // the lines of the input, from the batches on for which the file stands: to all of them, or
-    // where the run has stopped between two lines to those before, or where it has stopped at a
-    // line a front of that. What is left on the disk stands for the state that they make. The
-    // disk's count of faults rose by at least as many as there are lines that tell one, and by one
-    // more where the store was lost by one.
-    ensures ends { Tells (D.content disk) → (members : MembersOf) → EndsAs result.0
-        (IfSome (S.left source.old) (Replays members (C.may clock) (Loads (D.content disk)) (Leaves (D.images result.1)) (RoseWith (D.faults disk) (D.faults result.1) result.0) (K.held sink.old) (K.held sink.new)))
-        (IfSome (S.left source.old) (ReplaysTaken members (C.may clock) (Loads (D.content disk)) (Leaves (D.images result.1)) (RoseWith (D.faults disk) (D.faults result.1) result.0) (K.held sink.old) (K.held sink.new)))
-        (IfSome (S.left source.old) (ReplaysFront members (C.may clock) (Loads (D.content disk)) (Leaves (D.images result.1)) (RoseWith (D.faults disk) (D.faults result.1) result.0) (K.held sink.old) (K.held sink.new)))
+    // Over a disk that tells its content, and over any disk where no line of the input opens the
+    // store again, what is printed is what the definitions' core replies to the lines of the input,
+    // from some batches on: to all of them, or where the run has stopped between two lines to those
+    // before, or where it has stopped at a line a front of that. The disk's count of faults rose by
+    // at least as many as there are lines that tell one, and by one more where the store was lost
+    // by one. A file that is told stands for these batches, and what is left on the disk for the
+    // state that the lines make.
+    ensures ends { IsSure (Tells (D.content disk)) (S.left source.old) → (members : MembersOf) → EndsAs result.0
+        (IfSome (S.left source.old) (Replays members (C.may clock) (Loads (D.content disk)) (λ s. Tells (D.content disk) → Leaves (D.images result.1) s) (RoseWith (D.faults disk) (D.faults result.1) result.0) (K.held sink.old) (K.held sink.new)))
+        (IfSome (S.left source.old) (ReplaysTaken members (C.may clock) (Loads (D.content disk)) (λ s. Tells (D.content disk) → Leaves (D.images result.1) s) (RoseWith (D.faults disk) (D.faults result.1) result.0) (K.held sink.old) (K.held sink.new)))
+        (IfSome (S.left source.old) (ReplaysFront members (C.may clock) (Loads (D.content disk)) (λ s. Tells (D.content disk) → Leaves (D.images result.1) s) (RoseWith (D.faults disk) (D.faults result.1) result.0) (K.held sink.old) (K.held sink.new)))
         ((source.new ≡ source.old) × (sink.new ≡ sink.old)) }
     ensures at_end { OnOk result.0 (IsAtEnd (S.left source.new)) }
 

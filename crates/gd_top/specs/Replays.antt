@@ -17,10 +17,10 @@ abbrev pub IsToldAt : (List ℕ → Option (List ℕ)) → Option (List ℕ) →
 IsToldAt content None = Unit {0}
 IsToldAt content (Some path) = IsTrue (is_some (content path))
 
--- where there is a file, all that a stop leaves of it stands for the history of a state of the core, with all or none of the group in doubt
-abbrev pub LeavesAt : (List ℕ → List ℕ → Type 0) → Option (List ℕ) → State → Type 0
-LeavesAt images None s = Unit {0}
-LeavesAt images (Some path) s = (file : List ℕ) → images path file → MayStandFor (batches s.history) (doubt_groups s.doubt) file
+-- where there is a file that was told, all that a stop leaves of it stands for the history of a state of the core, with all or none of the group in doubt
+abbrev pub LeavesAt : (List ℕ → Option (List ℕ)) → (List ℕ → List ℕ → Type 0) → Option (List ℕ) → State → Type 0
+LeavesAt content images None s = Unit {0}
+LeavesAt content images (Some path) s = IsTrue (is_some (content path)) → (file : List ℕ) → images path file → MayStandFor (batches s.history) (doubt_groups s.doubt) file
 
 -- how many failures of the disk a status tells
 abbrev pub status_faults : Status → ℕ

@@ -9,6 +9,7 @@ ghost use Rattle.gd_runs.specs.Owed.{MembersOf};
 ghost use Rattle.gd_words.specs.Verbs as verb;
 ghost use Rattle.gd_words.specs.Verbs.{verb_of, path_of};
 ghost use Rattle.gd_words.specs.Words.{command_of};
+ghost use Rattle.gd_replay.specs.Sure.{IsSure};
 ghost use Rattle.gd_top.specs.Ends.{IsHindered, IsIdle, SendsRounds};
 ghost use Rattle.gd_top.specs.Held.{BeginsWith, EndsWith, MayMeanAt, DoesMean, IsSoundAt, told_at};
 ghost use Rattle.gd_top.specs.Kept.{Keeps, StaysAt};
@@ -81,13 +82,14 @@ pub fn graphd<
         × StaysAt (F.content shelf.old) (F.content shelf.new) (F.images shelf.old) (F.images shelf.new) (path_of words.now))
         (S.left source.old) (S.left source.new) (K.held sink.old) (K.held sink.new) }
 
-    // Words that replay. Over a file that the shelf tells or without one, what was printed is what
-    // the definitions' core replies to the lines, from the batches on for which the file stood, and
-    // the file is left so that it stands for the state that they make, with or without the write
-    // that is in doubt; and the shelf counted at least as many faults as lines and the status tell.
-    ensures events { verb_of words.now ≡ Some verb.replays → IsToldAt (F.content shelf.old) (path_of words.now)
+    // Words that replay. Over a file that the shelf tells or without one, and over any file where
+    // no line of the input opens the store again, what was printed is what the definitions' core
+    // replies to the lines, from some batches on; and the shelf counted at least as many faults as
+    // lines and the status tell. A file that is told stood for these batches, and is left so that
+    // it stands for the state that they make, with or without the write that is in doubt.
+    ensures events { verb_of words.now ≡ Some verb.replays → IsSure (IsToldAt (F.content shelf.old) (path_of words.now)) (S.left source.old)
         → (members : MembersOf) → PrintsEvents result members (C.may clock)
-        (BeginsWith (F.content shelf.old) (path_of words.now)) (LeavesAt (F.images shelf.new) (path_of words.now))
+        (BeginsWith (F.content shelf.old) (path_of words.now)) (LeavesAt (F.content shelf.old) (F.images shelf.new) (path_of words.now))
         (RoseBy (F.faults shelf.old) (F.faults shelf.new))
         (IsIdle source.old source.new sink.old sink.new
         × StaysAt (F.content shelf.old) (F.content shelf.new) (F.images shelf.old) (F.images shelf.new) (path_of words.now))

@@ -6,6 +6,7 @@ ghost use Rattle.gd_runs.specs.Owed.{MembersOf};
 ghost use Rattle.gd_input.specs.Taken.{TakesAtLeast};
 ghost use Rattle.gd_writer.specs.Parts.{Tells};
 ghost use Rattle.gd_replay.specs.Stops.{Leaves};
+ghost use Rattle.gd_replay.specs.Sure.{IsSure};
 ghost use Rattle.gd_top.specs.Ends.{IsIdle, Causes};
 ghost use Rattle.gd_top.specs.Held.{Loads, MayMean, DoesMean};
 ghost use Rattle.gd_top.specs.Kept.{Keeps, StaysTold};
@@ -47,7 +48,7 @@ pub(crate) fn replay_over<R: Wait, D: Disk, S: Source, K: Sink, C: Clock + Drop>
     sink: &mut K,
     clock: C,
 ) -> (Status, D)
-    ensures prints { Tells (D.content disk) → (members : MembersOf) → PrintsEvents result.0 members (C.may clock) (Loads (D.content disk)) (Leaves (D.images result.1)) (RoseBy (D.faults disk) (D.faults result.1))
+    ensures prints { IsSure (Tells (D.content disk)) (S.left source.old) → (members : MembersOf) → PrintsEvents result.0 members (C.may clock) (Loads (D.content disk)) (λ s. Tells (D.content disk) → Leaves (D.images result.1) s) (RoseBy (D.faults disk) (D.faults result.1))
         (IsIdle source.old source.new sink.old sink.new × StaysTold (D.content disk) (D.content result.1) (D.images disk) (D.images result.1))
         (S.left source.old) (K.held sink.old) (K.held sink.new) }
     ensures at_end { result.0 ≡ Status.Done → IsAtEnd (S.left source.new) }

@@ -1,3 +1,4 @@
+use Rattle.std.proofs.Common.{⊎_elim, refl}
 use Rattle.gd_runs.specs.Core as core
 use Rattle.gd_events.specs.Events.{event_view}
 use Rattle.gd_reply.specs.Replies.{reply_text}
@@ -15,7 +16,10 @@ returns-then-opens_again-clause-takes g c =
     let before = g.D.Disk.faults c.args.running.side.log.disk in
     rw (c.opens_again.ensures.again c.if-opens_again.true)
     (ok_more c.reopen.result _ _
-    (λ both takes. λ tells members. reopened_counted members may s c.args.line c.args.bytes (core_state both.0) before (g.D.Disk.faults both.0.side.log.disk) both.1 (takes tells members may c.args.bytes))
+    (λ both takes. λ sure members. ⊎_elim
+    (λ tells. reopened_counted members may s c.args.line c.args.bytes (core_state both.0) before (g.D.Disk.faults both.0.side.log.disk) both.1 (takes tells members may c.args.bytes))
+    (λ other. absurd (other refl))
+    sure)
     c.reopen.ensures.takes)
 
 pub returns-then-opens_again-clause-unmade : goal.returns-then-opens_again-clause-unmade
@@ -24,7 +28,7 @@ returns-then-opens_again-clause-unmade g c =
     ok_more c.reopen.result _ _ (λ both takes. λ tells. unmade_before may (core_state c.args.running) c.args.line 0 (core_state both.0) both.1 (λ members. takes tells members may 0)) c.reopen.ensures.takes
 
 pub returns-clause-takes : goal.returns-clause-takes
-returns-clause-takes g c = λ tells members. (c.step-reply.ensures.takes members, c.step-reply.ensures.counted)
+returns-clause-takes g c = λ sure members. (c.step-reply.ensures.takes members, c.step-reply.ensures.counted)
 
 pub returns-clause-below : goal.returns-clause-below
 returns-clause-below g c =

@@ -3,10 +3,12 @@ use Rattle.gd_base.specs.Counts.{Rose, RoseBy}
 use Rattle.gd_prim.specs.declared.Batch.{Batch}
 use Rattle.gd_runs.specs.Legal.{batches}
 use Rattle.gd_runs.specs.Core.{State}
+use Rattle.gd_runs.specs.Owed.{MembersOf}
 use Rattle.gd_writer.specs.Parts.{Tells}
 use Rattle.gd_replay_laws.proofs.Faults.{rose_within}
 use Rattle.gd_replay.specs.Kept.{HasBatches}
 use Rattle.gd_replay.specs.Stops.{Leaves, end_faults, RoseWith, EndsAs}
+use Rattle.gd_replay.specs.Sure.{IsSure}
 use Rattle.gd_replay.specs.Replays.{Loads, Replays, ReplaysTaken, ReplaysFront}
 use Rattle.gd_replay.proofs.Known.{sent_ends, sent_faults, sent_at_end, sent_on, sent_causes, wider_ends, unopened_ends}
 use Rattle.gd_replay.proofs.Kept.{keeps_more, sent_keeps}
@@ -15,11 +17,11 @@ use Rattle.gd_replay.proofs.Taken.{rose_since}
 use Rattle.gd_replay.proofs.replay.replay.Goals as goal
 
 pub returns-in-Ok-clause-ends : goal.returns-in-Ok-clause-ends
-returns-in-Ok-clause-ends g c = λ tells members.
+returns-in-Ok-clause-ends g c = λ sure members.
     let running = c.in-Ok.running in
     let begins = c.in-Ok.ensures.begins in
     let content = g.D.Disk.content c.args.disk in
-    let leaves = Leaves (g.D.Disk.images c.replay_lines-end.result.1) in
+    let leaves = λ (t : State). Tells content → Leaves (g.D.Disk.images c.replay_lines-end.result.1) t in
     let old = g.K.Sink.held c.args.sink.now in
     let mid = g.K.Sink.held c.replay_lines-end.new.sink in
     let new = g.K.Sink.held c.flush-sent.new.self in
@@ -31,12 +33,17 @@ returns-in-Ok-clause-ends g c = λ tells members.
     let end = c.replay_lines-end.result.0 in
     let same = sent_faults end c.flush-sent.result c.sent_on.result c.sent_on.ensures in
     let rises = RoseWith before after c.sent_on.result in
+    let loads = λ (l : List Batch). l ≡ running.side.history.loaded in
+    let may = g.C.Clock.may running.side.clock in
+    let inner = subst (λ (b : Bool). IsSure (IsTrue b) x → (m : MembersOf) → EndsAs end (IfSome x (Replays m may loads (λ t. IsTrue b → Leaves (g.D.Disk.images c.replay_lines-end.result.1) t) (RoseWith opened after end) old mid))
+    (IfSome x (ReplaysTaken m may loads (λ t. IsTrue b → Leaves (g.D.Disk.images c.replay_lines-end.result.1) t) (RoseWith opened after end) old mid))
+    (IfSome x (ReplaysFront m may loads (λ t. IsTrue b → Leaves (g.D.Disk.images c.replay_lines-end.result.1) t) (RoseWith opened after end) old mid)) ⊥) c.in-Ok.ensures.disk.told c.replay_lines-end.ensures.ends in
     subst (λ (m : ℕ → Bool). EndsAs c.sent_on.result (IfSome x (Replays members m (Loads content) leaves rises old new)) (IfSome x (ReplaysTaken members m (Loads content) leaves rises old new))
     (IfSome x (ReplaysFront members m (Loads content) leaves rises old new)) idle) begins.clock
     (sent_ends members (g.C.Clock.may running.side.clock) (λ l. l ≡ running.side.history.loaded) (Loads content) (λ l is. subst (λ (bs : List Batch). Loads content bs) (sym is) begins.means) leaves
     (RoseWith opened after end) rises (λ n rose. subst (λ (own : ℕ). RoseBy before after (n + own)) (sym same) (rose_within opened after before after (n + end_faults end) c.in-Ok.ensures.disk.later (omega arith) rose)) old mid new c.flush-sent.ensures.bytes idle x
     end c.flush-sent.result c.sent_on.result c.sent_on.ensures
-    (c.replay_lines-end.ensures.ends (subst (λ (told : Bool). IsTrue told) (sym c.in-Ok.ensures.disk.told) tells) members))
+    (inner sure members))
 
 pub returns-in-Ok-clause-at_end : goal.returns-in-Ok-clause-at_end
 returns-in-Ok-clause-at_end g c = sent_at_end c.replay_lines-end.result.0 c.flush-sent.result c.sent_on.result _ c.sent_on.ensures c.replay_lines-end.ensures.at_end

@@ -2,9 +2,11 @@ use Rattle.std.proofs.Common.{◌^◌, Err, ap, arith}
 use Rattle.std.specs.Io.KnownBytes.{prepend_known}
 use Rattle.gd_input.proofs.Taken.{taken_known, none_taken}
 use Rattle.gd_runs.specs.Legal.{batches}
+use Rattle.gd_runs.specs.Core.{State}
+use Rattle.gd_writer.specs.Parts.{Tells}
 use Rattle.gd_sessions.specs.Running.{core_state}
 use Rattle.gd_replay.specs.Stops.{Leaves}
-use Rattle.gd_replay.proofs.Begun.{begun_upto, begun_advances, begun_bounded, begun_below, prints_by, stops_by}
+use Rattle.gd_replay.proofs.Begun.{begun_upto, begun_advances, begun_bounded, begun_below, prints_by, stops_by, stops_more}
 use Rattle.gd_replay.proofs.Carried.{along_same, along_then, tells_on}
 use Rattle.gd_replay.proofs.Kept.{leaves_has, has_earlier, keeps_more, input_keeps}
 use Rattle.gd_replay.proofs.Known.{more_known, done_known, stops_known, input_known, advances_then, caused_ends, input_ends}
@@ -16,7 +18,7 @@ loop-piece-init g c =
     let left = g.S.Source.left c.args.source.now in
     let new = c.new-reader.ensures in
     record {
-      upto = λ tells members. begun_upto members (g.C.Clock.may c.args.running.side.clock) c.args.running.side.history.loaded (g.K.Sink.held c.args.sink.now) (g.D.Disk.faults c.args.running.side.log.disk) (core_state c.args.running) c.new-reader.result left new c.requires;
+      upto = λ sure members. begun_upto members (g.C.Clock.may c.args.running.side.clock) c.args.running.side.history.loaded (g.K.Sink.held c.args.sink.now) (g.D.Disk.faults c.args.running.side.log.disk) (core_state c.args.running) c.new-reader.result left new c.requires;
       advances = begun_advances c.new-reader.result left new;
       given = none_taken (g.S.Source.given c.args.source.now) c.new-reader.result new;
       counted = omega arith;
@@ -45,9 +47,10 @@ loop-piece-preserved g c =
     let y = prepend_known c.loop-piece.reader.bytes (g.S.Source.left c.loop-piece.source) in
     let z = prepend_known c.read_line.new.self.bytes (g.S.Source.left c.read_line.new.source) in
     record {
-      upto = λ tells members. more_known members given loaded old mid new begun before after k s c.in-Ok-take_piece.count (core_state c.in-Ok-take_piece.next) x y z c.in-Ok.piece c.if-by_newline.true (inv.upto tells members) c.in-Ok.ensures.line
-          (λ bytes kept. prints_by members given may inv.along.clock s k bytes mid new before after (core_state c.in-Ok-take_piece.next) c.in-Ok-take_piece.count
-          (c.in-Ok-take_piece.ensures.prints (tells_on g.D.Disk.content g.D.Disk.faults g.C.Clock.may c.args.running.side c.loop-piece.current.side inv.along tells) members bytes kept));
+      upto = λ sure members. more_known members given loaded old mid new begun before after k s (Tells (g.D.Disk.content c.args.running.side.log.disk)) (Tells (g.D.Disk.content c.loop-piece.current.side.log.disk)) (tells_on g.D.Disk.content g.D.Disk.faults g.C.Clock.may c.args.running.side c.loop-piece.current.side inv.along)
+          c.in-Ok-take_piece.count (core_state c.in-Ok-take_piece.next) x y z sure c.in-Ok.piece c.if-by_newline.true (inv.upto sure members) c.in-Ok.ensures.line
+          (λ bytes sure_of kept. prints_by members given may inv.along.clock s k bytes mid new before after (core_state c.in-Ok-take_piece.next) c.in-Ok-take_piece.count
+          (c.in-Ok-take_piece.ensures.prints members bytes sure_of kept));
       advances = advances_then x y z c.loop-piece.reader.consumed c.read_line.new.self.consumed inv.advances c.read_line.ensures.advances;
       given = c.read_line.ensures.counted (g.S.Source.given c.args.source.now) inv.given;
       counted = (let forward = c.in-Ok.ensures.forward c.if-by_newline.true in let few = c.in-Ok-take_piece.ensures.few in omega (arith, inv.counted, forward, few));
@@ -59,7 +62,7 @@ loop-piece-preserved g c =
     }
 
 pub returns-else-by_newline-clause-ends : goal.returns-else-by_newline-clause-ends
-returns-else-by_newline-clause-ends g c = λ tells members.
+returns-else-by_newline-clause-ends g c = λ sure members.
     let inv = c.loop-piece.invariant in
     let loaded = c.args.running.side.history.loaded in
     let given = g.C.Clock.may c.args.running.side.clock in
@@ -75,15 +78,15 @@ returns-else-by_newline-clause-ends g c = λ tells members.
     let x = g.S.Source.left c.args.source.now in
     let y = prepend_known c.loop-piece.reader.bytes (g.S.Source.left c.loop-piece.source) in
     let z = prepend_known c.read_line.new.self.bytes (g.S.Source.left c.read_line.new.source) in
-    let now = tells_on g.D.Disk.content g.D.Disk.faults g.C.Clock.may c.args.running.side c.loop-piece.current.side inv.along tells in
-    let then = tells_on g.D.Disk.content g.D.Disk.faults g.C.Clock.may c.loop-piece.current.side c.in-Ok-take_piece.next.side c.in-Ok-take_piece.ensures.along now in
     rw c.ended.ensures.parts
-    (done_known members given loaded old mid new begun before after k s (Leaves (g.D.Disk.images c.in-Ok-take_piece.next.side.log.disk)) c.in-Ok-take_piece.count (core_state c.in-Ok-take_piece.next) x y z c.in-Ok.piece c.if-by_newline.false (inv.upto tells members) c.in-Ok.ensures.line
-    (λ bytes kept. prints_by members given may inv.along.clock s k bytes mid new before after (core_state c.in-Ok-take_piece.next) c.in-Ok-take_piece.count (c.in-Ok-take_piece.ensures.prints now members bytes kept))
-    (c.ended.ensures.holds then))
+    (done_known members given loaded old mid new begun before after k s (Tells (g.D.Disk.content c.args.running.side.log.disk)) (Tells (g.D.Disk.content c.loop-piece.current.side.log.disk)) (tells_on g.D.Disk.content g.D.Disk.faults g.C.Clock.may c.args.running.side c.loop-piece.current.side inv.along)
+    (λ (t : State). Tells (g.D.Disk.content c.args.running.side.log.disk) → Leaves (g.D.Disk.images c.in-Ok-take_piece.next.side.log.disk) t) c.in-Ok-take_piece.count (core_state c.in-Ok-take_piece.next) x y z sure c.in-Ok.piece c.if-by_newline.false (inv.upto sure members) c.in-Ok.ensures.line
+    (λ bytes sure_of kept. prints_by members given may inv.along.clock s k bytes mid new before after (core_state c.in-Ok-take_piece.next) c.in-Ok-take_piece.count (c.in-Ok-take_piece.ensures.prints members bytes sure_of kept))
+    (λ tells. c.ended.ensures.holds (tells_on g.D.Disk.content g.D.Disk.faults g.C.Clock.may c.loop-piece.current.side c.in-Ok-take_piece.next.side c.in-Ok-take_piece.ensures.along
+    (tells_on g.D.Disk.content g.D.Disk.faults g.C.Clock.may c.args.running.side c.loop-piece.current.side inv.along tells))))
 
 pub returns-in-Err-take_piece-clause-ends : goal.returns-in-Err-take_piece-clause-ends
-returns-in-Err-take_piece-clause-ends g c = λ tells members.
+returns-in-Err-take_piece-clause-ends g c = λ sure members.
     let inv = c.loop-piece.invariant in
     let loaded = c.args.running.side.history.loaded in
     let given = g.C.Clock.may c.args.running.side.clock in
@@ -99,9 +102,13 @@ returns-in-Err-take_piece-clause-ends g c = λ tells members.
     let x = g.S.Source.left c.args.source.now in
     let y = prepend_known c.loop-piece.reader.bytes (g.S.Source.left c.loop-piece.source) in
     let z = prepend_known c.read_line.new.self.bytes (g.S.Source.left c.read_line.new.source) in
-    let now = tells_on g.D.Disk.content g.D.Disk.faults g.C.Clock.may c.args.running.side c.loop-piece.current.side inv.along tells in
-    stops_known members given loaded old mid new begun before after k s (Leaves (g.D.Disk.images c.in-Err-take_piece.disk)) c.in-Err-take_piece.stop _ _ c.in-Err-take_piece.ensures.caused x y z c.in-Ok.piece (inv.upto tells members) c.in-Ok.ensures.line
-    (λ bytes kept. stops_by members given may inv.along.clock s k bytes mid new before after (Leaves (g.D.Disk.images c.in-Err-take_piece.disk)) c.in-Err-take_piece.stop (c.in-Err-take_piece.ensures.stops now members bytes kept))
+    let tells_now = tells_on g.D.Disk.content g.D.Disk.faults g.C.Clock.may c.args.running.side c.loop-piece.current.side inv.along in
+    let leaves = λ (t : State). Tells (g.D.Disk.content c.args.running.side.log.disk) → Leaves (g.D.Disk.images c.in-Err-take_piece.disk) t in
+    stops_known members given loaded old mid new begun before after k s (Tells (g.D.Disk.content c.args.running.side.log.disk)) (Tells (g.D.Disk.content c.loop-piece.current.side.log.disk)) (tells_on g.D.Disk.content g.D.Disk.faults g.C.Clock.may c.args.running.side c.loop-piece.current.side inv.along)
+    leaves c.in-Err-take_piece.stop _ _ c.in-Err-take_piece.ensures.caused x y z sure c.in-Ok.piece (inv.upto sure members) c.in-Ok.ensures.line
+    (λ bytes sure_of kept. stops_by members given may inv.along.clock s k bytes mid new before after leaves c.in-Err-take_piece.stop
+    (stops_more members given may inv.along.clock s k bytes mid new before after (λ (t : State). Tells (g.D.Disk.content c.loop-piece.current.side.log.disk) → Leaves (g.D.Disk.images c.in-Err-take_piece.disk) t) leaves (λ t left tells. left (tells_now tells)) c.in-Err-take_piece.stop
+    (c.in-Err-take_piece.ensures.stops members bytes sure_of kept)))
 
 pub returns-in-Err-take_piece-clause-caused : goal.returns-in-Err-take_piece-clause-caused
 returns-in-Err-take_piece-clause-caused g c =
@@ -111,13 +118,13 @@ returns-in-Err-take_piece-clause-caused g c =
     (g.D.Disk.faults c.args.running.side.log.disk) (g.D.Disk.faults c.loop-piece.current.side.log.disk) (g.D.Disk.faults c.in-Err-take_piece.disk) inv.sink_later inv.along.later c.in-Err-take_piece.ensures.caused)
 
 pub returns-in-Err-clause-ends : goal.returns-in-Err-clause-ends
-returns-in-Err-clause-ends g c = λ tells members.
+returns-in-Err-clause-ends g c = λ sure members.
     let inv = c.loop-piece.invariant in
     rw c.stopped.ensures.parts
-    (input_known members (g.C.Clock.may c.args.running.side.clock) c.args.running.side.history.loaded (Leaves (g.D.Disk.images c.loop-piece.current.side.log.disk)) (g.K.Sink.held c.args.sink.now) (g.K.Sink.held c.loop-piece.sink)
+    (input_known members (g.C.Clock.may c.args.running.side.clock) c.args.running.side.history.loaded (λ (t : State). Tells (g.D.Disk.content c.args.running.side.log.disk) → Leaves (g.D.Disk.images c.loop-piece.current.side.log.disk) t) (g.K.Sink.held c.args.sink.now) (g.K.Sink.held c.loop-piece.sink)
     (g.D.Disk.faults c.args.running.side.log.disk) (g.D.Disk.faults c.loop-piece.current.side.log.disk) c.loop-piece.line (core_state c.loop-piece.current) c.in-Err.fault
-    (g.S.Source.left c.args.source.now) (prepend_known c.loop-piece.reader.bytes (g.S.Source.left c.loop-piece.source)) (inv.upto tells members)
-    (c.stopped.ensures.holds (tells_on g.D.Disk.content g.D.Disk.faults g.C.Clock.may c.args.running.side c.loop-piece.current.side inv.along tells)))
+    (g.S.Source.left c.args.source.now) (prepend_known c.loop-piece.reader.bytes (g.S.Source.left c.loop-piece.source)) (inv.upto sure members)
+    (λ tells. c.stopped.ensures.holds (tells_on g.D.Disk.content g.D.Disk.faults g.C.Clock.may c.args.running.side c.loop-piece.current.side inv.along tells)))
 
 pub returns-else-by_newline-clause-kept : goal.returns-else-by_newline-clause-kept
 returns-else-by_newline-clause-kept g c = λ tells.

@@ -2,6 +2,7 @@ use Rattle.std.proofs.Common.{◌≤◌, ◌+◌, Bool, IsTrue, sym, subst}
 use Rattle.std.proofs.KnownBytes.{Keeps-refl}
 use Rattle.gd_base.specs.Counts.{Rose}
 use Rattle.gd_runs.specs.Legal.{batches}
+use Rattle.gd_runs.specs.Core.{State}
 use Rattle.gd_writer.specs.Parts.{Tells}
 use Rattle.gd_replay_laws.specs.Runs.{AreBelow}
 use Rattle.gd_sessions.specs.Running.{RunningValue, core_state}
@@ -10,7 +11,7 @@ use Rattle.gd_replay.specs.Runs.{LinePrints, LineStops}
 use Rattle.gd_replay.proofs.Carried.{tells_on}
 use Rattle.gd_replay.proofs.Grown.{grows_same}
 use Rattle.gd_replay.proofs.Kept.{leaves_has, halted_keeps}
-use Rattle.gd_replay.proofs.Taken.{printed_line, halted_line, halted_cause, lost_rose}
+use Rattle.gd_replay.proofs.Taken.{printed_line, halted_line, halted_cause, lost_rose, back_told}
 use Rattle.gd_replay.proofs.Outcomes.{ok_two, ok_more, err_three, err_four, err_more, on_err_more}
 use Rattle.gd_replay.proofs.running.take_line.Goals as goal
 
@@ -23,9 +24,9 @@ returns-in-Ok-clause-prints g c =
     let faults = g.D.Disk.faults in
     let before = faults c.args.running.side.log.disk in
     ok_two c.print_or_halt.result _ _ _
-    (λ next is printed. λ tells members bytes kept.
+    (λ next is printed. λ members bytes sure kept.
     subst (λ (r : RunningValue _ _). LinePrints members may s c.args.line bytes (core_state r) old new before (faults r.side.log.disk)) (sym is)
-    (printed_line members may s (core_state c.in-Ok.running) c.args.line bytes old new before (faults c.in-Ok.running.side.log.disk) c.in-Ok.reply (c.in-Ok.ensures.answers tells members bytes kept) printed))
+    (printed_line members may s (core_state c.in-Ok.running) c.args.line bytes old new before (faults c.in-Ok.running.side.log.disk) c.in-Ok.reply (c.in-Ok.ensures.answers members bytes sure kept) printed))
     c.print_or_halt.ensures.same c.print_or_halt.ensures.printed
 
 pub returns-in-Ok-clause-below : goal.returns-in-Ok-clause-below
@@ -44,11 +45,12 @@ returns-in-Ok-clause-stops g c =
     let before = faults c.args.running.side.log.disk in
     let rose = Rose (g.K.Sink.faults c.args.sink.now) (g.K.Sink.faults c.print_or_halt.new.sink) in
     err_four c.print_or_halt.result _ _ _ _ _
-    (λ halt why front disk holds. λ tells members bytes kept.
-    subst (λ d. LineStops members may s c.args.line bytes (Leaves (g.D.Disk.images halt.1)) halt.0 old new before (faults d)) (sym disk)
-    (halted_line members may s (core_state c.in-Ok.running) c.args.line bytes (Leaves (g.D.Disk.images halt.1)) halt.0 rose old new before (faults c.in-Ok.running.side.log.disk) c.in-Ok.reply why
-    (c.in-Ok.ensures.answers tells members bytes kept) front (holds (tells_on g.D.Disk.content g.D.Disk.faults g.C.Clock.may c.args.running.side c.in-Ok.running.side c.in-Ok.ensures.along tells))
-    (on_err_more c.in-Ok.reply _ _ (λ before left file is. before file (left file is)) (c.in-Ok.ensures.unmade tells)) c.in-Ok.ensures.along.later))
+    (λ halt why front disk holds. λ members bytes sure kept.
+    let leaves = λ (t : State). Tells (g.D.Disk.content c.args.running.side.log.disk) → Leaves (g.D.Disk.images halt.1) t in
+    subst (λ d. LineStops members may s c.args.line bytes leaves halt.0 old new before (faults d)) (sym disk)
+    (halted_line members may s (core_state c.in-Ok.running) c.args.line bytes leaves halt.0 rose old new before (faults c.in-Ok.running.side.log.disk) c.in-Ok.reply why
+    (c.in-Ok.ensures.answers members bytes sure kept) front (λ tells. holds (tells_on g.D.Disk.content g.D.Disk.faults g.C.Clock.may c.args.running.side c.in-Ok.running.side c.in-Ok.ensures.along tells))
+    (back_told c.in-Ok.reply _ _ _ (λ tells. on_err_more c.in-Ok.reply _ _ (λ before left file is. before file (left file is)) (c.in-Ok.ensures.unmade tells))) c.in-Ok.ensures.along.later))
     c.print_or_halt.ensures.halt c.print_or_halt.ensures.front c.print_or_halt.ensures.disk c.print_or_halt.ensures.holds
 
 pub returns-in-Ok-clause-caused : goal.returns-in-Ok-clause-caused
@@ -81,10 +83,10 @@ returns-in-Err-clause-kept g c = λ tells.
     )
 
 pub returns-in-Err-clause-stops : goal.returns-in-Err-clause-stops
-returns-in-Err-clause-stops g c = λ tells members bytes kept.
+returns-in-Err-clause-stops g c = λ members bytes sure kept.
     let lost = c.in-Err.ensures.lost in
     record {
-      left = lost.holds tells;
+      left = lost.holds;
       kept = Keeps-refl (g.K.Sink.held c.args.sink.now);
       rose = lost_rose c.in-Err.fault (g.D.Disk.faults c.args.running.side.log.disk) (g.D.Disk.faults c.in-Err.disk) lost.cause lost.later;
     }
