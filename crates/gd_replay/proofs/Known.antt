@@ -1,5 +1,5 @@
 -- The same where the input is known, and nothing where it is not.
-use Rattle.std.proofs.Common.{◌≡◌, ℕ, ◌+◌, ◌≤◌, Bool, true, false, List, [], ◌++◌, length, take, Option, Some, None, IfSome, Result, Ok, Err, OnErr, OnOk, refl, sym, subst, ap, ◌∙◌, arith, length-append, append_assoc, append-nil, take_all}
+use Rattle.std.proofs.Common.{◌≡◌, ℕ, ◌+◌, Bool, true, false, List, [], ◌++◌, length, take, Option, Some, None, IfSome, Result, Ok, Err, OnErr, OnOk, refl, sym, subst, ap, ◌∙◌, arith, length-append, append_assoc, append-nil, take_all}
 use Rattle.std.specs.Io.KnownBytes.{Keeps, prepend_known}
 use Rattle.std.proofs.KnownBytes.{Consumes-nil, Appends-kept, Keeps-refl}
 use Rattle.gd_base.specs.Counts.{RoseBy}

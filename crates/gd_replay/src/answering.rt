@@ -34,7 +34,8 @@ fn opens_again(event: &Event) -> bool
 }
 
 /// Carries out an event. Only the reply to one that opens the store again may be wanting for want of
-/// memory; what is left then stands for the state before it too. An error: the store was closed for it, and not opened again.
+/// memory; what is left then stands for the state before it too. An error: the store was closed for
+/// it, and not opened again.
 fn carry<R: Wait, D: Disk, C: Clock, L>(
     rt: &R,
     alloc: Global,
