@@ -18,7 +18,7 @@ use Rattle.gd_journal.specs.declared.fault.JournalFault.{JournalFault}
 use Rattle.gd_journal.specs.declared.fault.JournalFault.TheVariants as journal
 use Rattle.gd_replay.specs.declared.stop.Stop.{Stop}
 use Rattle.gd_replay.specs.declared.stop.Stop.TheVariants as stop
-use Rattle.gd_replay.specs.Stops.{stop_of, IsCaused, end_faults, RoseWith, EndsAs, EndsBy, EndsSent}
+use Rattle.gd_replay.specs.Stops.{stop_of, IsCaused, end_faults, RoseWith, IfUnopened, EndsAs, EndsBy, EndsSent}
 use Rattle.gd_replay.specs.Sure.{IsSure, IsSureOf}
 use Rattle.gd_replay.specs.Replays.{Accounts, Replays, ReplaysTaken, ReplaysFront}
 use Rattle.gd_replay.specs.Runs.{LineLost, PiecePrints, PieceStops, RunUpto}
@@ -123,6 +123,32 @@ input_known members may loaded leaves old new a b k s fault (Some x) (Some y) up
     by input.Failed = taken (RoseWith a b (Err stop.ReadFault)) (rose_alone a b)
     by input.TooMuch = taken (RoseWith a b (Err stop.TooMuch)) (rose_alone a b)
     by input.Memory = taken (RoseWith a b (Err stop.Memory)) (rose_alone a b)
+
+-- ---- a run that was begun
+
+pub caused_begun : (why : Stop) (p q : Type 0) → IsCaused why p q → IfUnopened (Err why) ⊥
+caused_begun stop.ReadFault p q caused = tt
+caused_begun stop.TooMuch p q caused = tt
+caused_begun stop.SinkFault p q caused = tt
+caused_begun stop.Memory p q caused = tt
+caused_begun (stop.Lost f) p q caused = tt
+caused_begun (stop.Unopened f) p q caused = caused
+
+pub input_begun : (fault : InputFault) → IfUnopened (Err (stop_of fault)) ⊥
+input_begun input.Failed = tt
+input_begun input.TooMuch = tt
+input_begun input.Memory = tt
+
+-- whether its output was sent on or not
+pub sent_begun : (end : Result (Unit {0}) Stop) (sent : Result (Unit {0}) Failed) (result : Result (Unit {0}) Stop) (idle : Type 0) → EndsSent end sent result → IfUnopened end ⊥ → IfUnopened result idle
+sent_begun (Ok u) (Ok v) result idle is begun = rw is tt
+sent_begun (Ok u) (Err e) result idle is begun = rw is tt
+sent_begun (Err stop.ReadFault) sent result idle is begun = rw is tt
+sent_begun (Err stop.TooMuch) sent result idle is begun = rw is tt
+sent_begun (Err stop.SinkFault) sent result idle is begun = rw is tt
+sent_begun (Err stop.Memory) sent result idle is begun = rw is tt
+sent_begun (Err (stop.Lost f)) sent result idle is begun = rw is tt
+sent_begun (Err (stop.Unopened f)) sent result idle is begun = absurd begun
 
 -- ---- causes
 

@@ -79,6 +79,11 @@ EndsAs (Err stop.SinkFault) whole between within idle = within
 EndsAs (Err stop.Memory) whole between within idle = between
 EndsAs (Err (stop.Unopened f)) whole between within idle = idle
 
+-- where the store was not opened it is so
+abbrev pub IfUnopened : Result (Unit {0}) Stop → Type 0 → Type 0
+IfUnopened (Err (stop.Unopened f)) idle = idle
+IfUnopened _ idle = Unit {0}
+
 -- a run has stopped only where its cause is there
 abbrev pub EndsBy : Result (Unit {0}) Stop → (read_failed sink_failed disk_failed is_long : Type 0) → Type 0
 EndsBy (Err stop.ReadFault) read_failed sink_failed disk_failed is_long = read_failed

@@ -12,7 +12,7 @@ ghost use Rattle.gd_runs.specs.Legal.{batches};
 ghost use Rattle.gd_runs.specs.Owed.{MembersOf};
 ghost use Rattle.gd_writer.specs.Parts.{Tells};
 ghost use Rattle.gd_sessions.specs.Running.{core_state};
-ghost use Rattle.gd_replay.specs.Stops.{Leaves, RoseWith, EndsAs, EndsBy, EndsSent, stop_of};
+ghost use Rattle.gd_replay.specs.Stops.{Leaves, RoseWith, IfUnopened, EndsAs, EndsBy, EndsSent, stop_of};
 ghost use Rattle.gd_replay.specs.Kept.{HasBatches, KeepsAs};
 ghost use Rattle.gd_replay.specs.Sure.{IsSure};
 ghost use Rattle.gd_replay.specs.Replays.{Loads, Replays, ReplaysTaken, ReplaysFront};
@@ -71,6 +71,7 @@ fn replay_lines<R: Wait, D: Disk, S: Source, K: Sink, C: Clock>(
         (IfSome (S.left source.old) (ReplaysTaken members (C.may running.side.clock) (λ loaded. loaded ≡ running.side.history.loaded) (λ s. Tells (D.content running.side.log.disk) → Leaves (D.images result.1) s) (RoseWith (D.faults running.side.log.disk) (D.faults result.1) result.0) (K.held sink.old) (K.held sink.new)))
         (IfSome (S.left source.old) (ReplaysFront members (C.may running.side.clock) (λ loaded. loaded ≡ running.side.history.loaded) (λ s. Tells (D.content running.side.log.disk) → Leaves (D.images result.1) s) (RoseWith (D.faults running.side.log.disk) (D.faults result.1) result.0) (K.held sink.old) (K.held sink.new)))
         ⊥ }
+    ensures begun { IfUnopened result.0 ⊥ }
     ensures at_end { OnOk result.0 (IsAtEnd (S.left source.new)) }
     ensures caused { EndsBy result.0 (Rose (S.faults source.old) (S.faults source.new)) (Rose (K.faults sink.old) (K.faults sink.new))
         (Rose (D.faults running.side.log.disk) (D.faults result.1)) (TakesAtLeast (2 ^ 40) (S.left source.old) (S.left source.new) (S.given source.old) (S.given source.new)) }
@@ -140,6 +141,9 @@ pub fn replay<R: Wait, D: Disk, S: Source, K: Sink, C: Clock>(
         (IfSome (S.left source.old) (ReplaysFront members (C.may clock) (Loads (D.content disk)) (λ s. Tells (D.content disk) → Leaves (D.images result.1) s) (RoseWith (D.faults disk) (D.faults result.1) result.0) (K.held sink.old) (K.held sink.new)))
         ((source.new ≡ source.old) × (sink.new ≡ sink.old)) }
     ensures at_end { OnOk result.0 (IsAtEnd (S.left source.new)) }
+
+    // Whatever the disk tells, where the store was not opened nothing is read and nothing printed.
+    ensures unopened { IfUnopened result.0 ((source.new ≡ source.old) × (sink.new ≡ sink.old)) }
 
     // Where all of the input was read, all that was printed is sent on.
     ensures sent { OnOk result.0 (K.sent sink.new ≡ true) }

@@ -10,7 +10,7 @@ use Rattle.gd_replay.specs.Kept.{HasBatches}
 use Rattle.gd_replay.specs.Stops.{Leaves, end_faults, RoseWith, EndsAs}
 use Rattle.gd_replay.specs.Sure.{IsSure}
 use Rattle.gd_replay.specs.Replays.{Loads, Replays, ReplaysTaken, ReplaysFront}
-use Rattle.gd_replay.proofs.Known.{sent_ends, sent_faults, sent_at_end, sent_on, sent_causes, wider_ends, unopened_ends}
+use Rattle.gd_replay.proofs.Known.{sent_ends, sent_faults, sent_begun, sent_at_end, sent_on, sent_causes, wider_ends, unopened_ends}
 use Rattle.gd_replay.proofs.Kept.{keeps_more, sent_keeps}
 use Rattle.gd_replay.proofs.Outcomes.{on_err_more}
 use Rattle.gd_replay.proofs.Taken.{rose_since}
@@ -81,3 +81,6 @@ returns-in-Ok-clause-kept g c = λ file is.
 
 pub returns-in-Err-clause-kept : goal.returns-in-Err-clause-kept
 returns-in-Err-clause-kept g c = λ file is. (c.in-Err.ensures.disk.kept file is, c.in-Err.ensures.refused file is)
+
+pub returns-in-Ok-clause-unopened : goal.returns-in-Ok-clause-unopened
+returns-in-Ok-clause-unopened g c = sent_begun c.replay_lines-end.result.0 c.flush-sent.result c.sent_on.result _ c.sent_on.ensures c.replay_lines-end.ensures.begun

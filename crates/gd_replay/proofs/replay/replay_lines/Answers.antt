@@ -9,7 +9,7 @@ use Rattle.gd_replay.specs.Stops.{Leaves}
 use Rattle.gd_replay.proofs.Begun.{begun_upto, begun_advances, begun_bounded, begun_below, prints_by, stops_by, stops_more}
 use Rattle.gd_replay.proofs.Carried.{along_same, along_then, tells_on}
 use Rattle.gd_replay.proofs.Kept.{leaves_has, has_earlier, keeps_more, input_keeps}
-use Rattle.gd_replay.proofs.Known.{more_known, done_known, stops_known, input_known, advances_then, caused_ends, input_ends}
+use Rattle.gd_replay.proofs.Known.{more_known, done_known, stops_known, input_known, advances_then, caused_ends, input_ends, caused_begun, input_begun}
 use Rattle.gd_replay.proofs.Taken.{rose_since, caused_since}
 use Rattle.gd_replay.proofs.replay.replay_lines.Goals as goal
 
@@ -165,3 +165,12 @@ returns-in-Err-clause-caused g c =
     (λ e. rose_since (g.S.Source.faults c.args.source.now) (g.S.Source.faults c.loop-piece.source) (g.S.Source.faults c.read_line.new.source) inv.source_later (c.in-Err.ensures.failed (ap Err e)))
     (λ e. taken_known x (g.S.Source.left c.read_line.new.source) (g.S.Source.given c.args.source.now) (g.S.Source.given c.read_line.new.source) c.read_line.new.self (2 ^ 40) (advances_then x y z c.loop-piece.reader.consumed c.read_line.new.self.consumed inv.advances c.read_line.ensures.advances)
     (c.read_line.ensures.counted (g.S.Source.given c.args.source.now) inv.given) (c.in-Err.ensures.too_much (ap Err e))))
+
+pub returns-else-by_newline-clause-begun : goal.returns-else-by_newline-clause-begun
+returns-else-by_newline-clause-begun g c = rw c.ended.ensures.parts tt
+
+pub returns-in-Err-take_piece-clause-begun : goal.returns-in-Err-take_piece-clause-begun
+returns-in-Err-take_piece-clause-begun g c = caused_begun c.in-Err-take_piece.stop _ _ c.in-Err-take_piece.ensures.caused
+
+pub returns-in-Err-clause-begun : goal.returns-in-Err-clause-begun
+returns-in-Err-clause-begun g c = rw c.stopped.ensures.parts (input_begun c.in-Err.fault)
