@@ -10,11 +10,11 @@ use Rattle.gd_prim.specs.Live.{end_at, is_live}
 use Rattle.gd_tree.specs.Trees.{tree_count, trees_count, lists_count, trees_of}
 use Rattle.gd_defs.specs.Data.{Kind, of_text}
 use Rattle.gd_defs.specs.Property.{Property, Expects, a_value, a_key, an_object_of_system, a_plain_object, expects_of, holds_values, far_end}
-use Rattle.gd_defs.specs.Asked.{Key, by_guid, by_timestamp, by_property, SortKey, Asking, Members, no_members, own, asks, Asked, name_property}
+use Rattle.gd_defs.specs.Asked.{by_property, SortKey, Asking, Members, no_members, own, asks, Asked, name_property}
 use Rattle.gd_defs.specs.Plan.{language_test, of_kind, namespace_tests, object_test, object_tests, unless_literal, asked_end, answer_end, answers_of, link_template, sort_clauses, clauses_of, template_of}
 use Rattle.gd_defs.specs.Template.{Constraint, end_is, is_object, place_in, links_by, led_to, Template, template, Clauses, no_clauses, clause, meets_constraints, meets_clauses, is_answer, tree_of, clause_lists}
 use Rattle.gd_defs.specs.Reply.{is_clause}
-use Rattle.gd_runs.specs.Work.{near, few, each_far, value_work, sort_work, work}
+use Rattle.gd_runs.specs.Work.{near, few, each_far, value_work, work}
 use Rattle.gd_scan_laws.proofs.Objects.{both_true}
 use Rattle.gd_template_laws.specs.Laws.{OnObjects}
 use Rattle.gd_template_laws.proofs.Bools.{and-false}
@@ -25,6 +25,7 @@ use Rattle.gd_work_laws.specs.Formed.{IsNameOnly, IsFormed, AreFormed}
 use Rattle.gd_work_laws.proofs.Sums.{sum_parts}
 use Rattle.gd_work_laws.proofs.Links.{looked_few, links_sum, far_work}
 use Rattle.gd_work_laws.proofs.Ends.{if_most, link_clauses, link_rest, split, on_far}
+use Rattle.gd_work_laws.proofs.Sorts.{sort_paid}
 use Rattle.gd_work_laws.proofs.Members.{below, far_objects, named_template, on_objects, expects_known}
 
 -- ---- trees
@@ -220,29 +221,10 @@ module _ (prims : List Primitive) (s : ℕ) where
     ]
   ]
 
-  key_reached : (k : Key) (descending : Bool) (ss : List SortKey)
-      → clauses_reached prims (sort_clauses (record { key = k; descending = descending } ∷ ss)) s ≤ 4 * sort_work prims (record { key = k; descending = descending } ∷ []) s + clauses_reached prims (sort_clauses ss) s
-  key_reached by_guid descending ss = behind (clauses_reached prims (sort_clauses ss) s) _
-  key_reached by_timestamp descending ss = behind (clauses_reached prims (sort_clauses ss) s) _
-  key_reached (by_property p) descending ss = whole _ _ _ (property_reached p descending ss)
-    where
-      whole : (n w m : ℕ) → n ≤ 4 * w + m → n ≤ 4 * (0 + w) + m
-      whole n w m less = omega (arith, less)
-
-  split_sort : {A : Type 0} (f : A → ℕ) (x : A) (xs : List A) (n m : ℕ) → n ≤ 4 * sum_by f (x ∷ []) + m → m ≤ 4 * sum_by f xs → n ≤ 4 * sum_by f (x ∷ xs)
-  split_sort f x xs n m one two = by _ _ _ _ (sum_by-cons f x xs) (sum_by-cons f x []) one two
-    where
-      by : (a r t u : ℕ) → t ≡ a + r → u ≡ a + 0 → n ≤ 4 * u + m → m ≤ 4 * r → n ≤ 4 * t
-      by a r t u is one_is one two = omega (arith, is, one_is, one, two)
-
-  sort_reached : (ss : List SortKey) → clauses_reached prims (sort_clauses ss) s ≤ 4 * sort_work prims ss s
-  sort_reached [] = omega arith
-  sort_reached (x ∷ ss) = split_sort _ x ss (clauses_reached prims (sort_clauses (x ∷ ss)) s) (clauses_reached prims (sort_clauses ss) s) (key_reached x.key x.descending ss) (sort_reached ss)
-
 -- ---- the whole
 
 pub members_reached : (prims : List Primitive) (ms : Members) (sort : List SortKey) → AreFormed ms → (s : ℕ) → clauses_reached prims (clauses_of sort ms) s ≤ 4 * work prims sort ms s
-members_reached prims no_members sort formed s = sort_reached prims s sort
+members_reached prims no_members sort formed s = sort_paid prims s (λ cs. clauses_reached prims cs s) refl (property_reached prims s) sort
 members_reached prims (own name w t operand ms) sort formed s = members_reached prims ms sort formed s
 members_reached prims (asks name a c ms) sort formed s =
     both _ _ _ _ (member_reached prims a c s formed.0 (on_objects (answers_of a.property) formed.1.0 (λ are. λ o. members_reached prims c a.sort are o))) (members_reached prims ms sort formed.1.1 s)

@@ -2,7 +2,6 @@
 use Rattle.std.proofs.Common.{◌≡◌, ◌∙◌, ℕ, zero, suc, ◌+◌, ◌*◌, ◌≤◌, List, [], ◌∷◌, ◌++◌, length, Bool, true, false, Option, Some, None, inl, inr, refl, sym, subst, arith}
 use Rattle.std.specs.Prelude.{sum_by}
 use Rattle.std.specs.Option.{option_map_or, option_to_list}
-use Rattle.std.proofs.lemmas.List.Sums.{sum_by-cons}
 use Rattle.gd_prim.specs.declared.Primitive.{Primitive}
 use Rattle.gd_prim.specs.declared.End.TheVariants.{Typ}
 use Rattle.gd_prim.specs.End.{end_of}
@@ -13,7 +12,7 @@ use Rattle.gd_defs.specs.Asked.{Key, by_guid, by_timestamp, by_property, SortKey
 use Rattle.gd_defs.specs.Plan.{language_test, of_kind, namespace_tests, object_test, object_tests, unless_literal, asked_end, answer_end, answers_of, link_template, sort_clauses, clauses_of}
 use Rattle.gd_defs.specs.Template.{Constraint, end_is, is_object, links_by, led_to, Template, template, Clauses, no_clauses, meets_constraints}
 use Rattle.gd_defs.specs.Reply.{is_clause}
-use Rattle.gd_runs.specs.Work.{near, few, each_far, value_work, sort_work, work}
+use Rattle.gd_runs.specs.Work.{near, few, each_far, value_work, work}
 use Rattle.gd_template_laws.specs.Laws.{OnObjects}
 use Rattle.gd_template_laws.proofs.Shapes.{far_clause, link_template-shaped, answer_end-at}
 use Rattle.gd_work_laws.specs.Turns.{looked_at}
@@ -22,6 +21,7 @@ use Rattle.gd_work_laws.specs.Formed.{IsNameOnly, IsFormed, AreFormed}
 use Rattle.gd_work_laws.proofs.Sums.{sum_parts}
 use Rattle.gd_work_laws.proofs.Links.{looked_few, links_sum, far_work}
 use Rattle.gd_work_laws.proofs.Ends.{if_most, link_clauses, link_rest, split, on_far}
+use Rattle.gd_work_laws.proofs.Sorts.{sort_paid}
 use Rattle.gd_work_laws.proofs.Members.{below, far_objects, named_template, on_objects, expects_known}
 
 -- ---- ends
@@ -328,29 +328,10 @@ module _ (prims : List Primitive) (s : ℕ) where
     ]
   ]
 
-  key_counted : (k : Key) (descending : Bool) (ss : List SortKey)
-      → clauses_counted prims (sort_clauses (record { key = k; descending = descending } ∷ ss)) s ≤ 4 * sort_work prims (record { key = k; descending = descending } ∷ []) s + clauses_counted prims (sort_clauses ss) s
-  key_counted by_guid descending ss = behind (clauses_counted prims (sort_clauses ss) s) _
-  key_counted by_timestamp descending ss = behind (clauses_counted prims (sort_clauses ss) s) _
-  key_counted (by_property p) descending ss = whole _ _ _ (property_counted p descending ss)
-    where
-      whole : (n w m : ℕ) → n ≤ 4 * w + m → n ≤ 4 * (0 + w) + m
-      whole n w m less = omega (arith, less)
-
-  split_sort : {A : Type 0} (f : A → ℕ) (x : A) (xs : List A) (n m : ℕ) → n ≤ 4 * sum_by f (x ∷ []) + m → m ≤ 4 * sum_by f xs → n ≤ 4 * sum_by f (x ∷ xs)
-  split_sort f x xs n m one two = by _ _ _ _ (sum_by-cons f x xs) (sum_by-cons f x []) one two
-    where
-      by : (a r t u : ℕ) → t ≡ a + r → u ≡ a + 0 → n ≤ 4 * u + m → m ≤ 4 * r → n ≤ 4 * t
-      by a r t u is one_is one two = omega (arith, is, one_is, one, two)
-
-  sort_counted : (ss : List SortKey) → clauses_counted prims (sort_clauses ss) s ≤ 4 * sort_work prims ss s
-  sort_counted [] = omega arith
-  sort_counted (x ∷ ss) = split_sort _ x ss (clauses_counted prims (sort_clauses (x ∷ ss)) s) (clauses_counted prims (sort_clauses ss) s) (key_counted x.key x.descending ss) (sort_counted ss)
-
 -- ---- the whole
 
 pub members_counted : (prims : List Primitive) (ms : Members) (sort : List SortKey) → AreFormed ms → (s : ℕ) → clauses_counted prims (clauses_of sort ms) s ≤ 4 * work prims sort ms s
-members_counted prims no_members sort formed s = sort_counted prims s sort
+members_counted prims no_members sort formed s = sort_paid prims s (λ cs. clauses_counted prims cs s) refl (property_counted prims s) sort
 members_counted prims (own name w t operand ms) sort formed s = members_counted prims ms sort formed s
 members_counted prims (asks name a c ms) sort formed s =
     both _ _ _ _ (member_counted prims a c s formed.0 (on_objects (answers_of a.property) formed.1.0 (λ are. λ o. members_counted prims c a.sort are o))) (members_counted prims ms sort formed.1.1 s)

@@ -7,6 +7,7 @@ pub mod Scan
 pub mod Named
 pub mod Smallest
 pub mod Rows
+pub mod Sorts
 pub mod Below
 pub mod Counted
 pub mod Ids
