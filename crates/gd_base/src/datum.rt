@@ -17,9 +17,10 @@ pub enum Precision {
     Time,
 }
 
-/// The value of a primitive. `Moment` counts milliseconds from 1970-01-01 in UTC. Data are ordered by their variant
-/// as written here, and then by their contents: moments by `ms` and then by precision, texts by bytes. No primitive
-/// holds an `Object`: that is how rules speak of the objects at a link's ends.
+/// The value of a primitive. `Moment` counts milliseconds from 1970-01-01 in UTC. Data are ordered
+/// by their variant as written here, and then by their contents: moments by `ms` and then by
+/// precision, texts by bytes. No primitive holds an `Object`: that is how rules speak of the
+/// objects at a link's ends.
 #[derive(Debug, Drop, PartialEq, Eq, PartialOrd, Ord, Hash)]
 pub enum Datum {
     Bool(bool),

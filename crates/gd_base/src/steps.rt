@@ -3,8 +3,8 @@ ghost use Rattle.std.specs.Prelude.{◌≡◌, ◌≤◌, ◌+◌, ◌-◌, ◌^
 
 use std::marker::{Model, PhantomData};
 
-/// How many primitives, entries and slots were looked at, in one run that `L` stands for. The count stays at
-/// `u64::MAX`.
+/// How many primitives, entries and slots were looked at, in one run that `L` stands for. The count
+/// stays at `u64::MAX`.
 #[derive(Drop)]
 pub struct Steps<L> {
     taken: u64,

@@ -1,7 +1,8 @@
 //! Texts of bounded length.
 ghost use Rattle.std.specs.Prelude.{◌≡◌, ◌≤◌, ℕ, List, Some, nat_eq, length, IfOk, refl};
 ghost use Rattle.std.specs.Cmp.{partial_equiv_from_equiv};
-ghost use Rattle.std.specs.Cmp.Lexicographic.{slice_cmp, pointwise, nat_list_eq_equiv, nat_list_cmp_total, texts_po, texts_ties};
+ghost use Rattle.std.specs.Cmp.Lexicographic.{slice_cmp, pointwise, nat_list_eq_equiv};
+ghost use Rattle.std.specs.Cmp.Lexicographic.{nat_list_cmp_total, texts_po, texts_ties};
 ghost use Rattle.std.specs.Ordering.{nat_cmp};
 ghost use Rattle.std.specs.Hash as fed;
 ghost use Rattle.std.specs.Cmp.Rules.{hashing};
@@ -19,7 +20,8 @@ use thiserror::Error;
 /// The greatest number of bytes of a text.
 pub const TEXT_LIMIT: usize = 4096;
 
-/// UTF-8 of at most `TEXT_LIMIT` bytes. Contracts see it as the list of its bytes, by which texts are also ordered.
+/// UTF-8 of at most `TEXT_LIMIT` bytes. Contracts see it as the list of its bytes, by which texts
+/// are also ordered.
 #[derive(Debug, Drop)]
 pub struct Text {
     string: String,
@@ -98,8 +100,8 @@ impl Hash for Text {
 }
 
 impl Text {
-    /// The text of these bytes. `TooLong`: more than `TEXT_LIMIT` bytes, tested first. `NotUtf8`: no UTF-8, with
-    /// the length of the longest front that is.
+    /// The text of these bytes. `TooLong`: more than `TEXT_LIMIT` bytes, tested first. `NotUtf8`:
+    /// no UTF-8, with the length of the longest front that is.
     pub fn new(alloc: Global, bytes: &[u8]) -> Result<Text, TextFault>
         ensures { Gives (λ text. text) TextFault.Memory (text_of bytes.now) result }
     {

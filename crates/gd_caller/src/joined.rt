@@ -37,7 +37,8 @@ pub fn answer_joined<D: Disk, C: Clock, L>(
 ) -> Vec<Reply>
     requires within { AreWithin first (first + length works.numbers.items) works }
     requires outcomes { AllByRecursion (IsOfWrites works.writes.items) side.old.outcomes }
-    requires worked { AreWorked first works.reads.items (batches side.old.history) (length side.old.shown) worked.items }
+    requires worked { AreWorked first works.reads.items (batches side.old.history)
+        (length side.old.shown) worked.items }
     requires lines { first + length works.numbers.items < 2 ^ 63 }
     requires budget { 0 < budget }
     ensures side { side.new ≡ record side.old { outcomes = [] } }

@@ -27,7 +27,8 @@ impl<'a> Standing<'a> {
     fn number(&self, line: u64) -> LineNumber
         requires low { self.now.first ≤ line }
         requires high { line < self.now.first + length self.now.numbers.now }
-        ensures { (outs : List Told) → AreNumbers self.now.first outs self.now.numbers.now → IsNumber (kept_of outs line) result }
+        ensures { (outs : List Told) → AreNumbers self.now.first outs self.now.numbers.now
+            → IsNumber (kept_of outs line) result }
     {
         self.numbers[(line - self.first) as usize]
     }
@@ -35,9 +36,11 @@ impl<'a> Standing<'a> {
     /// The number of a write line, where it is one of the read's session behind it that has a
     /// number, and else what is shown.
     fn later_number(&self, read: &ReadLine, write: &WriteLine) -> u32
-        requires within { IsWriteWithin self.now.first (self.now.first + length self.now.numbers.now) write.now }
+        requires within { IsWriteWithin self.now.first
+            (self.now.first + length self.now.numbers.now) write.now }
         ensures { (outs : List Told) → AreNumbers self.now.first outs self.now.numbers.now
-            → result ≡ bounds.later_number outs read.now.line read.now.session self.now.shown (write_of write.now) }
+            → result ≡ bounds.later_number outs read.now.line read.now.session self.now.shown
+            (write_of write.now) }
     {
         if read.line < write.line && write.session == read.session {
             return self.number(write.line).number.unwrap_or(self.shown);
@@ -48,9 +51,12 @@ impl<'a> Standing<'a> {
     /// The greatest number at which a read may be answered: the least of what is shown and of the
     /// numbers of the write lines of its session behind it.
     pub fn least_later(&self, read: &ReadLine) -> u32
-        requires within { AllByRecursion (IsWriteWithin self.now.first (self.now.first + length self.now.numbers.now)) self.now.writes.now }
+        requires within { AllByRecursion
+            (IsWriteWithin self.now.first (self.now.first + length self.now.numbers.now))
+            self.now.writes.now }
         ensures least { (outs : List Told) → AreNumbers self.now.first outs self.now.numbers.now
-            → result ≡ bounds.least_later (map write_of self.now.writes.now) outs read.now.line read.now.session self.now.shown }
+            → result ≡ bounds.least_later (map write_of self.now.writes.now) outs read.now.line
+            read.now.session self.now.shown }
         ensures shown { result ≤ self.now.shown }
     {
         let mut least = self.shown;
@@ -63,7 +69,8 @@ impl<'a> Standing<'a> {
     /// Whether a number has all that a write line told a read: it is greater than its entry, where
     /// it is one of the read's session before it that was stored and is shown.
     fn follows(&self, read: &ReadLine, write: &WriteLine, at: u32) -> bool
-        requires within { IsWriteWithin self.now.first (self.now.first + length self.now.numbers.now) write.now }
+        requires within { IsWriteWithin self.now.first
+            (self.now.first + length self.now.numbers.now) write.now }
         ensures { (outs : List Told) → AreNumbers self.now.first outs self.now.numbers.now
             → IsTrue result → FollowsWrite outs read.now at write.now }
     {
@@ -79,10 +86,13 @@ impl<'a> Standing<'a> {
     /// Whether a number fits a read: it has all that the write lines of its session before it told,
     /// and is not above the number of any behind it.
     pub fn fits(&self, read: &ReadLine, at: u32) -> bool
-        requires within { AllByRecursion (IsWriteWithin self.now.first (self.now.first + length self.now.numbers.now)) self.now.writes.now }
+        requires within { AllByRecursion
+            (IsWriteWithin self.now.first (self.now.first + length self.now.numbers.now))
+            self.now.writes.now }
         requires shown { at ≤ self.now.shown }
         ensures later { (outs : List Told) → AreNumbers self.now.first outs self.now.numbers.now
-            → IsTrue result → at ≤ bounds.least_later (map write_of self.now.writes.now) outs read.now.line read.now.session self.now.shown }
+            → IsTrue result → at ≤ bounds.least_later (map write_of self.now.writes.now) outs
+            read.now.line read.now.session self.now.shown }
         ensures follows { (outs : List Told) → AreNumbers self.now.first outs self.now.numbers.now
             → IsTrue result → FollowsWrites outs read.now at self.now.writes.now }
     {

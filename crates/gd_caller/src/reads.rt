@@ -1,5 +1,6 @@
 //! The reads of a round.
-ghost use Rattle.std.specs.Prelude.{◌≡◌, ◌⊎◌, ◌≤◌, ◌<◌, ◌+◌, ◌-◌, ◌^◌, List, Some, None, length, map, slice_get, slice_set, IfOk, IfSome, IsNone};
+ghost use Rattle.std.specs.Prelude.{◌≡◌, ◌⊎◌, ◌≤◌, ◌<◌, ◌+◌, ◌-◌, ◌^◌, List, Some, None, length};
+ghost use Rattle.std.specs.Prelude.{map, slice_get, slice_set, IfOk, IfSome, IsNone};
 ghost use Rattle.std.specs.List.{AllByRecursion};
 ghost use Rattle.gd_core_laws.specs.Writes.{RisesBy};
 ghost use Rattle.gd_runs.specs.Core as core;
@@ -42,10 +43,12 @@ fn slice_of<L>(
     requires budget { 0 < budget }
     requires line { line < 2 ^ 63 }
     requires going { IsGoing view.now reading.old }
-    ensures reply { IfOk result (λ reply. IfSome reply (λ bytes. bytes.items ≡ core.owed_line view.now line (reading_view reading.old))) }
+    ensures reply { IfOk result (λ reply. IfSome reply
+        (λ bytes. bytes.items ≡ core.owed_line view.now line (reading_view reading.old))) }
     ensures same { reading_view reading.new ≡ reading_view reading.old }
     ensures still { IfOk result (λ reply. IsNone reply → IsGoing view.now reading.new) }
-    ensures less { IfOk result (λ reply. IsNone reply → reading_left (2 ^ 32) view.now reading.new < reading_left (2 ^ 32) view.now reading.old) }
+    ensures less { IfOk result (λ reply. IsNone reply → reading_left (2 ^ 32) view.now reading.new
+        < reading_left (2 ^ 32) view.now reading.old) }
 {
     let mut taken: Steps<L> = Steps::new();
     match reading.slice(alloc, view, budget, line, &mut taken)? {
@@ -65,7 +68,8 @@ fn line_of<L>(
     requires budget { 0 < budget }
     requires line { line < 2 ^ 63 }
     requires going { IsGoing view.now reading.old }
-    ensures { IfOk result (λ bytes. bytes.items ≡ core.owed_line view.now line (reading_view reading.old)) }
+    ensures { IfOk result (λ bytes. bytes.items ≡ core.owed_line view.now line
+        (reading_view reading.old)) }
 {
     loop {
         if let Some(bytes) = slice_of::<L>(alloc, view, reading, budget, line)? {
@@ -130,11 +134,14 @@ fn fitting(
     floor: u32,
     worked: Option<Worked>,
 ) -> Option<Worked>
-    requires writes { AllByRecursion (IsWriteWithin standing.now.first (standing.now.first + length standing.now.numbers.now)) standing.now.writes.now }
+    requires writes { AllByRecursion
+        (IsWriteWithin standing.now.first (standing.now.first + length standing.now.numbers.now))
+        standing.now.writes.now }
     requires shown { IfSome worked (λ w. w.at ≤ standing.now.shown) }
     ensures same { IfSome result (λ w. worked ≡ Some w) }
     ensures fits { (outs : List Told) → AreNumbers standing.now.first outs standing.now.numbers.now
-        → IfSome result (λ w. FitsRead standing.now.shown standing.now.writes.now outs read.now floor w) }
+        → IfSome result (λ w. FitsRead standing.now.shown standing.now.writes.now outs read.now
+        floor w) }
 {
     match worked {
         Some(worked) if floor <= worked.at && standing.fits(read, worked.at) => Some(worked),
@@ -153,11 +160,14 @@ fn answer_at<L>(
     steps: &mut Steps<L>,
 )
     requires there { at ≤ length standing.now.store.now }
-    requires read { IsReadWithin standing.now.first (standing.now.first + length replies.old.items) read }
+    requires read { IsReadWithin standing.now.first (standing.now.first + length replies.old.items)
+        read }
     requires lines { standing.now.first + length replies.old.items < 2 ^ 63 }
     requires budget { 0 < budget }
     ensures replies { (map reply_text replies.new.items ≡ map reply_text replies.old.items)
-        ⊎ (map reply_text replies.new.items ≡ slice_set (map reply_text replies.old.items) (read.line - standing.now.first) (reply_of standing.now.store.now at read.line (read_view read.request))) }
+        ⊎ (map reply_text replies.new.items ≡ slice_set (map reply_text replies.old.items)
+        (read.line - standing.now.first)
+        (reply_of standing.now.store.now at read.line (read_view read.request))) }
     ensures count { length replies.new.items ≡ length replies.old.items }
 {
     let place = (read.line - standing.first) as usize;
@@ -181,14 +191,19 @@ fn answer_read<L>(
     steps: &mut Steps<L>,
 )
     requires shown { standing.now.shown ≤ length standing.now.store.now }
-    requires writes { AllByRecursion (IsWriteWithin standing.now.first (standing.now.first + length standing.now.numbers.now)) standing.now.writes.now }
-    requires read { IsReadWithin standing.now.first (standing.now.first + length replies.old.items) read }
+    requires writes { AllByRecursion
+        (IsWriteWithin standing.now.first (standing.now.first + length standing.now.numbers.now))
+        standing.now.writes.now }
+    requires read { IsReadWithin standing.now.first (standing.now.first + length replies.old.items)
+        read }
     requires worked { IfSome worked (λ w. w.at ≤ standing.now.shown) }
     requires floors { length floors.old ≡ 64 }
     requires lines { standing.now.first + length replies.old.items < 2 ^ 63 }
     requires budget { 0 < budget }
-    ensures answers { (outs : List Told) → AreNumbers standing.now.first outs standing.now.numbers.now
-        → AnswersOne standing.now.first standing.now.store.now standing.now.shown standing.now.writes.now outs read worked floors.old floors.new
+    ensures answers { (outs : List Told)
+        → AreNumbers standing.now.first outs standing.now.numbers.now
+        → AnswersOne standing.now.first standing.now.store.now standing.now.shown
+        standing.now.writes.now outs read worked floors.old floors.new
         (map reply_text replies.old.items) (map reply_text replies.new.items) }
     ensures floors { length floors.new ≡ 64 }
     ensures count { length replies.new.items ≡ length replies.old.items }
@@ -223,15 +238,21 @@ pub(crate) fn answer_reads<L>(
     steps: &mut Steps<L>,
 )
     requires shown { standing.now.shown ≤ length standing.now.store.now }
-    requires writes { AllByRecursion (IsWriteWithin standing.now.first (standing.now.first + length standing.now.numbers.now)) standing.now.writes.now }
-    requires reads { AllByRecursion (IsReadWithin standing.now.first (standing.now.first + length replies.old.items)) reads.items }
+    requires writes { AllByRecursion
+        (IsWriteWithin standing.now.first (standing.now.first + length standing.now.numbers.now))
+        standing.now.writes.now }
+    requires reads { AllByRecursion (IsReadWithin standing.now.first
+        (standing.now.first + length replies.old.items)) reads.items }
     requires rise { RisesBy (λ r. r.line) reads.items }
     requires apart { AreApart reads.items standing.now.writes.now }
-    requires worked { AreWorked standing.now.first reads.items standing.now.store.now standing.now.shown worked.items }
+    requires worked { AreWorked standing.now.first reads.items standing.now.store.now
+        standing.now.shown worked.items }
     requires lines { standing.now.first + length replies.old.items < 2 ^ 63 }
     requires budget { 0 < budget }
-    ensures { (outs : List Told) → AreNumbers standing.now.first outs standing.now.numbers.now → AllByRecursion (IsOfWrites standing.now.writes.now) outs
-        → AnswersReads standing.now.first begun reads.items standing.now.writes.now standing.now.store.now standing.now.shown outs
+    ensures { (outs : List Told) → AreNumbers standing.now.first outs standing.now.numbers.now
+        → AllByRecursion (IsOfWrites standing.now.writes.now) outs
+        → AnswersReads standing.now.first begun reads.items standing.now.writes.now
+        standing.now.store.now standing.now.shown outs
         (map reply_text replies.old.items) (map reply_text replies.new.items) }
 {
     let mut floors = [begun; SESSIONS];

@@ -43,7 +43,8 @@ fn tell_one(first: u64, written: WriteOf, numbers: &mut Vec<LineNumber>, replies
     requires within { IsOutcomeWithin first (first + length numbers.old.items) written }
     requires lines { first + length numbers.old.items < 2 ^ 63 }
     requires many { length replies.old.items ≡ length numbers.old.items }
-    ensures { TellsOne first (told_view written) numbers.old.items numbers.new.items (map reply_text replies.old.items) (map reply_text replies.new.items) }
+    ensures { TellsOne first (told_view written) numbers.old.items numbers.new.items
+        (map reply_text replies.old.items) (map reply_text replies.new.items) }
 {
     let WriteOf { line, outcome } = written;
     let at = (line - first) as usize;
@@ -60,10 +61,12 @@ pub fn tell_all(
     replies: &mut Vec<Reply>,
 )
     requires told { AllByRecursion (λ w. IsTold w.line w.outcome) outcomes.items }
-    requires within { AllByRecursion (IsOutcomeWithin first (first + length numbers.old.items)) outcomes.items }
+    requires within { AllByRecursion (IsOutcomeWithin first (first + length numbers.old.items))
+        outcomes.items }
     requires lines { first + length numbers.old.items < 2 ^ 63 }
     requires many { length replies.old.items ≡ length numbers.old.items }
-    ensures { TellsAll first (map told_view outcomes.items) numbers.old.items numbers.new.items (map reply_text replies.old.items) (map reply_text replies.new.items) }
+    ensures { TellsAll first (map told_view outcomes.items) numbers.old.items numbers.new.items
+        (map reply_text replies.old.items) (map reply_text replies.new.items) }
 {
     while let Some(written) = outcomes.pop() {
         tell_one(first, written, numbers, replies);

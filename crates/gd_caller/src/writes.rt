@@ -24,8 +24,10 @@ fn is_kept<D: Disk, C: Clock>(side: &WriteSide<D, C>, line: u64) -> bool
 /// Carries a write line out, if nothing is kept of it.
 fn write_one<D: Disk, C: Clock, R: Wait>(rt: &R, side: &mut WriteSide<D, C>, write: &WriteLine)
     requires may { MayBeWritten write.now }
-    requires fresh { IsLeft side.old.outcomes write.now.line → IsFresh side.old.history side.old.doubt write.now.line }
-    ensures { WritesLeft D.content D.moment D.images D.images_since D.faults C.may side.old side.new (write_of write.now ∷ []) }
+    requires fresh { IsLeft side.old.outcomes write.now.line
+        → IsFresh side.old.history side.old.doubt write.now.line }
+    ensures { WritesLeft D.content D.moment D.images D.images_since D.faults C.may side.old side.new
+        (write_of write.now ∷ []) }
 {
     // A side says here what it keeps.
     let _stored = side.stored();
@@ -45,8 +47,10 @@ pub fn write_left<D: Disk, C: Clock, R: Wait>(
     writes: &[WriteLine],
 )
     requires may { AllByRecursion MayBeWritten writes.now }
-    requires fresh { LeftAreFresh (map write_of writes.now) side.old.history side.old.doubt side.old.outcomes }
-    ensures { WritesLeft D.content D.moment D.images D.images_since D.faults C.may side.old side.new (map write_of writes.now) }
+    requires fresh { LeftAreFresh (map write_of writes.now) side.old.history side.old.doubt
+        side.old.outcomes }
+    ensures { WritesLeft D.content D.moment D.images D.images_since D.faults C.may side.old side.new
+        (map write_of writes.now) }
 {
     // A side says here what it keeps.
     let _stored = side.stored();

@@ -49,7 +49,9 @@ fn link_made(
     object: Id,
     target: &Target,
 ) -> Result<Answer, ChangeFault>
-    ensures link { GivesLink (links.inserted stamp.now (map (λ name. name.now) path.now) (so_far growing.old) property.now object (target_view target.now)) (so_far growing.new) result }
+    ensures link { GivesLink (links.inserted stamp.now (map (λ name. name.now) path.now)
+        (so_far growing.old) property.now object (target_view target.now)) (so_far growing.new)
+        result }
     ensures below { growing.new.batches ≡ growing.old.batches }
 {
     match inserted(alloc, growing, stamp, property, object, target) {
@@ -69,7 +71,10 @@ fn fact_made<'a>(
     target: &Target,
     spelled: Spelled<'a>,
 ) -> Result<Printed<'a>, ChangeFault>
-    ensures fact { Makes printed_view (defined.fact_made stamp.now (map (λ name. name.now) path.now) (so_far growing.old) property.now (subject_view subject.now) (target_view target.now) (spelled_view spelled.entry)) (so_far growing.new) result }
+    ensures fact { Makes printed_view
+        (defined.fact_made stamp.now (map (λ name. name.now) path.now) (so_far growing.old)
+        property.now (subject_view subject.now) (target_view target.now)
+        (spelled_view spelled.entry)) (so_far growing.new) result }
     ensures below { growing.new.batches ≡ growing.old.batches }
 {
     if !subject.existed {
@@ -95,7 +100,9 @@ fn connect_made<'a>(
     subject: &Subject,
     connect: &Connect<'a>,
 ) -> Result<Printed<'a>, ChangeFault>
-    ensures connect { Makes printed_view (defined.carried_item stamp.now (map (λ name. name.now) path.now) (so_far growing.old) (subject_view subject.now) (connect_view connect.entry.now)) (so_far growing.new) result }
+    ensures connect { Makes printed_view
+        (defined.carried_item stamp.now (map (λ name. name.now) path.now) (so_far growing.old)
+        (subject_view subject.now) (connect_view connect.entry.now)) (so_far growing.new) result }
     ensures below { growing.new.batches ≡ growing.old.batches }
 {
     match connected(
@@ -123,7 +130,9 @@ pub(crate) fn carried<'a>(
     subject: &Subject,
     members: &[Entry<'a, Item<'a>>],
 ) -> Result<Vec<Field<'a>>, ChangeFault>
-    ensures members { Makes (λ final fields. fields_view final fields.items) (defined.carried stamp.now (map (λ name. name.now) path.entry.now) (so_far growing.old) (subject_view subject.now) (members_view members.entry.now)) (so_far growing.new) result }
+    ensures members { Makes (λ final fields. fields_view final fields.items)
+        (defined.carried stamp.now (map (λ name. name.now) path.entry.now) (so_far growing.old)
+        (subject_view subject.now) (members_view members.entry.now)) (so_far growing.new) result }
     ensures below { growing.new.batches ≡ growing.old.batches }
 {
     let mut fields = Vec::new(alloc);
@@ -144,7 +153,9 @@ fn carried_entry<'a>(
     subject: &Subject,
     entry: &Entry<'a, Item<'a>>,
 ) -> Result<Field<'a>, ChangeFault>
-    ensures entry { Leads (λ prims ms. defined.carried stamp.now (map (λ name. name.now) path.entry.now) prims (subject_view subject.now) ms) (so_far growing.old) (so_far growing.new) entry.entry.now result }
+    ensures entry { Leads (λ prims ms. defined.carried stamp.now
+        (map (λ name. name.now) path.entry.now) prims (subject_view subject.now) ms)
+        (so_far growing.old) (so_far growing.new) entry.entry.now result }
     ensures below { growing.new.batches ≡ growing.old.batches }
 {
     match entry {
@@ -167,7 +178,9 @@ fn carried_item<'a>(
     subject: &Subject,
     item: &Item<'a>,
 ) -> Result<Printed<'a>, ChangeFault>
-    ensures item { Makes printed_view (defined.carried_item stamp.now (map (λ name. name.now) path.entry.now) (so_far growing.old) (subject_view subject.now) (item_view item.entry.now)) (so_far growing.new) result }
+    ensures item { Makes printed_view
+        (defined.carried_item stamp.now (map (λ name. name.now) path.entry.now) (so_far growing.old)
+        (subject_view subject.now) (item_view item.entry.now)) (so_far growing.new) result }
     ensures below { growing.new.batches ≡ growing.old.batches }
 {
     match item {
@@ -205,7 +218,10 @@ fn nested_made<'a>(
     word: CreateWord,
     members: &[Entry<'a, Item<'a>>],
 ) -> Result<Printed<'a>, ChangeFault>
-    ensures nested { Makes printed_view (defined.carried_item stamp.now (map (λ name. name.now) path.entry.now) (so_far growing.old) (subject_view subject.now) (parts.nested property.now (create_view word) (members_view members.entry.now))) (so_far growing.new) result }
+    ensures nested { Makes printed_view
+        (defined.carried_item stamp.now (map (λ name. name.now) path.entry.now) (so_far growing.old)
+        (subject_view subject.now) (parts.nested property.now (create_view word)
+        (members_view members.entry.now))) (so_far growing.new) result }
     ensures below { growing.new.batches ≡ growing.old.batches }
 {
     let nested = subject_of(alloc, growing, stamp, path, word, members)?;
@@ -233,7 +249,10 @@ fn several_made<'a>(
     subject: &Subject,
     items: &[Item<'a>],
 ) -> Result<Printed<'a>, ChangeFault>
-    ensures several { Makes printed_view (defined.carried_item stamp.now (map (λ name. name.now) path.entry.now) (so_far growing.old) (subject_view subject.now) (parts.several (many_view items.entry.now))) (so_far growing.new) result }
+    ensures several { Makes printed_view
+        (defined.carried_item stamp.now (map (λ name. name.now) path.entry.now) (so_far growing.old)
+        (subject_view subject.now) (parts.several (many_view items.entry.now))) (so_far growing.new)
+        result }
     ensures below { growing.new.batches ≡ growing.old.batches }
 {
     let printed = carried_items(alloc, growing, stamp, path, subject, items)?;
@@ -250,7 +269,10 @@ fn carried_items<'a>(
     subject: &Subject,
     items: &[Item<'a>],
 ) -> Result<Vec<Printed<'a>>, ChangeFault>
-    ensures items { Makes (λ final ps. many_printed final ps.items) (defined.carried_items stamp.now (map (λ name. name.now) path.entry.now) (so_far growing.old) (subject_view subject.now) (many_view items.entry.now)) (so_far growing.new) result }
+    ensures items { Makes (λ final ps. many_printed final ps.items)
+        (defined.carried_items stamp.now (map (λ name. name.now) path.entry.now)
+        (so_far growing.old) (subject_view subject.now) (many_view items.entry.now))
+        (so_far growing.new) result }
     ensures below { growing.new.batches ≡ growing.old.batches }
 {
     let mut done = Vec::new(alloc);

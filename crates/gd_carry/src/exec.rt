@@ -60,7 +60,8 @@ fn root_subject(
     on: Option<Id>,
     members: &[Entry<'_, Item<'_>>],
 ) -> Result<Subject, ChangeFault>
-    ensures subject { GivesSubject (write.root_subject stamp.now (so_far growing.old) (root_view root.entry) on (members_view members.entry.now)) (so_far growing.new) result }
+    ensures subject { GivesSubject (write.root_subject stamp.now (so_far growing.old)
+        (root_view root.entry) on (members_view members.entry.now)) (so_far growing.new) result }
     ensures below { growing.new.batches ≡ growing.old.batches }
 {
     match root {
@@ -81,7 +82,9 @@ fn carried_root<'a>(
     on: Option<Id>,
     members: &[Entry<'a, Item<'a>>],
 ) -> Result<Vec<Field<'a>>, ChangeFault>
-    ensures root { Makes (λ final fields. fields_view final fields.items) (write.carried_root stamp.now (so_far growing.old) (root_view root.entry) (on, members_view members.entry.now)) (so_far growing.new) result }
+    ensures root { Makes (λ final fields. fields_view final fields.items)
+        (write.carried_root stamp.now (so_far growing.old) (root_view root.entry)
+        (on, members_view members.entry.now)) (so_far growing.new) result }
     ensures below { growing.new.batches ≡ growing.old.batches }
 {
     let subject = root_subject(alloc, growing, stamp, root, on, members)?;
@@ -90,14 +93,18 @@ fn carried_root<'a>(
 
 /// The object that is printed, at the state at the end.
 fn printed(alloc: Global, growing: &Growing<'_>, fields: &[Field<'_>]) -> Result<Json, Memory>
-    ensures { IfOk result (λ json. json_view json ≡ tree_object (fields_view (so_far growing.now) fields.entry.now)) }
+    ensures { IfOk result (λ json. json_view json
+        ≡ tree_object (fields_view (so_far growing.now) fields.entry.now)) }
 {
     Ok(Json::Object(fill_fields(alloc, growing, fields)?))
 }
 
 /// The batch of what was made.
 fn batch_of(moment: u64, growing: Growing<'_>) -> Batch
-    ensures { result ≡ record { moment = moment; prims = drop (length (prims_of growing.entry.batches)) (so_far growing.entry) } }
+    ensures { result ≡ record {
+      moment = moment;
+      prims = drop (length (prims_of growing.entry.batches)) (so_far growing.entry);
+    } }
 {
     Batch {
         moment,
@@ -113,7 +120,8 @@ fn carry_out(
     intent: &Intent<'_>,
     moment: u64,
 ) -> Result<(Batch, Json), ChangeFault>
-    ensures { GivesChange (carried_out (prims_of view.now) (root_view root.entry) (intent_view intent.entry.now) moment) result }
+    ensures { GivesChange (carried_out (prims_of view.now) (root_view root.entry)
+        (intent_view intent.entry.now) moment) result }
 {
     let stamp = Stamp {
         scope: intent.scope,

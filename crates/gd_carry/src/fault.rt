@@ -102,7 +102,8 @@ fn path_of(alloc: Global, names: &[&str]) -> Result<Path, Memory>
 
 /// The refusal at the end of a path, where more is there than may be.
 pub(crate) fn too_many(alloc: Global, path: &[&str]) -> ChangeFault
-    ensures { result ≢ fault.Memory → fault_of result ≡ not_unique (map (λ name. name.now) path.now) }
+    ensures { result ≢ fault.Memory → fault_of result
+        ≡ not_unique (map (λ name. name.now) path.now) }
 {
     match path_of(alloc, path) {
         Ok(path) => ChangeFault::NotUnique { path },
@@ -112,7 +113,9 @@ pub(crate) fn too_many(alloc: Global, path: &[&str]) -> ChangeFault
 
 /// The refusal of a code at a member of the form at the end of a path.
 fn bad_member<'a>(alloc: Global, code: Code, path: &[&'a str], member: &'a str) -> ChangeFault
-    ensures { result ≢ fault.Memory → fault_of result ≡ unknown (bad_query (code_view code) (map (λ name. name.now) path.entry.now ++ member.now ∷ [])) }
+    ensures { result ≢ fault.Memory → fault_of result
+        ≡ unknown (bad_query (code_view code)
+        (map (λ name. name.now) path.entry.now ++ member.now ∷ [])) }
 {
     match longer(alloc, path, member) {
         Ok(below) => ChangeFault::from(bad(alloc, code, &below)),
@@ -122,7 +125,8 @@ fn bad_member<'a>(alloc: Global, code: Code, path: &[&'a str], member: &'a str) 
 
 /// The refusal of a link at a path.
 pub(crate) fn at_path(alloc: Global, path: &[&str], refused: LinkFault) -> ChangeFault
-    ensures { result ≢ fault.Memory → (refused ≢ link.Memory) × (fault_of result ≡ fault_at (map (λ name. name.now) path.now) refused) }
+    ensures { result ≢ fault.Memory → (refused ≢ link.Memory)
+        × (fault_of result ≡ fault_at (map (λ name. name.now) path.now) refused) }
 {
     match refused {
         LinkFault::NotUnique => too_many(alloc, path),

@@ -1,5 +1,6 @@
 //! What a write prints, at the state at its end.
-ghost use Rattle.std.specs.Prelude.{◌≡◌, IfOk, OnOk, ◌++◌, ◌∷◌, [], ◌+◌, ◌<◌, map, drop, length, codes, bytes_eq};
+ghost use Rattle.std.specs.Prelude.{◌≡◌, IfOk, OnOk, ◌++◌, ◌∷◌, [], ◌+◌, ◌<◌, map, drop, length};
+ghost use Rattle.std.specs.Prelude.{codes, bytes_eq};
 ghost use Rattle.gd_tree.specs.Json.{text as tree_text, object as tree_object};
 ghost use Rattle.gd_json.specs.View.{view, items_view, members_view, member_view};
 ghost use Rattle.gd_defs.specs.Write.Carried.{answered, created_text};
@@ -23,7 +24,8 @@ type Members = Vec<(JsonText, Json)>;
 
 /// Puts the same member behind others.
 fn push_copy(members: &mut Members, name: &JsonText, value: &Json) -> Result<(), Memory>
-    ensures { OnOk result (map member_view members.new.items ≡ map member_view members.old.items ++ (name.now, view value.now) ∷ []) }
+    ensures { OnOk result (map member_view members.new.items
+        ≡ map member_view members.old.items ++ (name.now, view value.now) ∷ []) }
 {
     members.push((name.copy()?, value.copy()?))?;
     Ok(())
@@ -31,7 +33,8 @@ fn push_copy(members: &mut Members, name: &JsonText, value: &Json) -> Result<(),
 
 /// Puts the same members behind others.
 fn push_copies(members: &mut Members, more: &[(JsonText, Json)]) -> Result<(), Memory>
-    ensures { OnOk result (map member_view members.new.items ≡ map member_view members.old.items ++ map member_view more.now) }
+    ensures { OnOk result (map member_view members.new.items
+        ≡ map member_view members.old.items ++ map member_view more.now) }
 {
     for member in more {
         push_copy(members, &member.0, &member.1)?;
@@ -87,7 +90,8 @@ fn behind(form: &[(JsonText, Json)], i: usize) -> &[(JsonText, Json)]
 
 /// The members of a connect form with its answer in place of its word.
 fn answered(alloc: Global, answer: &str, form: &[(JsonText, Json)]) -> Result<Members, Memory>
-    ensures { IfOk result (λ members. members_view members.items ≡ answered answer.now (members_view form.now)) }
+    ensures { IfOk result (λ members. members_view members.items
+        ≡ answered answer.now (members_view form.now)) }
 {
     let mut members = Vec::new(alloc);
     for (i, member) in form.iter().enumerate() {
@@ -108,7 +112,8 @@ fn push_answer(
     name: &JsonText,
     answer: &str,
 ) -> Result<(), Memory>
-    ensures { OnOk result (map member_view members.new.items ≡ map member_view members.old.items ++ (name.now, tree_text answer.now) ∷ []) }
+    ensures { OnOk result (map member_view members.new.items
+        ≡ map member_view members.old.items ++ (name.now, tree_text answer.now) ∷ []) }
 {
     members.push((name.copy()?, Json::text(alloc, answer)?))?;
     Ok(())
@@ -129,7 +134,8 @@ pub(crate) fn fill(
     growing: &Growing<'_>,
     printed: &Printed<'_>,
 ) -> Result<Json, Memory>
-    ensures { IfOk result (λ json. view json ≡ printed_view (so_far growing.now) printed.entry.now) }
+    ensures { IfOk result (λ json. view json ≡ printed_view (so_far growing.now)
+        printed.entry.now) }
 {
     match printed {
         Printed::Spelled(spelled) => spelled_json(alloc, *spelled),
@@ -152,7 +158,8 @@ pub(crate) fn fill_fields(
     growing: &Growing<'_>,
     fields: &[(&str, Printed<'_>)],
 ) -> Result<Members, Memory>
-    ensures { IfOk result (λ members. members_view members.items ≡ fields_view (so_far growing.now) fields.entry.now) }
+    ensures { IfOk result (λ members. members_view members.items ≡ fields_view (so_far growing.now)
+        fields.entry.now) }
 {
     let mut members = Vec::new(alloc);
     for field in fields {
@@ -170,7 +177,8 @@ fn fill_items(
     growing: &Growing<'_>,
     items: &[Printed<'_>],
 ) -> Result<Vec<Json>, Memory>
-    ensures { IfOk result (λ filled. items_view filled.items ≡ many_view (so_far growing.now) items.entry.now) }
+    ensures { IfOk result (λ filled. items_view filled.items ≡ many_view (so_far growing.now)
+        items.entry.now) }
 {
     let mut filled = Vec::new(alloc);
     for item in items {

@@ -23,7 +23,8 @@ fn made(
     request: &WriteRequest,
     moment: u64,
 ) -> Result<(Batch, Json), ChangeFault>
-    ensures made { GivesChange (written (prims_of store.now) (write_view request.now) moment) result }
+    ensures made { GivesChange (written (prims_of store.now) (write_view request.now) moment)
+        result }
     ensures history { IsTrue (is_history store.now) }
 {
     let view = store.view(store.requests());
@@ -51,7 +52,8 @@ pub fn evaluate(
 
     // The store may absorb the batch.
     ensures well_formed { IfOk result (λ done. bad_place (prims_of store.now) done.0 ≡ None) }
-    ensures fits { IfOk result (λ done. first_full (limits (prims_of store.now) (length store.now) done.0.prims) ≡ None) }
+    ensures fits { IfOk result (λ done. first_full
+        (limits (prims_of store.now) (length store.now) done.0.prims) ≡ None) }
 {
     let done = made(alloc, store, request, moment)?;
     store.fits(&done.0)?;

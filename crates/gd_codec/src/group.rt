@@ -1,5 +1,6 @@
 //! Groups of batches, read from bytes.
-ghost use Rattle.std.specs.Prelude.{◌≡◌, ◌<◌, ◌≤◌, ℕ, List, None, Some, IfOk, ◌≢◌, MatchResult, is_some};
+ghost use Rattle.std.specs.Prelude.{◌≡◌, ◌<◌, ◌≤◌, ℕ, List, None, Some, IfOk, ◌≢◌, MatchResult};
+ghost use Rattle.std.specs.Prelude.{is_some};
 ghost use Rattle.gd_grammar.specs.Reading.{items_at};
 ghost use Rattle.gd_codec.specs.Groups as defined;
 ghost use Rattle.gd_codec.specs.Stop.{Finds, IsCause};
@@ -32,7 +33,8 @@ fn primitives(
     count: u64,
     bytes: &[u8],
 ) -> Result<(Vec<Primitive>, &[u8]), Stop>
-    ensures { Finds (λ x. (x.0.items, x.1.now)) (items_at (defined.primitive_at moment) count bytes.now) result }
+    ensures { Finds (λ x. (x.0.items, x.1.now))
+        (items_at (defined.primitive_at moment) count bytes.now) result }
 {
     let mut prims = Vec::new(alloc);
     let mut rest = bytes;
@@ -147,8 +149,9 @@ impl Group {
     }
 }
 
-/// Reads a group of batches. `BadBytes`: the bytes are no group, or more follow one; the longest front of the bytes
-/// that begins some group has `offset` bytes. Each group has one spelling, so what was read is written as these bytes.
+/// Reads a group of batches. `BadBytes`: the bytes are no group, or more follow one; the longest
+/// front of the bytes that begins some group has `offset` bytes. Each group has one spelling, so
+/// what was read is written as these bytes.
 pub fn decode_group(alloc: Global, bytes: &[u8]) -> Result<Group, CodecFault>
     ensures read { MatchResult result (λ group. IsGroup bytes.now group) (IsCause bytes.now) }
     ensures writable { IfOk result (λ group. MayWrite group) }

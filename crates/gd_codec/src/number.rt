@@ -34,7 +34,8 @@ fn next_byte<'a>(
 ) -> Result<(u8, &'a [u8]), Stop>
     requires few { more < 8 }
     requires fits { n < 2 ^ 56 }
-    ensures { Finds (λ x. (x.0, x.1.now)) (reading.byte_if (reading.number_goes_on ranges.now more n) bytes.now) result }
+    ensures { Finds (λ x. (x.0, x.1.now))
+        (reading.byte_if (reading.number_goes_on ranges.now more n) bytes.now) result }
 {
     match bytes {
         [] => Err(Stop::Bad { left: 0 }),

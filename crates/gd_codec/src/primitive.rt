@@ -1,4 +1,5 @@
-//! Primitives: a byte of flags, the references that it announces, a value, and a name where it announces one.
+//! Primitives: a byte of flags, the references that it announces, a value, and a name where it
+//! announces one.
 ghost use Rattle.std.specs.Prelude.{◌≡◌, ◌<◌, ◌≤◌, ℕ};
 ghost use Rattle.gd_codec.specs.Groups as defined;
 ghost use Rattle.gd_codec.specs.Stop.{Finds};
@@ -55,7 +56,8 @@ fn id(place: Option<u32>) -> Option<Id>
     place.map(Id::new)
 }
 
-/// Reads what stands behind the first five references of a primitive of this moment and these flags.
+/// Reads what stands behind the first five references of a primitive of this moment and these
+/// flags.
 fn behind_previous(
     alloc: Global,
     moment: u64,
@@ -67,7 +69,8 @@ fn behind_previous(
     previous: Option<u32>,
     bytes: &[u8],
 ) -> Result<(Primitive, &[u8]), Stop>
-    ensures { Finds (λ x. (x.0, x.1.now)) (defined.behind_previous_at moment flags left right typ scope previous bytes.now) result }
+    ensures { Finds (λ x. (x.0, x.1.now))
+        (defined.behind_previous_at moment flags left right typ scope previous bytes.now) result }
 {
     let (lang, rest) = reference(flag(flags, 7), bytes)?;
     let (value, rest) = value(alloc, rest)?;
@@ -87,7 +90,8 @@ fn behind_previous(
     Ok((prim, rest))
 }
 
-/// Reads what stands behind the first three references of a primitive of this moment and these flags.
+/// Reads what stands behind the first three references of a primitive of this moment and these
+/// flags.
 fn behind_typ(
     alloc: Global,
     moment: u64,
@@ -97,7 +101,8 @@ fn behind_typ(
     typ: Option<u32>,
     bytes: &[u8],
 ) -> Result<(Primitive, &[u8]), Stop>
-    ensures { Finds (λ x. (x.0, x.1.now)) (defined.behind_typ_at moment flags left right typ bytes.now) result }
+    ensures { Finds (λ x. (x.0, x.1.now))
+        (defined.behind_typ_at moment flags left right typ bytes.now) result }
 {
     let (scope, rest) = reference(flag(flags, 3), bytes)?;
     let (previous, rest) = reference(flag(flags, 4), rest)?;

@@ -8,7 +8,8 @@ use thiserror::Error;
 /// Why bytes are not read as a group.
 #[derive(Clone, Copy, Debug, PartialEq, Eq, Error)]
 pub enum CodecFault {
-    /// The bytes are no group, and the longest front of them that begins some group has `offset` bytes.
+    /// The bytes are no group, and the longest front of them that begins some group has `offset`
+    /// bytes.
     #[error("the bytes are no group of batches at byte {offset}")]
     BadBytes { offset: u64 },
     /// An allocation was refused.

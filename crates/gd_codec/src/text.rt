@@ -98,7 +98,8 @@ fn after(state: Due, byte: u8) -> Due
 
 /// Reads the next byte of a text, before `more` bytes of it.
 fn next_byte(bytes: &[u8], more: usize, state: Due) -> Result<(u8, &[u8]), Stop>
-    ensures { Finds (λ x. (x.0, x.1.now)) (reading.byte_if (reading.may_come more (due_of state)) bytes.now) result }
+    ensures { Finds (λ x. (x.0, x.1.now))
+        (reading.byte_if (reading.may_come more (due_of state)) bytes.now) result }
 {
     match bytes {
         [] => Err(Stop::Bad { left: 0 }),

@@ -35,7 +35,8 @@ fn write_text(out: &mut Vec<u8>, text: &Text) -> Result<(), Memory>
 
 /// Writes a reference where it is there: four bytes.
 fn write_reference(out: &mut Vec<u8>, reference: Option<Id>) -> Result<(), Memory>
-    ensures written { OnOk result (out.new.items ≡ out.old.items ++ group.reference_bytes reference) }
+    ensures written { OnOk result (out.new.items ≡ out.old.items ++ group.reference_bytes
+        reference) }
     ensures fits { OnOk result (group.ReferenceFits reference) }
 {
     match reference {
@@ -99,7 +100,8 @@ fn flag(worth: u8, set: bool) -> u8
     if set { worth } else { 0 }
 }
 
-/// The flag byte of a primitive: which references and whether a name and a language are there, and whether it is live.
+/// The flag byte of a primitive: which references and whether a name and a language are there, and
+/// whether it is live.
 fn flags(prim: &Primitive) -> u8
     ensures { result ≡ group.flags prim.now }
 {
@@ -116,7 +118,8 @@ fn flags(prim: &Primitive) -> u8
 /// Writes a primitive: flags, the references that are there, the value, the name.
 fn write_primitive(out: &mut Vec<u8>, prim: &Primitive) -> Result<(), Memory>
     requires { IsTrue (may_hold prim.now.value) }
-    ensures written { OnOk result (out.new.items ≡ out.old.items ++ group.primitive_bytes prim.now) }
+    ensures written { OnOk result (out.new.items ≡ out.old.items ++ group.primitive_bytes
+        prim.now) }
     ensures fits { OnOk result (group.PrimitiveFits prim.now.moment prim.now) }
 {
     write_bytes(out, &[flags(prim)])?;
@@ -133,7 +136,8 @@ fn write_primitive(out: &mut Vec<u8>, prim: &Primitive) -> Result<(), Memory>
 /// Writes primitives one after another.
 fn write_primitives(out: &mut Vec<u8>, prims: &[Primitive]) -> Result<(), Memory>
     requires { AllByRecursion (λ p. IsTrue (may_hold p.value)) prims.now }
-    ensures written { OnOk result (out.new.items ≡ out.old.items ++ flat_map group.primitive_bytes prims.now) }
+    ensures written { OnOk result (out.new.items ≡ out.old.items ++ flat_map group.primitive_bytes
+        prims.now) }
     ensures fits { OnOk result (AllByRecursion (λ p. group.PrimitiveFits p.moment p) prims.now) }
 {
     for prim in prims {
@@ -156,7 +160,8 @@ fn write_batch(out: &mut Vec<u8>, batch: &Batch) -> Result<(), Memory>
 /// Writes batches one after another.
 fn write_batches(out: &mut Vec<u8>, batches: &[Batch]) -> Result<(), Memory>
     requires { AllByRecursion BatchMay batches.now }
-    ensures written { OnOk result (out.new.items ≡ out.old.items ++ flat_map group.batch_bytes batches.now) }
+    ensures written { OnOk result (out.new.items ≡ out.old.items ++ flat_map group.batch_bytes
+        batches.now) }
     ensures fits { OnOk result (AllByRecursion group.BatchFits batches.now) }
 {
     for batch in batches {
@@ -165,9 +170,9 @@ fn write_batches(out: &mut Vec<u8>, batches: &[Batch]) -> Result<(), Memory>
     Ok(())
 }
 
-/// The bytes of a group of 1 to 256 batches, which `decode_group` reads again. Each batch has at most 4,096 primitives
-/// and a moment of at most 253,402,300,799,999; its primitives have its moment, no object as a value and no moment
-/// outside the years 0000 to 9999.
+/// The bytes of a group of 1 to 256 batches, which `decode_group` reads again. Each batch has at
+/// most 4,096 primitives and a moment of at most 253,402,300,799,999; its primitives have its
+/// moment, no object as a value and no moment outside the years 0000 to 9999.
 pub fn encode_group(alloc: Global, batches: &[Batch]) -> Result<Vec<u8>, Memory>
     requires { MayWrite batches.now }
     ensures spelled { IfOk result (λ bytes. group.IsGroup bytes.items batches.now) }

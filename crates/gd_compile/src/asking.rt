@@ -34,9 +34,11 @@ const NAME: Id = Id(13);
 /// The type of texts, which names are.
 const TEXT: Id = Id(7);
 
-/// What a member asks of a property where nothing else is said but a test: its answers as they stand, up to 100.
+/// What a member asks of a property where nothing else is said but a test: its answers as they
+/// stand, up to 100.
 fn asking_with(alloc: Global, property: &Property, style: Style, test: Test) -> Asking
-    ensures { asking_view result ≡ record (forms.bare_asking property.now (style_view style)) { test = test_view test } }
+    ensures { asking_view result ≡ record (forms.bare_asking property.now
+        (style_view style)) { test = test_view test } }
 {
     Asking {
         property: *property,
@@ -74,7 +76,8 @@ fn name_property() -> Property
 
 /// What the name is asked for: in a mode, with a test, as a literal or not.
 fn name_asking(alloc: Global, mode: Mode, given: bool, test: Test) -> Asking
-    ensures { asking_view result ≡ record (forms.bare_asking forms.name_property defs.as_value) { test = test_view test; mode = mode_of mode; given = given } }
+    ensures { asking_view result ≡ record (forms.bare_asking forms.name_property
+        defs.as_value) { test = test_view test; mode = mode_of mode; given = given } }
 {
     Asking {
         mode,
@@ -85,7 +88,8 @@ fn name_asking(alloc: Global, mode: Mode, given: bool, test: Test) -> Asking
 
 /// A member that asks a property, with the clause of its answers.
 fn asks(alloc: Global, name: &str, asking: Asking, clause: Vec<Member>) -> Result<Member, Memory>
-    ensures { IfOk result (λ member. put member ≡ defs.asks name.now (asking_view asking) (members_view clause.items)) }
+    ensures { IfOk result (λ member. put member ≡ defs.asks name.now (asking_view asking)
+        (members_view clause.items)) }
 {
     match JsonText::from_str(alloc, name) {
         Ok(name) => Ok(Member::Asks {
@@ -111,7 +115,8 @@ fn sole(alloc: Global, member: Member) -> Result<Vec<Member>, Memory>
 
 /// The clause whose one member is the name: in a mode, with a test, as a literal or not.
 fn name_test(alloc: Global, mode: Mode, given: bool, test: Test) -> Result<Vec<Member>, Memory>
-    ensures { IfOk result (λ clause. members_view clause.items ≡ forms.name_test (mode_of mode) given (test_view test)) }
+    ensures { IfOk result (λ clause. members_view clause.items ≡ forms.name_test (mode_of mode)
+        given (test_view test)) }
 {
     let asking = name_asking(alloc, mode, given, test);
     let name = asks(alloc, "name", asking, Vec::new(alloc))?;
@@ -120,7 +125,8 @@ fn name_test(alloc: Global, mode: Mode, given: bool, test: Test) -> Result<Vec<M
 
 /// What null and `[]` ask of an answer: of a plain object its name.
 fn own_clause(alloc: Global, expects: Expects) -> Result<Vec<Member>, Memory>
-    ensures { IfOk result (λ clause. members_view clause.items ≡ forms.own_clause (expects_view expects)) }
+    ensures { IfOk result (λ clause. members_view clause.items
+        ≡ forms.own_clause (expects_view expects)) }
 {
     match expects {
         Expects::PlainObject => name_test(alloc, Mode::Optional, false, Test::Anything),
@@ -148,7 +154,13 @@ fn counts(expects: Expects) -> bool
 
 /// What null asks of a property, or `[]` where a list is asked for.
 fn plain_asking(alloc: Global, property: &Property, listed: bool) -> Asking
-    ensures { asking_view result ≡ record (forms.bare_asking property.now (forms.style_of (expects_of property.now.expected))) { counted = forms.counts (expects_of property.now.expected); listed = listed; single = not listed } }
+    ensures { asking_view result ≡ record (forms.bare_asking property.now
+        (forms.style_of (expects_of property.now.expected))) {
+          counted = forms.counts
+              (expects_of property.now.expected);
+          listed = listed;
+          single = not listed;
+        } }
 {
     let expects = expects_of(property.expected);
     Asking {
@@ -159,7 +171,8 @@ fn plain_asking(alloc: Global, property: &Property, listed: bool) -> Asking
     }
 }
 
-/// The member that null asks, or `[]` where a list is asked for. `Memory`: an allocation was refused.
+/// The member that null asks, or `[]` where a list is asked for. `Memory`: an allocation was
+/// refused.
 pub(crate) fn ask_form(
     alloc: Global,
     name: &str,
@@ -180,7 +193,8 @@ fn tested_asking(
     literal: bool,
     test: Test,
 ) -> Asking
-    ensures { asking_view result ≡ record (forms.bare_asking property.now (style_view style)) { test = test_view test; mode = required; given = literal } }
+    ensures { asking_view result ≡ record (forms.bare_asking property.now
+        (style_view style)) { test = test_view test; mode = required; given = literal } }
 {
     Asking {
         mode: Mode::Required,
@@ -191,7 +205,8 @@ fn tested_asking(
 
 /// What a literal or an operand asks of a property of plain objects, whose names are tested.
 fn named_asking(alloc: Global, property: &Property, style: Style, literal: bool) -> Asking
-    ensures { asking_view result ≡ record (forms.bare_asking property.now (style_view style)) { mode = required; given = literal; counted = literal } }
+    ensures { asking_view result ≡ record (forms.bare_asking property.now
+        (style_view style)) { mode = required; given = literal; counted = literal } }
 {
     Asking {
         mode: Mode::Required,
@@ -201,8 +216,8 @@ fn named_asking(alloc: Global, property: &Property, style: Style, literal: bool)
     }
 }
 
-/// The member that a literal or an operand asks of such answers, with its test; of a plain object it tests the name. The
-/// operand is copied. `Memory`: an allocation was refused.
+/// The member that a literal or an operand asks of such answers, with its test; of a plain object
+/// it tests the name. The operand is copied. `Memory`: an allocation was refused.
 pub(crate) fn operand_form(
     alloc: Global,
     name: &str,
@@ -212,7 +227,8 @@ pub(crate) fn operand_form(
     json: &Json,
     test: Test,
 ) -> Result<Member, Memory>
-    ensures { IfOk result (λ member. put member ≡ forms.operand_form name.now property.now (expects_view expects) literal (json_of json.now) (test_view test)) }
+    ensures { IfOk result (λ member. put member ≡ forms.operand_form name.now property.now
+        (expects_view expects) literal (json_of json.now) (test_view test)) }
 {
     match json.copy() {
         Ok(json) => operand_asks(alloc, name, property, expects, literal, json, test),
@@ -233,7 +249,8 @@ fn operand_asks(
     operand: Json,
     test: Test,
 ) -> Result<Member, Memory>
-    ensures { IfOk result (λ member. put member ≡ forms.operand_form name.now property.now (expects_view expects) literal (json_of operand) (test_view test)) }
+    ensures { IfOk result (λ member. put member ≡ forms.operand_form name.now property.now
+        (expects_view expects) literal (json_of operand) (test_view test)) }
 {
     let style = Style::Operand(operand);
     if !matches!(expects, Expects::PlainObject) {
@@ -263,7 +280,8 @@ fn mode_from(spelled: Option<SpelledMode>) -> Mode
     }
 }
 
-/// Whether one answer is asked for, and another is one too many: not in a list, nor with the limit 1.
+/// Whether one answer is asked for, and another is one too many: not in a list, nor with the limit
+/// 1.
 pub(crate) fn asks_single(listed: bool, directives: &Directives) -> bool
     ensures { result ≡ forms.asks_single listed (directives_view directives.now) }
 {
@@ -277,7 +295,8 @@ pub(crate) fn limit_from(directives: &Directives) -> u32
     directives.limit.unwrap_or(USUAL_LIMIT)
 }
 
-/// What `{..}` asks of a property, or `[{..}]` where a list is asked for, by its directives and its sort keys.
+/// What `{..}` asks of a property, or `[{..}]` where a list is asked for, by its directives and its
+/// sort keys.
 fn clause_asking(
     alloc: Global,
     property: &Property,
@@ -305,8 +324,8 @@ fn clause_asking(
     }
 }
 
-/// The member that `{..}` asks, or `[{..}]` where a list is asked for, with what its clause asks. `Memory`: an allocation
-/// was refused.
+/// The member that `{..}` asks, or `[{..}]` where a list is asked for, with what its clause asks.
+/// `Memory`: an allocation was refused.
 pub(crate) fn clause_form(
     alloc: Global,
     name: &str,
@@ -315,7 +334,8 @@ pub(crate) fn clause_form(
     listed: bool,
     clause: AskedClause,
 ) -> Result<Member, Memory>
-    ensures { IfOk result (λ member. put member ≡ forms.clause_form name.now property.now (directives_view directives.now) listed (clause_view clause)) }
+    ensures { IfOk result (λ member. put member ≡ forms.clause_form name.now property.now
+        (directives_view directives.now) listed (clause_view clause)) }
 {
     let spoken = spoken(property, &clause.members);
     let asking = clause_asking(alloc, &spoken, directives, listed, clause.sort);

@@ -23,21 +23,24 @@ use gd_plan::plan::Plan;
 use gd_store::view::View;
 use std::alloc::Global;
 
-/// What a query asks at the view's dateline: its root clause with its words looked up, its limit, 100 where none is set, and
-/// whether it lists or counts. It has no meaning where an id or a property is not there, or a form does not go with what
-/// its words stand for: the first refusal decides, clause by clause and member by member, each clause's context type before
-/// its members, with the path of the member from the root down. `Memory`: an allocation was refused.
+/// What a query asks at the view's dateline: its root clause with its words looked up, its limit,
+/// 100 where none is set, and whether it lists or counts. It has no meaning where an id or a
+/// property is not there, or a form does not go with what its words stand for: the first refusal
+/// decides, clause by clause and member by member, each clause's context type before its members,
+/// with the path of the member from the root down. `Memory`: an allocation was refused.
 pub fn asked_query<L>(
     alloc: Global,
     view: &View<'_>,
     query: &Query<'_>,
     steps: &mut Steps<L>,
 ) -> Result<Asked, Unknown>
-    ensures asked { Finds asked_view (defs.asked_query (prims_of view.now) (query_view query.now)) result }
+    ensures asked { Finds asked_view (defs.asked_query (prims_of view.now) (query_view query.now))
+        result }
     ensures later { steps.old ≤ steps.new }
 
     // Where a member of its root clause asks a property, something was looked at.
-    ensures counted { OnOk result (asks_property (query_view query.now).members ≡ true → Rose steps.old steps.new) }
+    ensures counted { OnOk result (asks_property (query_view query.now).members ≡ true
+        → Rose steps.old steps.new) }
 {
     let directives = query.root.directives();
     let clause = asked_clause(alloc, view, None, &[], &query.root, steps)?;
@@ -63,23 +66,27 @@ fn plan_of(alloc: Global, asked: Asked) -> Result<Plan, Unknown>
     }
 }
 
-/// The plan of a read at the view's dateline: what its query asks, and the template for which that stands, which means the
-/// query. The refusals are those of `asked_query`; the template is never too deep, since the forms of a request do not lie
-/// so deep one within another. `Memory`: an allocation was refused.
+/// The plan of a read at the view's dateline: what its query asks, and the template for which that
+/// stands, which means the query. The refusals are those of `asked_query`; the template is never
+/// too deep, since the forms of a request do not lie so deep one within another. `Memory`: an
+/// allocation was refused.
 pub fn compile<L>(
     alloc: Global,
     view: &View<'_>,
     request: &ReadRequest,
     steps: &mut Steps<L>,
 ) -> Result<Plan, Unknown>
-    ensures compiled { Finds asked_view (defs.asked_query (prims_of view.now) (read_view request.now).query) result }
+    ensures compiled { Finds asked_view
+        (defs.asked_query (prims_of view.now) (read_view request.now).query) result }
 
-    // The places that answer the template are the objects that meet the query, and each weighs what it weighs in the query.
+    // The places that answer the template are the objects that meet the query, and each weighs what
+    // it weighs in the query.
     ensures means { IfOk result (λ plan. TemplateMeans (prims_of view.now) (asked_view plan)) }
     ensures later { steps.old ≤ steps.new }
 
     // Where a member of the root clause asks a property, something was looked at.
-    ensures counted { OnOk result (asks_property (read_view request.now).query.members ≡ true → Rose steps.old steps.new) }
+    ensures counted { OnOk result (asks_property (read_view request.now).query.members ≡ true
+        → Rose steps.old steps.new) }
 {
     // Each primitive of a view may hold its value, which a template that means its query rests on.
     let _end = view.end();

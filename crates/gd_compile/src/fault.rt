@@ -51,7 +51,8 @@ fn path_of(alloc: Global, names: &[&str]) -> Result<Path, Memory>
 
 /// The refusal of a code at the member to which names lead from the root down.
 pub fn bad(alloc: Global, code: Code, path: &[&str]) -> Unknown
-    ensures { result ≢ fault.Memory → unknown_of result ≡ bad_query (code_view code) (map (λ name. name.now) path.now) }
+    ensures { result ≢ fault.Memory → unknown_of result ≡ bad_query (code_view code)
+        (map (λ name. name.now) path.now) }
 {
     match path_of(alloc, path) {
         Ok(path) => Unknown::BadQuery { code, path },
@@ -59,9 +60,11 @@ pub fn bad(alloc: Global, code: Code, path: &[&str]) -> Unknown
     }
 }
 
-/// The refusal of the word of the member to which names lead from the root down: no property is meant by it.
+/// The refusal of the word of the member to which names lead from the root down: no property is
+/// meant by it.
 pub(crate) fn no_property(alloc: Global, path: &[&str]) -> Unknown
-    ensures { result ≢ fault.Memory → unknown_of result ≡ no_such_property (map (λ name. name.now) path.now) }
+    ensures { result ≢ fault.Memory → unknown_of result
+        ≡ no_such_property (map (λ name. name.now) path.now) }
 {
     match path_of(alloc, path) {
         Ok(path) => Unknown::NoSuchProperty { path },

@@ -9,14 +9,16 @@ use gd_base::memory::Memory;
 use gd_plan::asked::{Member, SortKey};
 use std::alloc::Global;
 
-/// What a clause asks: its members, and what its rows are sorted by. Contracts see it by `clause_view`.
+/// What a clause asks: its members, and what its rows are sorted by. Contracts see it by
+/// `clause_view`.
 #[derive(Drop)]
 pub(crate) struct AskedClause {
     pub members: Vec<Member>,
     pub sort: Vec<SortKey>,
 }
 
-/// The front of a clause while it is walked; of sort keys the first ones stay. Contracts see it by `in_front`.
+/// The front of a clause while it is walked; of sort keys the first ones stay. Contracts see it by
+/// `in_front`.
 #[derive(Drop)]
 pub(crate) struct Gathered {
     pub members: Vec<Member>,
@@ -36,7 +38,8 @@ impl Gathered {
 
     /// Puts a member behind the others.
     pub fn push(&mut self, member: Member) -> Result<(), Memory>
-        ensures { OnOk result ((c : defs.Clause) → in_front self.new c ≡ in_front self.old (put member c.0, c.1)) }
+        ensures { OnOk result ((c : defs.Clause)
+            → in_front self.new c ≡ in_front self.old (put member c.0, c.1)) }
     {
         self.members.push(member)?;
         Ok(())
@@ -44,7 +47,8 @@ impl Gathered {
 
     /// Keeps the sort keys, unless others stand already.
     pub fn sort_by(&mut self, keys: Vec<SortKey>)
-        ensures { (c : defs.Clause) → in_front self.new c ≡ in_front self.old (c.0, map sort_key_view keys.items) }
+        ensures { (c : defs.Clause) → in_front self.new c
+            ≡ in_front self.old (c.0, map sort_key_view keys.items) }
     {
         if self.sort.is_none() {
             self.sort = Some(keys);

@@ -1,5 +1,6 @@
 //! What a property's answers are, and operands as data of that.
-ghost use Rattle.std.specs.Prelude.{◌≡◌, ◌≤◌, ◌+◌, ◌*◌, length, map, option_map, OnOk, Some, ◌++◌, ◌∷◌, [], ◌<◌, ◌≢◌, Err, IfSome};
+ghost use Rattle.std.specs.Prelude.{◌≡◌, ◌≤◌, ◌+◌, ◌*◌, length, map, option_map, OnOk, Some, ◌++◌};
+ghost use Rattle.std.specs.Prelude.{◌∷◌, [], ◌<◌, ◌≢◌, Err, IfSome};
 ghost use Rattle.std.specs.Option.{ok_or};
 ghost use Rattle.gd_prim.specs.History.{prims_of};
 ghost use Rattle.gd_base.specs.declared.datum.Datum.TheVariants as datum;
@@ -31,8 +32,9 @@ use gd_resolve::ids::named_object;
 use gd_store::view::View;
 use std::alloc::Global;
 
-/// The object that the text of an id names below the dateline. `NoSuchId`: the text is no id or names no object; with the
-/// text. `Memory`: an allocation was refused. It looks at no more than 500 things.
+/// The object that the text of an id names below the dateline. `NoSuchId`: the text is no id or
+/// names no object; with the text. `Memory`: an allocation was refused. It looks at no more than
+/// 500 things.
 pub fn place_named<L>(
     alloc: Global,
     view: &View<'_>,
@@ -44,8 +46,10 @@ pub fn place_named<L>(
     ensures later { steps.old ≤ steps.new }
 
     // A guid of a place below the dateline and a path with a key are looked up.
-    ensures guid_counted { IfSome (guid_place id.now) (λ place. place < length (prims_of view.now) → Rose steps.old steps.new) }
-    ensures path_counted { result ≢ Err fault.Memory → IfSome (id_keys id.now) (λ keys. 0 < length keys → Rose steps.old steps.new) }
+    ensures guid_counted { IfSome (guid_place id.now)
+        (λ place. place < length (prims_of view.now) → Rose steps.old steps.new) }
+    ensures path_counted { result ≢ Err fault.Memory
+        → IfSome (id_keys id.now) (λ keys. 0 < length keys → Rose steps.old steps.new) }
 {
     match named_object(alloc, view, id, steps)? {
         Some(object) => Ok(object),
@@ -55,7 +59,9 @@ pub fn place_named<L>(
 
 /// The datum of a kind that a JSON value spells.
 fn value_datum(alloc: Global, kind: Kind, path: &[&str], json: &Json) -> Result<Datum, Unknown>
-    ensures { Finds (λ datum. datum) (ok_or (kinds.datum_from (kind_of kind) (json_of json.now)) (bad_query bad_value (map (λ name. name.now) path.now))) result }
+    ensures { Finds (λ datum. datum)
+        (ok_or (kinds.datum_from (kind_of kind) (json_of json.now))
+        (bad_query bad_value (map (λ name. name.now) path.now))) result }
 {
     match datum_from(alloc, kind, json) {
         Ok(datum) => Ok(datum),
@@ -66,7 +72,9 @@ fn value_datum(alloc: Global, kind: Kind, path: &[&str], json: &Json) -> Result<
 
 /// The datum of a text that is a key.
 fn key_of_text(alloc: Global, path: &[&str], key: &str) -> Result<Datum, Unknown>
-    ensures { Finds (λ datum. datum) (ok_or (option_map datum.Text (kinds.key_from (text key.now))) (bad_query bad_value (map (λ name. name.now) path.now))) result }
+    ensures { Finds (λ datum. datum)
+        (ok_or (option_map datum.Text (kinds.key_from (text key.now)))
+        (bad_query bad_value (map (λ name. name.now) path.now))) result }
 {
     if is_key(key) {
         Ok(Datum::Text(Text::of(alloc, key)?))
@@ -77,7 +85,9 @@ fn key_of_text(alloc: Global, path: &[&str], key: &str) -> Result<Datum, Unknown
 
 /// The datum of the key that a JSON value spells.
 fn key_datum(alloc: Global, path: &[&str], json: &Json) -> Result<Datum, Unknown>
-    ensures { Finds (λ datum. datum) (ok_or (option_map datum.Text (kinds.key_from (json_of json.now))) (bad_query bad_value (map (λ name. name.now) path.now))) result }
+    ensures { Finds (λ datum. datum)
+        (ok_or (option_map datum.Text (kinds.key_from (json_of json.now)))
+        (bad_query bad_value (map (λ name. name.now) path.now))) result }
 {
     match json {
         Json::Text(key) => key_of_text(alloc, path, key.as_str()),
@@ -93,7 +103,9 @@ fn object_datum<L>(
     json: &Json,
     steps: &mut Steps<L>,
 ) -> Result<Datum, Unknown>
-    ensures datum { Finds (λ datum. datum) (defs.operand_datum (prims_of view.now) property.a_plain_object (map (λ name. name.now) path.now) (json_of json.now)) result }
+    ensures datum { Finds (λ datum. datum)
+        (defs.operand_datum (prims_of view.now) property.a_plain_object
+        (map (λ name. name.now) path.now) (json_of json.now)) result }
     ensures work { steps.new ≤ steps.old + 500 }
     ensures later { steps.old ≤ steps.new }
 {
@@ -103,10 +115,11 @@ fn object_datum<L>(
     }
 }
 
-/// The datum that an operand is where answers are of this sort: a value of the kind, a key, or the object that an id names
-/// below the dateline. `path` has the names that lead to the operand from the root down. `NoSuchId`: an object is wanted,
-/// and the text is no id or names none. `BadQuery` with `BadValue` and the path: the operand has another form, or is no
-/// value or key. `Memory`: an allocation was refused. It looks at no more than 500 things.
+/// The datum that an operand is where answers are of this sort: a value of the kind, a key, or the
+/// object that an id names below the dateline. `path` has the names that lead to the operand from
+/// the root down. `NoSuchId`: an object is wanted, and the text is no id or names none. `BadQuery`
+/// with `BadValue` and the path: the operand has another form, or is no value or key. `Memory`: an
+/// allocation was refused. It looks at no more than 500 things.
 pub fn operand_datum<L>(
     alloc: Global,
     view: &View<'_>,
@@ -115,7 +128,9 @@ pub fn operand_datum<L>(
     json: &Json,
     steps: &mut Steps<L>,
 ) -> Result<Datum, Unknown>
-    ensures datum { Finds (λ datum. datum) (defs.operand_datum (prims_of view.now) (expects_view expects) (map (λ name. name.now) path.now) (json_of json.now)) result }
+    ensures datum { Finds (λ datum. datum)
+        (defs.operand_datum (prims_of view.now) (expects_view expects)
+        (map (λ name. name.now) path.now) (json_of json.now)) result }
     ensures work { steps.new ≤ steps.old + 500 }
     ensures later { steps.old ≤ steps.new }
 {
@@ -135,8 +150,8 @@ fn push_datum(read: &mut Vec<Datum>, datum: Datum) -> Result<(), Memory>
     Ok(())
 }
 
-/// The data that operands are where answers are of this sort, in order; the first that is none is refused as
-/// `operand_datum` says. It looks at no more than 500 things for each.
+/// The data that operands are where answers are of this sort, in order; the first that is none is
+/// refused as `operand_datum` says. It looks at no more than 500 things for each.
 pub fn operand_data<L>(
     alloc: Global,
     view: &View<'_>,
@@ -145,7 +160,9 @@ pub fn operand_data<L>(
     operands: &[Json],
     steps: &mut Steps<L>,
 ) -> Result<Vec<Datum>, Unknown>
-    ensures data { Finds (λ read. read.items) (defs.operand_data (prims_of view.now) (expects_view expects) (map (λ name. name.now) path.now) (items_view operands.now)) result }
+    ensures data { Finds (λ read. read.items)
+        (defs.operand_data (prims_of view.now) (expects_view expects)
+        (map (λ name. name.now) path.now) (items_view operands.now)) result }
     ensures work { steps.new ≤ steps.old + 500 * length operands.now }
     ensures later { steps.old ≤ steps.new }
 {

@@ -31,7 +31,8 @@ use std::alloc::Global;
 
 /// The computed member that null asks.
 fn plain_own(alloc: Global, name: &Name<'_>, own: Own) -> Result<Member, Memory>
-    ensures { IfOk result (λ member. put member ≡ defs.own name.now.spelled.now (own_view own) anything None) }
+    ensures { IfOk result (λ member. put member ≡ defs.own name.now.spelled.now (own_view own)
+        anything None) }
 {
     Ok(Member::Own {
         name: JsonText::from_str(alloc, name.spelled)?,
@@ -58,7 +59,8 @@ fn tested_own(
     json: &Json,
     test: Test,
 ) -> Result<Member, Memory>
-    ensures { IfOk result (λ member. put member ≡ defs.own name.now.spelled.now (own_view own) (test_view test) (Some (json_of json.now))) }
+    ensures { IfOk result (λ member. put member ≡ defs.own name.now.spelled.now (own_view own)
+        (test_view test) (Some (json_of json.now))) }
 {
     match texts_of(alloc, name.spelled, json) {
         Ok((name, operand)) => Ok(Member::Own {
@@ -74,9 +76,10 @@ fn tested_own(
     }
 }
 
-/// What a computed member asks, by its form: null, or a literal or an operand with the test that its word makes of it. `path`
-/// has the names that lead to the member from the root down, its own among them. `BadQuery` with `ObjectForm` and the path:
-/// the form is another one; else what `own_test` says. `Memory`: an allocation was refused.
+/// What a computed member asks, by its form: null, or a literal or an operand with the test that
+/// its word makes of it. `path` has the names that lead to the member from the root down, its own
+/// among them. `BadQuery` with `ObjectForm` and the path: the form is another one; else what
+/// `own_test` says. `Memory`: an allocation was refused.
 pub(crate) fn own_member<L>(
     alloc: Global,
     view: &View<'_>,
@@ -86,7 +89,10 @@ pub(crate) fn own_member<L>(
     form: &Form<'_>,
     steps: &mut Steps<L>,
 ) -> Result<Member, Unknown>
-    ensures member { Leads (defs.own_member (map (λ name. name.now) path.now) (name_view name.now) (own_view own) (form_view form.now) (defs.own_test (prims_of view.now) (map (λ name. name.now) path.now) (own_view own) (name_view name.now).operator)) result }
+    ensures member { Leads (defs.own_member (map (λ name. name.now) path.now) (name_view name.now)
+        (own_view own) (form_view form.now)
+        (defs.own_test (prims_of view.now) (map (λ name. name.now) path.now) (own_view own)
+        (name_view name.now).operator)) result }
     ensures later { steps.old ≤ steps.new }
 {
     match form {
@@ -99,8 +105,8 @@ pub(crate) fn own_member<L>(
     }
 }
 
-/// What the member `value` of a form on a value or a key asks, by its form, as `own_member` says; its test is one of such
-/// answers, by `checked_test`.
+/// What the member `value` of a form on a value or a key asks, by its form, as `own_member` says;
+/// its test is one of such answers, by `checked_test`.
 fn value_itself<L>(
     alloc: Global,
     view: &View<'_>,
@@ -110,7 +116,10 @@ fn value_itself<L>(
     form: &Form<'_>,
     steps: &mut Steps<L>,
 ) -> Result<Member, Unknown>
-    ensures member { Leads (defs.own_member (map (λ name. name.now) path.now) (name_view name.now) defs.its_value (form_view form.now) (tests.checked_test (prims_of view.now) (expects_view expects) (map (λ name. name.now) path.now) (name_view name.now).operator)) result }
+    ensures member { Leads (defs.own_member (map (λ name. name.now) path.now) (name_view name.now)
+        defs.its_value (form_view form.now)
+        (tests.checked_test (prims_of view.now) (expects_view expects)
+        (map (λ name. name.now) path.now) (name_view name.now).operator)) result }
     ensures later { steps.old ≤ steps.new }
 {
     match form {
@@ -138,7 +147,8 @@ fn is_value(word: &str) -> bool
 
 /// Whether the word asks for the namespace of such answers, which are keys.
 fn is_namespace(expects: Expects, word: &str) -> bool
-    ensures { result ≡ (bytes_eq word.now (codes "namespace") && defs.has_namespace (expects_view expects)) }
+    ensures { result ≡ (bytes_eq word.now (codes "namespace")
+        && defs.has_namespace (expects_view expects)) }
 {
     word == "namespace" && has_namespace(expects)
 }
@@ -150,8 +160,8 @@ fn is_lang(expects: Expects, word: &str) -> bool
     word == "lang" && has_lang(expects)
 }
 
-/// What a member of a form on a value or a key asks: its link, its value, of a key the namespace, or of a text the language.
-/// `BadQuery` with `ObjectForm` and the path: it is another member.
+/// What a member of a form on a value or a key asks: its link, its value, of a key the namespace,
+/// or of a text the language. `BadQuery` with `ObjectForm` and the path: it is another member.
 fn value_member<L>(
     alloc: Global,
     view: &View<'_>,
@@ -161,7 +171,8 @@ fn value_member<L>(
     form: &Form<'_>,
     steps: &mut Steps<L>,
 ) -> Result<Member, Unknown>
-    ensures member { Leads (defs.value_member (prims_of view.now) (expects_view expects) (map (λ name. name.now) path.now) (name_view name.now) (form_view form.now)) result }
+    ensures member { Leads (defs.value_member (prims_of view.now) (expects_view expects)
+        (map (λ name. name.now) path.now) (name_view name.now) (form_view form.now)) result }
     ensures later { steps.old ≤ steps.new }
 {
     if is_link(name.word) {
@@ -179,8 +190,8 @@ fn value_member<L>(
     Err(bad(alloc, Code::ObjectForm, path))
 }
 
-/// Puts what a part of a form on a value or a key asks behind what was gathered. `BadQuery` with `ObjectForm` and the path:
-/// it is `sort`.
+/// Puts what a part of a form on a value or a key asks behind what was gathered. `BadQuery` with
+/// `ObjectForm` and the path: it is `sort`.
 fn add_value_part<'a, L>(
     alloc: Global,
     view: &View<'_>,
@@ -190,7 +201,11 @@ fn add_value_part<'a, L>(
     gathered: &mut Gathered,
     steps: &mut Steps<L>,
 ) -> Result<(), Unknown>
-    ensures part { (rest : query.Members) → Adds (defs.value_members (prims_of view.now) (expects_view expects) (map (λ name. name.now) path.entry.now) (with_part part.entry.now rest)) (defs.value_members (prims_of view.now) (expects_view expects) (map (λ name. name.now) path.entry.now) rest) gathered.old gathered.new result }
+    ensures part { (rest : query.Members)
+        → Adds (defs.value_members (prims_of view.now) (expects_view expects)
+        (map (λ name. name.now) path.entry.now) (with_part part.entry.now rest))
+        (defs.value_members (prims_of view.now) (expects_view expects)
+        (map (λ name. name.now) path.entry.now) rest) gathered.old gathered.new result }
     ensures later { steps.old ≤ steps.new }
 {
     match part {
@@ -207,9 +222,9 @@ fn add_value_part<'a, L>(
     }
 }
 
-/// What the members of a form on a value or a key ask, in order; the first one that is refused is refused as
-/// `value_member` says, and `sort` with `ObjectForm` and its path. `path` has the names that lead to the form from the root
-/// down. `Memory`: an allocation was refused.
+/// What the members of a form on a value or a key ask, in order; the first one that is refused is
+/// refused as `value_member` says, and `sort` with `ObjectForm` and its path. `path` has the names
+/// that lead to the form from the root down. `Memory`: an allocation was refused.
 pub(crate) fn value_members<'a, L>(
     alloc: Global,
     view: &View<'_>,
@@ -218,7 +233,9 @@ pub(crate) fn value_members<'a, L>(
     members: &Members<'a>,
     steps: &mut Steps<L>,
 ) -> Result<AskedClause, Unknown>
-    ensures members { Finds clause_view (defs.value_members (prims_of view.now) (expects_view expects) (map (λ name. name.now) path.entry.now) (left members.entry.now)) result }
+    ensures members { Finds clause_view
+        (defs.value_members (prims_of view.now) (expects_view expects)
+        (map (λ name. name.now) path.entry.now) (left members.entry.now)) result }
     ensures later { steps.old ≤ steps.new }
 {
     let mut gathered = Gathered::new(alloc);

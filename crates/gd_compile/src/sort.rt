@@ -37,7 +37,8 @@ fn value_key(
     property: &Property,
     descending: bool,
 ) -> Result<SortKey, Unknown>
-    ensures { Finds sort_key_view (value_key descending (map (λ name. name.now) path.now) property.now) result }
+    ensures { Finds sort_key_view (value_key descending (map (λ name. name.now) path.now)
+        property.now) result }
 {
     if is_value(expects_of(property.expected)) && !property.reversed {
         Ok(SortKey::Value {
@@ -49,10 +50,11 @@ fn value_key(
     }
 }
 
-/// The sort key of a sort word in a context, the type of the objects that are sorted, if one is known: the guid, the
-/// timestamp, or a property whose links are its own and hold values of a kind. `path` has the names that lead to the
-/// directive `sort` from the root down, its own among them. `NoSuchProperty` with the path: the word leads to no property.
-/// `BadQuery` with `BadSort` and the path: it is `id` or leads to another property. `Memory`: an allocation was refused.
+/// The sort key of a sort word in a context, the type of the objects that are sorted, if one is
+/// known: the guid, the timestamp, or a property whose links are its own and hold values of a kind.
+/// `path` has the names that lead to the directive `sort` from the root down, its own among them.
+/// `NoSuchProperty` with the path: the word leads to no property. `BadQuery` with `BadSort` and the
+/// path: it is `id` or leads to another property. `Memory`: an allocation was refused.
 #[tactic(auto, using(crate::proofs::Sorts::value_found))]
 pub fn sort_key<L>(
     alloc: Global,
@@ -62,7 +64,9 @@ pub fn sort_key<L>(
     sort: &SortWord<'_>,
     steps: &mut Steps<L>,
 ) -> Result<SortKey, Unknown>
-    ensures key { Finds sort_key_view (defs.sort_key (prims_of view.now) context (map (λ name. name.now) path.now) (sort_word_view sort.now)) result }
+    ensures key { Finds sort_key_view
+        (defs.sort_key (prims_of view.now) context (map (λ name. name.now) path.now)
+        (sort_word_view sort.now)) result }
     ensures later { steps.old ≤ steps.new }
 {
     let descending = sort.descending;
@@ -98,7 +102,8 @@ fn push_key(keys: &mut Vec<SortKey>, key: SortKey) -> Result<(), Memory>
     Ok(())
 }
 
-/// The sort keys of the words of a directive `sort`, in order; the first word that is none is refused as `sort_key` says.
+/// The sort keys of the words of a directive `sort`, in order; the first word that is none is
+/// refused as `sort_key` says.
 #[tactic(auto, using(crate::proofs::SortWords::few_words, crate::proofs::SortWords::word_there))]
 pub fn sort_keys<L>(
     alloc: Global,
@@ -108,7 +113,9 @@ pub fn sort_keys<L>(
     words: &SortWords<'_>,
     steps: &mut Steps<L>,
 ) -> Result<Vec<SortKey>, Unknown>
-    ensures keys { Finds (λ keys. map sort_key_view keys.items) (defs.sort_keys (prims_of view.now) context (map (λ name. name.now) path.now) (sort_view words.now)) result }
+    ensures keys { Finds (λ keys. map sort_key_view keys.items)
+        (defs.sort_keys (prims_of view.now) context (map (λ name. name.now) path.now)
+        (sort_view words.now)) result }
     ensures later { steps.old ≤ steps.new }
 {
     let mut keys = Vec::new(alloc);

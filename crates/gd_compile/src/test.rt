@@ -1,5 +1,6 @@
 //! Tests of data, as operators make them with their operands.
-ghost use Rattle.std.specs.Prelude.{◌≡◌, ◌≤◌, ◌+◌, ◌*◌, length, map, nat_le, Ok, IfOk, if◌then◌else◌};
+ghost use Rattle.std.specs.Prelude.{◌≡◌, ◌≤◌, ◌+◌, ◌*◌, length, map, nat_le, Ok, IfOk};
+ghost use Rattle.std.specs.Prelude.{if◌then◌else◌};
 ghost use Rattle.gd_prim.specs.History.{prims_of};
 ghost use Rattle.gd_defs.specs.Asked.Tests as defs;
 ghost use Rattle.gd_defs.specs.Query as query;
@@ -26,8 +27,9 @@ use gd_plan::test::Test;
 use gd_store::view::View;
 use std::alloc::Global;
 
-/// Whether an operator stands on answers of this sort: none, `|=` and `!=` on all, the comparisons on values that have an
-/// order, which are texts, whole numbers and moments, and on keys, `~=` on texts and keys. It takes no memory.
+/// Whether an operator stands on answers of this sort: none, `|=` and `!=` on all, the comparisons
+/// on values that have an order, which are texts, whole numbers and moments, and on keys, `~=` on
+/// texts and keys. It takes no memory.
 pub fn allows(expects: Expects, operator: Operator) -> bool
     ensures { result ≡ defs.allows (expects_view expects) (operator_view operator) }
 {
@@ -50,7 +52,8 @@ fn has_order(expects: Expects) -> bool
     )
 }
 
-/// The test of an operator that takes one datum, with that; without an operator the datum is asked for.
+/// The test of an operator that takes one datum, with that; without an operator the datum is asked
+/// for.
 fn compared(operator: Operator, value: Datum) -> Test
     ensures { test_view result ≡ compared (operator_view operator) value }
 {
@@ -89,7 +92,9 @@ fn pattern_test(text: &Text) -> Result<Test, Memory>
 
 /// The test that the words of a text make, which is no longer than texts are.
 fn words_of_text(alloc: Global, path: &[&str], words: &str) -> Result<Test, Unknown>
-    ensures { Finds test_view (if nat_le (length words.now) 4096 then Ok (defs.pattern_test (text_json words.now)) else defs.bad query.bad_value (map (λ name. name.now) path.now)) result }
+    ensures { Finds test_view (if nat_le (length words.now) 4096 then Ok
+        (defs.pattern_test (text_json words.now)) else defs.bad query.bad_value
+        (map (λ name. name.now) path.now)) result }
 {
     if words.len() > TEXT_LIMIT {
         return Err(bad(alloc, Code::BadValue, path));
@@ -100,7 +105,8 @@ fn words_of_text(alloc: Global, path: &[&str], words: &str) -> Result<Test, Unkn
 
 /// The test that `~=` makes with its operand.
 fn words_test(alloc: Global, path: &[&str], json: &Json) -> Result<Test, Unknown>
-    ensures { Finds test_view (words_with (map (λ name. name.now) path.now) (json_of json.now)) result }
+    ensures { Finds test_view (words_with (map (λ name. name.now) path.now) (json_of json.now))
+        result }
 {
     match json {
         Json::Text(words) => words_of_text(alloc, path, words.as_str()),
@@ -118,7 +124,8 @@ fn choice_test<L>(
     json: &Json,
     steps: &mut Steps<L>,
 ) -> Result<Test, Unknown>
-    ensures test { Finds test_view (defs.test_of (prims_of view.now) (expects_view expects) (map (λ name. name.now) path.now) query.one_of (json_of json.now)) result }
+    ensures test { Finds test_view (defs.test_of (prims_of view.now) (expects_view expects)
+        (map (λ name. name.now) path.now) query.one_of (json_of json.now)) result }
     ensures work { steps.new ≤ steps.old + 500 * item_count (json_of json.now) }
     ensures later { steps.old ≤ steps.new }
 {
@@ -141,7 +148,8 @@ fn datum_test<L>(
     json: &Json,
     steps: &mut Steps<L>,
 ) -> Result<Test, Unknown>
-    ensures test { Finds test_view (compared_with (prims_of view.now) (expects_view expects) (map (λ name. name.now) path.now) (operator_view operator) (json_of json.now)) result }
+    ensures test { Finds test_view (compared_with (prims_of view.now) (expects_view expects)
+        (map (λ name. name.now) path.now) (operator_view operator) (json_of json.now)) result }
     ensures work { steps.new ≤ steps.old + 500 }
     ensures later { steps.old ≤ steps.new }
 {
@@ -163,11 +171,12 @@ fn is_words(operator: Operator) -> bool
     matches!(operator, Operator::Words)
 }
 
-/// The test that an operator makes with its operand on answers of this sort, whether it stands on them or not:
-/// `checked_test` asks that first. The operand is read as `operand_datum` says, of `|=` each item of a list, and of `~=` as
-/// a text. `NoSuchId`: an object is wanted, and the text is no id or names none. `BadQuery` with `BadValue` and the path:
-/// the operand has another form, or is no value or key. `Memory`: an allocation was refused. It looks at no more than 500
-/// things for each operand.
+/// The test that an operator makes with its operand on answers of this sort, whether it stands on
+/// them or not: `checked_test` asks that first. The operand is read as `operand_datum` says, of
+/// `|=` each item of a list, and of `~=` as a text. `NoSuchId`: an object is wanted, and the text
+/// is no id or names none. `BadQuery` with `BadValue` and the path: the operand has another form,
+/// or is no value or key. `Memory`: an allocation was refused. It looks at no more than 500 things
+/// for each operand.
 #[tactic(auto, using(crate::proofs::Tests::choice_found, crate::proofs::Tests::words_found, crate::proofs::Tests::datum_found))]
 pub fn test_of<L>(
     alloc: Global,
@@ -178,7 +187,8 @@ pub fn test_of<L>(
     json: &Json,
     steps: &mut Steps<L>,
 ) -> Result<Test, Unknown>
-    ensures test { Finds test_view (defs.test_of (prims_of view.now) (expects_view expects) (map (λ name. name.now) path.now) (operator_view operator) (json_of json.now)) result }
+    ensures test { Finds test_view (defs.test_of (prims_of view.now) (expects_view expects)
+        (map (λ name. name.now) path.now) (operator_view operator) (json_of json.now)) result }
     ensures work { steps.new ≤ steps.old + 500 + 500 * item_count (json_of json.now) }
     ensures later { steps.old ≤ steps.new }
 {
@@ -201,9 +211,10 @@ fn tested_as(expects: Expects) -> Expects
     }
 }
 
-/// The test that an operator makes with its operand on answers of this sort; of plain objects the name is tested, which is a
-/// text. `BadQuery` with `BadOperator` and the path: the operator does not stand on such answers; else what `test_of` says.
-/// `Memory`: an allocation was refused. It looks at no more than 500 things for each operand.
+/// The test that an operator makes with its operand on answers of this sort; of plain objects the
+/// name is tested, which is a text. `BadQuery` with `BadOperator` and the path: the operator does
+/// not stand on such answers; else what `test_of` says. `Memory`: an allocation was refused. It
+/// looks at no more than 500 things for each operand.
 pub fn checked_test<L>(
     alloc: Global,
     view: &View<'_>,
@@ -213,7 +224,8 @@ pub fn checked_test<L>(
     json: &Json,
     steps: &mut Steps<L>,
 ) -> Result<Test, Unknown>
-    ensures test { Finds test_view (defs.checked_test (prims_of view.now) (expects_view expects) (map (λ name. name.now) path.now) (operator_view operator) (json_of json.now)) result }
+    ensures test { Finds test_view (defs.checked_test (prims_of view.now) (expects_view expects)
+        (map (λ name. name.now) path.now) (operator_view operator) (json_of json.now)) result }
     ensures work { steps.new ≤ steps.old + 500 + 500 * item_count (json_of json.now) }
     ensures later { steps.old ≤ steps.new }
 {

@@ -8,10 +8,13 @@ ghost use Rattle.gd_defs.specs.Query as query;
 ghost use Rattle.gd_tree.specs.Look.{text_of};
 ghost use Rattle.gd_json.specs.View.{view as json_of};
 ghost use Rattle.gd_mql.specs.Names.{name_view, operator_view};
-ghost use Rattle.gd_mql.specs.Clauses.{clause_view as clause_spelled, form_view, left, sort_view, with_part};
+ghost use Rattle.gd_mql.specs.Clauses.{clause_view as clause_spelled, form_view, left, sort_view};
+ghost use Rattle.gd_mql.specs.Clauses.{with_part};
 ghost use Rattle.gd_plan.specs.Asked.{put};
 ghost use Rattle.gd_compile.specs.Fault.{Finds};
-ghost use Rattle.gd_compile.specs.Walk.{Adds, Leads, asked_below, asked_clause, asked_member, asks_property, clause_view, object_form, part_asks, tested_form};
+ghost use Rattle.gd_compile.specs.Walk.{Adds, Leads, asked_below, asked_clause, asked_member};
+ghost use Rattle.gd_compile.specs.Walk.{asks_property, clause_view, object_form, part_asks};
+ghost use Rattle.gd_compile.specs.Walk.{tested_form};
 
 use crate::asking::{ask_form, clause_form, operand_form};
 use crate::fault::Unknown;
@@ -44,7 +47,8 @@ fn text_of(json: &Json) -> Option<&str>
 
 /// The text of a part that is the plain member `type` with a text.
 fn part_type<'a>(part: &Part<'a>) -> Option<&'a str>
-    ensures { (ms : query.Members) → defs.type_text (with_part part.entry.now ms) ≡ option_or (option_map (λ text. text.now) result) (defs.type_text ms) }
+    ensures { (ms : query.Members) → defs.type_text (with_part part.entry.now ms)
+        ≡ option_or (option_map (λ text. text.now) result) (defs.type_text ms) }
 {
     match part {
         Part::Member(name, Form::Literal(json)) => {
@@ -84,7 +88,9 @@ fn tested_form<L>(
     json: &Json,
     steps: &mut Steps<L>,
 ) -> Result<Member, Unknown>
-    ensures form { Finds put (tested_form (prims_of view.now) (map (λ name. name.now) path.now) name.now.spelled.now property.now (operator_view operator) literal (json_of json.now)) result }
+    ensures form { Finds put (tested_form (prims_of view.now) (map (λ name. name.now) path.now)
+        name.now.spelled.now property.now (operator_view operator) literal (json_of json.now))
+        result }
     ensures later { steps.old ≤ steps.new }
 {
     let expects = expects_of(property.expected);
@@ -102,7 +108,11 @@ fn add_sort<'a, L>(
     gathered: &mut Gathered,
     steps: &mut Steps<L>,
 ) -> Result<(), Unknown>
-    ensures part { (rest : query.Members) → Adds (defs.asked (prims_of view.now) context (map (λ name. name.now) path.entry.now) (query.sort_by (sort_view words.now) rest)) (defs.asked (prims_of view.now) context (map (λ name. name.now) path.entry.now) rest) gathered.old gathered.new result }
+    ensures part { (rest : query.Members)
+        → Adds (defs.asked (prims_of view.now) context (map (λ name. name.now) path.entry.now)
+        (query.sort_by (sort_view words.now) rest))
+        (defs.asked (prims_of view.now) context (map (λ name. name.now) path.entry.now) rest)
+        gathered.old gathered.new result }
     ensures later { steps.old ≤ steps.new }
 {
     let below = longer(alloc, path, "sort")?;
@@ -111,8 +121,9 @@ fn add_sort<'a, L>(
     Ok(())
 }
 
-/// What a clause asks in its context type, with its members in order and its sort words at their place; the first that is
-/// refused decides. `path` has the names that lead to the clause from the root down. `Memory`: an allocation was refused.
+/// What a clause asks in its context type, with its members in order and its sort words at their
+/// place; the first that is refused decides. `path` has the names that lead to the clause from the
+/// root down. `Memory`: an allocation was refused.
 #[cycle(asked)]
 fn asked<'a, L>(
     alloc: Global,
@@ -122,11 +133,14 @@ fn asked<'a, L>(
     members: &Members<'a>,
     steps: &mut Steps<L>,
 ) -> Result<AskedClause, Unknown>
-    ensures asked { Finds clause_view (defs.asked (prims_of view.now) context (map (λ name. name.now) path.entry.now) (left members.entry.now)) result }
+    ensures asked { Finds clause_view
+        (defs.asked (prims_of view.now) context (map (λ name. name.now) path.entry.now)
+        (left members.entry.now)) result }
     ensures later { steps.old ≤ steps.new }
 
     // Where a member asks a property, something was looked at.
-    ensures counted { OnOk result (asks_property (left members.entry.now) ≡ true → Rose steps.old steps.new) }
+    ensures counted { OnOk result (asks_property (left members.entry.now) ≡ true
+        → Rose steps.old steps.new) }
 {
     let mut gathered = Gathered::new(alloc);
     let mut rest = *members;
@@ -156,7 +170,11 @@ fn add_part<'a, L>(
     gathered: &mut Gathered,
     steps: &mut Steps<L>,
 ) -> Result<(), Unknown>
-    ensures part { (rest : query.Members) → Adds (defs.asked (prims_of view.now) context (map (λ name. name.now) path.entry.now) (with_part part.entry.now rest)) (defs.asked (prims_of view.now) context (map (λ name. name.now) path.entry.now) rest) gathered.old gathered.new result }
+    ensures part { (rest : query.Members)
+        → Adds (defs.asked (prims_of view.now) context (map (λ name. name.now) path.entry.now)
+        (with_part part.entry.now rest))
+        (defs.asked (prims_of view.now) context (map (λ name. name.now) path.entry.now) rest)
+        gathered.old gathered.new result }
     ensures later { steps.old ≤ steps.new }
     ensures counted { OnOk result (part_asks part.entry.now ≡ true → Rose steps.old steps.new) }
 {
@@ -182,9 +200,12 @@ fn asked_member<'a, L>(
     form: &Form<'a>,
     steps: &mut Steps<L>,
 ) -> Result<Member, Unknown>
-    ensures member { Leads (asked_member (prims_of view.now) context (map (λ name. name.now) path.entry.now) (name_view name.entry.now) (form_view form.entry.now)) result }
+    ensures member { Leads (asked_member (prims_of view.now) context
+        (map (λ name. name.now) path.entry.now) (name_view name.entry.now)
+        (form_view form.entry.now)) result }
     ensures later { steps.old ≤ steps.new }
-    ensures counted { OnOk result (is_none (defs.own_of name.entry.now.word.now) ≡ true → Rose steps.old steps.new) }
+    ensures counted { OnOk result (is_none (defs.own_of name.entry.now.word.now) ≡ true
+        → Rose steps.old steps.new) }
 {
     match own_of(name.word) {
         Some(own) => own_member(alloc, view, path, name, own, form, steps),
@@ -206,7 +227,9 @@ fn asked_form<'a, L>(
     form: &Form<'a>,
     steps: &mut Steps<L>,
 ) -> Result<Member, Unknown>
-    ensures form { Finds put (defs.asked_form (prims_of view.now) (map (λ name. name.now) path.entry.now) (name_view name.entry.now) property.now (form_view form.entry.now)) result }
+    ensures form { Finds put (defs.asked_form (prims_of view.now)
+        (map (λ name. name.now) path.entry.now) (name_view name.entry.now) property.now
+        (form_view form.entry.now)) result }
     ensures later { steps.old ≤ steps.new }
 {
     match form {
@@ -259,7 +282,9 @@ fn asked_object<'a, L>(
     listed: bool,
     steps: &mut Steps<L>,
 ) -> Result<Member, Unknown>
-    ensures form { Finds put (object_form (prims_of view.now) (map (λ name. name.now) path.entry.now) name.entry.now.spelled.now property.now (clause_spelled clause.entry.now) listed) result }
+    ensures form { Finds put (object_form (prims_of view.now)
+        (map (λ name. name.now) path.entry.now) name.entry.now.spelled.now property.now
+        (clause_spelled clause.entry.now) listed) result }
     ensures later { steps.old ≤ steps.new }
 {
     let below = asked_below(alloc, view, path, property, clause, steps)?;
@@ -273,7 +298,8 @@ fn asked_object<'a, L>(
     )?)
 }
 
-/// What a form below a property asks: of values and keys their members, of objects a clause in its context type.
+/// What a form below a property asks: of values and keys their members, of objects a clause in its
+/// context type.
 #[cycle(asked)]
 fn asked_below<'a, L>(
     alloc: Global,
@@ -283,7 +309,9 @@ fn asked_below<'a, L>(
     clause: &Clause<'a>,
     steps: &mut Steps<L>,
 ) -> Result<AskedClause, Unknown>
-    ensures below { Finds clause_view (asked_below (prims_of view.now) (map (λ name. name.now) path.entry.now) property.now (clause_spelled clause.entry.now).1) result }
+    ensures below { Finds clause_view
+        (asked_below (prims_of view.now) (map (λ name. name.now) path.entry.now) property.now
+        (clause_spelled clause.entry.now).1) result }
     ensures later { steps.old ≤ steps.new }
 {
     let expects = expects_of(property.expected);
@@ -294,7 +322,8 @@ fn asked_below<'a, L>(
     }
 }
 
-/// What a clause asks in its context type: what the text of its member `type` names, else the type that is passed.
+/// What a clause asks in its context type: what the text of its member `type` names, else the type
+/// that is passed.
 #[cycle(asked)]
 pub(crate) fn asked_clause<'a, L>(
     alloc: Global,
@@ -304,9 +333,12 @@ pub(crate) fn asked_clause<'a, L>(
     clause: &Clause<'a>,
     steps: &mut Steps<L>,
 ) -> Result<AskedClause, Unknown>
-    ensures asked { Finds clause_view (asked_clause (prims_of view.now) above (map (λ name. name.now) path.entry.now) (clause_spelled clause.entry.now).1) result }
+    ensures asked { Finds clause_view
+        (asked_clause (prims_of view.now) above (map (λ name. name.now) path.entry.now)
+        (clause_spelled clause.entry.now).1) result }
     ensures later { steps.old ≤ steps.new }
-    ensures counted { OnOk result (asks_property (clause_spelled clause.entry.now).1 ≡ true → Rose steps.old steps.new) }
+    ensures counted { OnOk result (asks_property (clause_spelled clause.entry.now).1 ≡ true
+        → Rose steps.old steps.new) }
 {
     let members = clause.members();
     let context = context_of(alloc, view, above, type_text(&members), steps)?;

@@ -1,5 +1,6 @@
 //! The words of members: what is computed, and which property is asked for.
-ghost use Rattle.std.specs.Prelude.{◌≡◌, ◌≤◌, ◌+◌, ◌*◌, Ok, IsOk, map, option_map, codes, if◌then◌else◌};
+ghost use Rattle.std.specs.Prelude.{◌≡◌, ◌≤◌, ◌+◌, ◌*◌, Ok, IsOk, map, option_map, codes};
+ghost use Rattle.std.specs.Prelude.{if◌then◌else◌};
 ghost use Rattle.gd_base.specs.Counts.{Rose};
 ghost use Rattle.gd_prim.specs.History.{prims_of};
 ghost use Rattle.gd_defs.specs.Asked as defs;
@@ -56,8 +57,8 @@ pub(crate) fn is_link(word: &str) -> bool
     word == "link"
 }
 
-/// What a word tells by itself, if it is computed: `id`, `guid` and `timestamp`, also as a path below `/type/object`, and
-/// `link`. It takes no memory.
+/// What a word tells by itself, if it is computed: `id`, `guid` and `timestamp`, also as a path
+/// below `/type/object`, and `link`. It takes no memory.
 pub fn own_of(word: &str) -> Option<Own>
     ensures { option_map own_view result ≡ defs.own_of word.now }
 {
@@ -74,7 +75,8 @@ pub fn own_of(word: &str) -> Option<Own>
     }
 }
 
-/// What a computed word expects of its operand: a moment, or the id of an object. It takes no memory.
+/// What a computed word expects of its operand: a moment, or the id of an object. It takes no
+/// memory.
 pub fn own_expects(own: Own) -> Expects
     ensures { expects_view result ≡ defs.own_expects (own_view own) }
 {
@@ -101,8 +103,9 @@ fn reference_takes(operator: Operator) -> bool
     matches!(operator, Operator::Absent)
 }
 
-/// Whether a computed word takes this operator: `link` none, the namespace of a key and the language of a text no operator
-/// at all but an operand by itself, the timestamp the comparisons, and the others what objects allow. It takes no memory.
+/// Whether a computed word takes this operator: `link` none, the namespace of a key and the
+/// language of a text no operator at all but an operand by itself, the timestamp the comparisons,
+/// and the others what objects allow. It takes no memory.
 pub fn takes(own: Own, operator: Operator) -> bool
     ensures { result ≡ defs.takes (own_view own) (operator_view operator) }
 {
@@ -127,7 +130,8 @@ fn asked_object(test: &Test) -> Option<Id>
 /// Whether a test asks for a language. It takes no memory.
 fn names_language<L>(view: &View<'_>, test: &Test, steps: &mut Steps<L>) -> bool
     ensures language { result ≡ defs.names_language (prims_of view.now) (test_view test.now) }
-    ensures work { steps.new ≤ steps.old + 22 + 4 * said_of (prims_of view.now) (defs.asked_object (test_view test.now)) }
+    ensures work { steps.new ≤ steps.old + 22 + 4 * said_of (prims_of view.now)
+        (defs.asked_object (test_view test.now)) }
     ensures later { steps.old ≤ steps.new }
 {
     match asked_object(test) {
@@ -145,8 +149,10 @@ fn told<L>(
     test: Test,
     steps: &mut Steps<L>,
 ) -> Result<Test, Unknown>
-    ensures test { Finds test_view (defs.told (prims_of view.now) (map (λ name. name.now) path.now) (own_view own) (test_view test)) result }
-    ensures work { steps.new ≤ steps.old + language_steps (prims_of view.now) (own_view own) (defs.asked_object (test_view test)) }
+    ensures test { Finds test_view (defs.told (prims_of view.now) (map (λ name. name.now) path.now)
+        (own_view own) (test_view test)) result }
+    ensures work { steps.new ≤ steps.old + language_steps (prims_of view.now) (own_view own)
+        (defs.asked_object (test_view test)) }
     ensures later { steps.old ≤ steps.new }
 {
     match own {
@@ -161,10 +167,11 @@ fn told<L>(
     }
 }
 
-/// The test that an operator makes with its operand on a computed word. `BadQuery` with `BadOperator` and the path: the
-/// word does not take the operator; else what `test_of` says, where objects are named by ids and `timestamp` is compared
-/// with moments; of `lang` then `BadQuery` with `BadLang` and the path: the object is no language. `Memory`: an allocation
-/// was refused. It looks at no more than 500 things for each operand, and of `lang` at what is said of the object.
+/// The test that an operator makes with its operand on a computed word. `BadQuery` with
+/// `BadOperator` and the path: the word does not take the operator; else what `test_of` says, where
+/// objects are named by ids and `timestamp` is compared with moments; of `lang` then `BadQuery`
+/// with `BadLang` and the path: the object is no language. `Memory`: an allocation was refused. It
+/// looks at no more than 500 things for each operand, and of `lang` at what is said of the object.
 pub fn own_test<L>(
     alloc: Global,
     view: &View<'_>,
@@ -174,8 +181,12 @@ pub fn own_test<L>(
     json: &Json,
     steps: &mut Steps<L>,
 ) -> Result<Test, Unknown>
-    ensures test { Finds test_view (defs.own_test (prims_of view.now) (map (λ name. name.now) path.now) (own_view own) (operator_view operator) (json_of json.now)) result }
-    ensures work { steps.new ≤ steps.old + 500 + 500 * item_count (json_of json.now) + language_steps (prims_of view.now) (own_view own) (object_named (prims_of view.now) (json_of json.now)) }
+    ensures test { Finds test_view (defs.own_test (prims_of view.now)
+        (map (λ name. name.now) path.now) (own_view own) (operator_view operator)
+        (json_of json.now)) result }
+    ensures work { steps.new ≤ steps.old + 500 + 500 * item_count
+        (json_of json.now) + language_steps (prims_of view.now) (own_view own)
+        (object_named (prims_of view.now) (json_of json.now)) }
     ensures later { steps.old ≤ steps.new }
 {
     if takes(own, operator) {
@@ -186,9 +197,9 @@ pub fn own_test<L>(
     }
 }
 
-/// The context type of a clause: what the text of its member `type` names, if it has one, and else the type that the
-/// property expects that leads to it. `NoSuchId`: the text is no id or names no object; with the text. `Memory`: an
-/// allocation was refused. It looks at no more than 500 things.
+/// The context type of a clause: what the text of its member `type` names, if it has one, and else
+/// the type that the property expects that leads to it. `NoSuchId`: the text is no id or names no
+/// object; with the text. `Memory`: an allocation was refused. It looks at no more than 500 things.
 pub fn context_of<L>(
     alloc: Global,
     view: &View<'_>,
@@ -196,7 +207,9 @@ pub fn context_of<L>(
     type_text: Option<&str>,
     steps: &mut Steps<L>,
 ) -> Result<Option<Id>, Unknown>
-    ensures context { Finds (λ context. context) (defs.context_of (prims_of view.now) above (option_map (λ text. text.now) type_text.entry)) result }
+    ensures context { Finds (λ context. context)
+        (defs.context_of (prims_of view.now) above (option_map (λ text. text.now) type_text.entry))
+        result }
     ensures work { steps.new ≤ steps.old + 500 }
     ensures later { steps.old ≤ steps.new }
 {
@@ -208,16 +221,18 @@ pub fn context_of<L>(
 
 /// Whether the object states a property of values, and what is asked for is reversed.
 fn is_reversed_value<L>(view: &View<'_>, named: &Named, steps: &mut Steps<L>) -> bool
-    ensures reversed { result ≡ property.is_reversed_value (prims_of view.now) named.now.object named.now.property }
+    ensures reversed { result ≡ property.is_reversed_value (prims_of view.now) named.now.object
+        named.now.property }
     ensures later { steps.old ≤ steps.new }
 {
     named.property.reversed && holds_values(expects_of(expected_type(view, named.object, steps)))
 }
 
-/// The property that a member asks for in a context, the type of the objects that are asked, if one is known; turned where
-/// `!` stands before its word. `path` has the names that lead to the member from the root down, its own among them.
-/// `NoSuchProperty` with the path: the word leads to no property. `BadQuery` with `ValueReversed` and the path: the
-/// property holds values, and they are asked for backwards. `Memory`: an allocation was refused.
+/// The property that a member asks for in a context, the type of the objects that are asked, if one
+/// is known; turned where `!` stands before its word. `path` has the names that lead to the member
+/// from the root down, its own among them. `NoSuchProperty` with the path: the word leads to no
+/// property. `BadQuery` with `ValueReversed` and the path: the property holds values, and they are
+/// asked for backwards. `Memory`: an allocation was refused.
 pub fn member_property<L>(
     alloc: Global,
     view: &View<'_>,
@@ -226,7 +241,9 @@ pub fn member_property<L>(
     name: &Name<'_>,
     steps: &mut Steps<L>,
 ) -> Result<Property, Unknown>
-    ensures property { Finds (λ p. p) (defs.member_property (prims_of view.now) context (map (λ name. name.now) path.now) (name_view name.now)) result }
+    ensures property { Finds (λ p. p)
+        (defs.member_property (prims_of view.now) context (map (λ name. name.now) path.now)
+        (name_view name.now)) result }
     ensures later { steps.old ≤ steps.new }
     ensures counted { IsOk result → Rose steps.old steps.new }
 {
@@ -244,7 +261,10 @@ fn unless_reversed<L>(
     named: &Named,
     steps: &mut Steps<L>,
 ) -> Result<Property, Unknown>
-    ensures property { Finds (λ p. p) (if property.is_reversed_value (prims_of view.now) named.now.object named.now.property then defs.bad query.value_reversed (map (λ name. name.now) path.now) else Ok named.now.property) result }
+    ensures property { Finds (λ p. p)
+        (if property.is_reversed_value (prims_of view.now) named.now.object named.now.property
+        then defs.bad query.value_reversed (map (λ name. name.now) path.now) else Ok
+        named.now.property) result }
     ensures later { steps.old ≤ steps.new }
 {
     if is_reversed_value(view, named, steps) {

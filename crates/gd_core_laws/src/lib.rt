@@ -1,8 +1,15 @@
-//! What the core prints, on one thread and in rounds on threads, one legal history explains. Each law is the contract of a
-//! function that does nothing: whoever calls it may use the law, and code above cites its statement from `specs/Laws.antt`.
+//! What the core prints, on one thread and in rounds on threads, one legal history explains. Each
+//! law is the contract of a function that does nothing: whoever calls it may use the law, and code
+//! above cites its statement from `specs/Laws.antt`.
 #![tactic(auto)]
 
-ghost use Rattle.gd_core_laws.specs.Laws.{CallersKeep, FilesHold, FrontsAreExplained, KeptWritesAreSteps, LinesAreExplained, LockedWritesKeep, LocksKeep, ReadsAgainFit, ReadsWithoutMemoryEnter, RoundFrontsAreExplained, RoundsAreExplained, RoundsFollow, SomeLinesAreExplained, SomeRoundsAreExplained, WorkedReadsFit, WritesKeepHistory};
+ghost use Rattle.gd_core_laws.specs.Laws.{CallersKeep, FilesHold, FrontsAreExplained};
+ghost use Rattle.gd_core_laws.specs.Laws.{KeptWritesAreSteps, LinesAreExplained, LockedWritesKeep};
+ghost use Rattle.gd_core_laws.specs.Laws.{LocksKeep, ReadsAgainFit, ReadsWithoutMemoryEnter};
+ghost use Rattle.gd_core_laws.specs.Laws.{RoundFrontsAreExplained, RoundsAreExplained};
+ghost use Rattle.gd_core_laws.specs.Laws.{RoundsFollow, SomeLinesAreExplained};
+ghost use Rattle.gd_core_laws.specs.Laws.{SomeRoundsAreExplained, WorkedReadsFit};
+ghost use Rattle.gd_core_laws.specs.Laws.{WritesKeepHistory};
 
 /// Lines that are served one after another through the core print what its history explains.
 pub fn lines_are_explained()
@@ -34,7 +41,8 @@ pub fn kept_writes_are_steps()
     ensures { KeptWritesAreSteps }
 {}
 
-/// What is in doubt was left so by a line, and files that may have it stand for the history, with or without it.
+/// What is in doubt was left so by a line, and files that may have it stand for the history, with
+/// or without it.
 pub fn files_hold()
     ensures { FilesHold }
 {}

@@ -1,5 +1,6 @@
 //! The workers of a round, with the seats and the jobs of its sessions.
-ghost use Rattle.std.specs.Prelude.{◌≡◌, ◌≤◌, ◌<◌, ◌+◌, length, vec_capacity, IfOk, OnOk, OnErr, MatchResult};
+ghost use Rattle.std.specs.Prelude.{◌≡◌, ◌≤◌, ◌<◌, ◌+◌, length, vec_capacity, IfOk, OnOk, OnErr};
+ghost use Rattle.std.specs.Prelude.{MatchResult};
 ghost use Rattle.std.specs.List.{All};
 ghost use Rattle.gd_crew.specs.Jobs.{AreNumbered};
 ghost use Rattle.gd_crew.specs.Ready.{IsIdle, IsReady, IsManned, MayHire, lent};
@@ -95,7 +96,8 @@ fn seat_among<'a>(
     ensures fewer { OnOk result (length seats.new.items + 1 ≡ length seats.old.items) }
     ensures idle { All (IsIdle shown.history) seats.new.items }
     ensures ready { All (IsReady shown.history works.now) seated.new.items }
-    ensures count { length seats.new.items + length seated.new.items ≡ length seats.old.items + length seated.old.items }
+    ensures count { length seats.new.items + length seated.new.items
+        ≡ length seats.old.items + length seated.old.items }
     ensures capacity { vec_capacity seats.new ≡ vec_capacity seats.old }
 {
     seated.reserve(1)?;
@@ -126,7 +128,8 @@ fn seat<'a>(
     ensures fewer { OnOk result (length seats.new.items + 1 ≡ length seats.old.items) }
     ensures idle { All (IsIdle shown.history) seats.new.items }
     ensures manned { All (IsManned shown.history works.now) hired.new.items }
-    ensures count { length seats.new.items + lent hired.new.items ≡ length seats.old.items + lent hired.old.items }
+    ensures count { length seats.new.items + lent hired.new.items ≡ length seats.old.items + lent
+        hired.old.items }
     ensures capacity { vec_capacity seats.new ≡ vec_capacity seats.old }
 {
     let place = place_of(alloc, hired, sid % workers, budget)?;
@@ -165,7 +168,8 @@ fn seat_all<'a, D: Disk, C: Clock>(
     requires manned { All (IsManned side.now.table works.now) hired.old.items }
     ensures idle { All (IsIdle side.now.table) seats.new.items }
     ensures manned { All (IsManned side.now.table works.now) hired.new.items }
-    ensures count { length seats.new.items + lent hired.new.items ≡ length seats.old.items + lent hired.old.items }
+    ensures count { length seats.new.items + lent hired.new.items ≡ length seats.old.items + lent
+        hired.old.items }
     ensures capacity { vec_capacity seats.new ≡ vec_capacity seats.old }
 {
     for sid in sessions {
@@ -194,7 +198,9 @@ pub fn assign<'a, D: Disk, C: Clock>(
     requires room { length seats.old.items ≤ vec_capacity seats.old }
     ensures idle { All (IsIdle side.now.table) seats.new.items }
     ensures manned { IfOk result (λ hired. All (IsManned side.now.table works.now) hired.items) }
-    ensures count { MatchResult result (λ hired. length seats.new.items + lent hired.items ≡ length seats.old.items) (λ _. length seats.new.items ≡ length seats.old.items) }
+    ensures count { MatchResult result
+        (λ hired. length seats.new.items + lent hired.items ≡ length seats.old.items)
+        (λ _. length seats.new.items ≡ length seats.old.items) }
     ensures capacity { vec_capacity seats.new ≡ vec_capacity seats.old }
 {
     let sessions = sessions_of(alloc, works)?;

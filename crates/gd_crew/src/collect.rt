@@ -1,5 +1,6 @@
 //! What is taken of workers after a round: their seats, and the replies that fit what is shown.
-ghost use Rattle.std.specs.Prelude.{◌≡◌, ◌≤◌, ◌<◌, ◌+◌, ◌∷◌, [], length, map, None, Some, slice_set, vec_capacity};
+ghost use Rattle.std.specs.Prelude.{◌≡◌, ◌≤◌, ◌<◌, ◌+◌, ◌∷◌, [], length, map, None, Some};
+ghost use Rattle.std.specs.Prelude.{slice_set, vec_capacity};
 ghost use Rattle.std.specs.List.{All, AllByRecursion};
 ghost use Rattle.gd_runs.specs.Legal.{batches};
 ghost use Rattle.gd_round_lines.specs.Worked.{AreWorked};
@@ -67,7 +68,8 @@ fn dismiss_session(
     requires table { IsOfTable shown.now.history one }
     requires idle { All (IsIdle shown.now.history) seats.old.items }
     requires room { length seats.old.items < vec_capacity seats.old }
-    ensures worked { TakesSessions first shown.now.history shown.now.list (one.entry ∷ []) worked.old.items worked.new.items }
+    ensures worked { TakesSessions first shown.now.history shown.now.list (one.entry ∷ [])
+        worked.old.items worked.new.items }
     ensures idle { All (IsIdle shown.now.history) seats.new.items }
     ensures count { length seats.new.items ≡ length seats.old.items + 1 }
     ensures capacity { vec_capacity seats.new ≡ vec_capacity seats.old }
@@ -94,7 +96,8 @@ fn dismiss_sessions(
     requires table { All (IsOfTable shown.now.history) seated.items }
     requires idle { All (IsIdle shown.now.history) seats.old.items }
     requires room { length seats.old.items + length seated.items ≤ vec_capacity seats.old }
-    ensures worked { TakesSessions first shown.now.history shown.now.list seated.entry.items worked.old.items worked.new.items }
+    ensures worked { TakesSessions first shown.now.history shown.now.list seated.entry.items
+        worked.old.items worked.new.items }
     ensures idle { All (IsIdle shown.now.history) seats.new.items }
     ensures count { length seats.new.items ≡ length seats.old.items + length seated.entry.items }
     ensures capacity { vec_capacity seats.new ≡ vec_capacity seats.old }
@@ -116,7 +119,8 @@ pub(crate) fn dismiss(
     requires table { All (λ w. All (IsOfTable shown.now.history) w.seated.items) workers.items }
     requires idle { All (IsIdle shown.now.history) seats.old.items }
     requires room { length seats.old.items + lent workers.items ≤ vec_capacity seats.old }
-    ensures worked { TakesWorkers first shown.now.history shown.now.list workers.entry.items worked.old.items worked.new.items }
+    ensures worked { TakesWorkers first shown.now.history shown.now.list workers.entry.items
+        worked.old.items worked.new.items }
     ensures idle { All (IsIdle shown.now.history) seats.new.items }
     ensures count { length seats.new.items ≡ length seats.old.items + lent workers.entry.items }
     ensures capacity { vec_capacity seats.new ≡ vec_capacity seats.old }
@@ -153,7 +157,8 @@ pub fn collect<D: Disk, C: Clock>(
     requires workers { All (HasWorked side.now.table works.now.reads.items) workers.items }
     requires idle { All (IsIdle side.now.table) seats.old.items }
     requires room { length seats.old.items + lent workers.items ≤ vec_capacity seats.old }
-    ensures worked { AreWorked first works.now.reads.items (batches side.now.history) (length side.now.shown) result.items }
+    ensures worked { AreWorked first works.now.reads.items (batches side.now.history)
+        (length side.now.shown) result.items }
     ensures idle { All (IsIdle side.now.table) seats.new.items }
     ensures count { length seats.new.items ≡ length seats.old.items + lent workers.entry.items }
     ensures capacity { vec_capacity seats.new ≡ vec_capacity seats.old }

@@ -3,7 +3,8 @@ ghost use Rattle.std.specs.Prelude.{◌≡◌, ◌<◌, ◌==◌, ◌∷◌, [],
 ghost use Rattle.std.specs.List.{AllByRecursion};
 ghost use Rattle.gd_round_lines.specs.Works.{MayBeWritten};
 ghost use Rattle.gd_crew.specs.Seated.{job_view};
-ghost use Rattle.gd_crew.specs.Jobs.{job_of_read, job_of_write, Adds, AreJobsOf, AreNumbered, MayBeRead};
+ghost use Rattle.gd_crew.specs.Jobs.{job_of_read, job_of_write, Adds, AreJobsOf, AreNumbered};
+ghost use Rattle.gd_crew.specs.Jobs.{MayBeRead};
 
 use crate::job::{Job, Work};
 use gd_base::memory::Memory;
@@ -47,7 +48,8 @@ fn push_read<'a>(
 ) -> Result<(), Memory>
     requires place { place < length reads.now }
     requires reads { AllByRecursion MayBeRead reads.now }
-    ensures { OnOk result (Adds reads.now [] (map job_view jobs.old.items) (map job_view jobs.new.items)) }
+    ensures { OnOk result (Adds reads.now [] (map job_view jobs.old.items)
+        (map job_view jobs.new.items)) }
 {
     let read = &reads[place];
     if read.session == sid {
@@ -66,7 +68,8 @@ fn push_reads<'a>(
     before: u64,
 ) -> Result<usize, Memory>
     requires reads { AllByRecursion MayBeRead reads.now }
-    ensures { OnOk result (Adds reads.now [] (map job_view jobs.old.items) (map job_view jobs.new.items)) }
+    ensures { OnOk result (Adds reads.now [] (map job_view jobs.old.items)
+        (map job_view jobs.new.items)) }
 {
     for place in from..reads.len() {
         if reads[place].line >= before {
@@ -88,7 +91,8 @@ fn push_write<'a>(
 ) -> Result<usize, Memory>
     requires reads { AllByRecursion MayBeRead reads.now }
     requires write { MayBeWritten write.now }
-    ensures { OnOk result (Adds reads.now (filter (λ w. w.session == sid) (write.now ∷ [])) (map job_view jobs.old.items) (map job_view jobs.new.items)) }
+    ensures { OnOk result (Adds reads.now (filter (λ w. w.session == sid) (write.now ∷ []))
+        (map job_view jobs.old.items) (map job_view jobs.new.items)) }
 {
     if write.session != sid {
         return Ok(from);

@@ -66,7 +66,8 @@ fn run_named<
     requires lines { (L.named.first ≡ first) × (L.named.given ≡ kept_lines lines.now) }
     requires side { BeginsRound D.content D.moment D.faults C.may L.named side }
     requires workers { All (MayRun (begun L.named) L.named.table) workers.old }
-    ensures side { IsLocked D.content D.moment D.images D.images_since D.faults C.may L.named result }
+    ensures side { IsLocked D.content D.moment D.images D.images_since D.faults C.may L.named
+        result }
     ensures workers { HaveRun (begun L.named) L.named.table workers.old workers.new }
 {
     let writers: Writers<L, D, C> = Writers::new(side);
@@ -93,9 +94,11 @@ pub fn run_round<D: Disk + Send, C: Clock + Send, G: Gate, R: Threads + Wait + S
     // No entry and no write in doubt is of line `first` or a later one.
     requires fresh { IsFreshFrom first side.history side.doubt }
     requires short { All IsShort lines.now }
-    requires writes { (given : List Numbered) → AreKept lines.now (texts_of given) → map write_of works.now.writes.items ≡ write_lines first given }
+    requires writes { (given : List Numbered) → AreKept lines.now (texts_of given)
+        → map write_of works.now.writes.items ≡ write_lines first given }
     requires workers { All (IsManned side.table works.now) workers.old }
-    ensures side { IsJoined D.content D.moment D.images D.images_since D.faults C.may (map write_of works.now.writes.items) side result }
+    ensures side { IsJoined D.content D.moment D.images D.images_since D.faults C.may
+        (map write_of works.now.writes.items) side result }
     ensures workers { All (HasWorked side.table works.now.reads.items) workers.new }
     ensures lent { lent workers.new ≡ lent workers.old }
 {

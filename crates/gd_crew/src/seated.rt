@@ -1,5 +1,6 @@
 //! A session with its jobs in a round.
-ghost use Rattle.std.specs.Prelude.{◌≡◌, ◌≢◌, ◌<◌, ◌≤◌, ◌+◌, ◌^◌, ◌++◌, ◌∷◌, [], length, map, None, Some, IfOk, IfErr, false, slice_get, vec_capacity};
+ghost use Rattle.std.specs.Prelude.{◌≡◌, ◌≢◌, ◌<◌, ◌≤◌, ◌+◌, ◌^◌, ◌++◌, ◌∷◌, [], length, map, None};
+ghost use Rattle.std.specs.Prelude.{Some, IfOk, IfErr, false, slice_get, vec_capacity};
 ghost use Rattle.gd_mql.specs.Requests.{read_view, write_view};
 ghost use Rattle.gd_crew.specs.Round.{begun};
 ghost use Rattle.gd_crew.specs.Runs.{RunsPart, IsOver, Share};
@@ -120,7 +121,8 @@ impl<'a> Seated<'a> {
         requires more { self.old.done < length self.old.jobs.items }
         requires goes { self.old.stop ≡ None }
         requires part { (v : Share) × RunsPart (begun L.named) L.named.table v (share_of self.old) }
-        ensures runs { (v : Share) → RunsPart (begun L.named) L.named.table v (share_of self.old) → RunsPart (begun L.named) L.named.table v (share_of self.new) }
+        ensures runs { (v : Share) → RunsPart (begun L.named) L.named.table v (share_of self.old)
+            → RunsPart (begun L.named) L.named.table v (share_of self.new) }
     {
         let job = &self.jobs[self.done];
         let line = job.line;
@@ -169,7 +171,8 @@ impl<'a> Seated<'a> {
     ) -> bool
         requires budget { (0 < budget) × (budget ≤ 1_000_000) }
         requires part { (v : Share) × RunsPart (begun L.named) L.named.table v (share_of self.old) }
-        ensures runs { (v : Share) → RunsPart (begun L.named) L.named.table v (share_of self.old) → RunsPart (begun L.named) L.named.table v (share_of self.new) }
+        ensures runs { (v : Share) → RunsPart (begun L.named) L.named.table v (share_of self.old)
+            → RunsPart (begun L.named) L.named.table v (share_of self.new) }
         ensures over { result ≡ false → IsOver (share_of self.new) }
     {
         if self.stop.is_some() {

@@ -39,7 +39,8 @@ pub(crate) fn lend<'a>(
     requires some { 0 < length seats.old.items }
     ensures idle { All (IsIdle shown.history) seats.new.items }
     ensures ready { IfOk result (λ seated. IsReady shown.history works.now seated) }
-    ensures count { MatchResult result (λ _. length seats.new.items + 1 ≡ length seats.old.items) (λ _. length seats.new.items ≡ length seats.old.items) }
+    ensures count { MatchResult result (λ _. length seats.new.items + 1 ≡ length seats.old.items)
+        (λ _. length seats.new.items ≡ length seats.old.items) }
     ensures capacity { vec_capacity seats.new ≡ vec_capacity seats.old }
 {
     let jobs = jobs_of(alloc, works, sid)?;

@@ -83,7 +83,8 @@ impl<'a> Worker<'a> {
         requires budget { (0 < self.old.budget) × (self.old.budget ≤ 1_000_000) }
         requires begins { All (Begins (begun L.named) L.named.table) self.old.seated.items }
         ensures same { (self.new.number ≡ self.old.number) × (self.new.budget ≡ self.old.budget) }
-        ensures run { AllRun (begun L.named) L.named.table self.old.seated.items self.new.seated.items }
+        ensures run { AllRun (begun L.named) L.named.table self.old.seated.items
+            self.new.seated.items }
     {
         let number = self.number;
         let budget = self.budget;

@@ -1,5 +1,6 @@
 //! The lock of writes.
-ghost use Rattle.std.specs.Prelude.{◌≡◌, ◌≤◌, ◌<◌, ◌^◌, ℕ, Bool, true, false, Some, IfOk, IfSome, OnOk, OnErr, is_some};
+ghost use Rattle.std.specs.Prelude.{◌≡◌, ◌≤◌, ◌<◌, ◌^◌, ℕ, Bool, true, false, Some, IfOk, IfSome};
+ghost use Rattle.std.specs.Prelude.{OnOk, OnErr, is_some};
 ghost use Rattle.gd_runs.specs.Side.{IsLeft};
 ghost use Rattle.gd_core_laws.specs.Bounds.{kept_of};
 ghost use Rattle.gd_core_laws.specs.Lock.{HasOutcome};
@@ -51,7 +52,8 @@ impl<L: Round, D: Disk, C: Clock> Model for Held<L, D, C> {
 
     ghost view = { λ h. h.side };
 
-    ghost invariant = { λ h. IsLocked D.content D.moment D.images D.images_since D.faults C.may L.named h.side };
+    ghost invariant = { λ h. IsLocked D.content D.moment D.images D.images_since D.faults C.may
+        L.named h.side };
 }
 
 impl<L: Round, D: Disk, C: Clock> Held<L, D, C> {
@@ -101,7 +103,8 @@ impl<L: Round, D: Disk, C: Clock> Held<L, D, C> {
     /// A receipt of all that is shown, for a line that is stored and shown.
     fn receipt(&self, line: u64) -> Option<Receipt>
         ensures stored { is_some result ≡ is_stored (kept_of self.now.outcomes line) }
-        ensures told { IfSome result (λ receipt. IsToldLocked D.content D.moment D.images D.images_since D.faults C.may L.named receipt) }
+        ensures told { IfSome result (λ receipt. IsToldLocked D.content D.moment D.images
+            D.images_since D.faults C.may L.named receipt) }
     {
         self.side.receipt(line)
     }
@@ -119,8 +122,11 @@ impl<L: Round, D: Disk, C: Clock> Held<L, D, C> {
         requires of_round { IsOfRound (begun L.named) line before (write_view request.now) bytes }
         requires bytes { bytes ≤ 262_144 }
         requires line { line < 2 ^ 63 }
-        ensures stored { IfOk result (λ found. is_some found ≡ is_stored (kept_of self.new.outcomes line)) }
-        ensures told { IfOk result (λ found. IfSome found (λ receipt. IsToldLocked D.content D.moment D.images D.images_since D.faults C.may L.named receipt)) }
+        ensures stored { IfOk result (λ found. is_some found
+            ≡ is_stored (kept_of self.new.outcomes line)) }
+        ensures told { IfOk result (λ found. IfSome found
+            (λ receipt. IsToldLocked D.content D.moment D.images D.images_since D.faults C.may
+            L.named receipt)) }
     {
         if !self.is_next(line, before) {
             return Ok(self.receipt(line));
@@ -152,7 +158,8 @@ impl<L: Round, D: Disk, C: Clock> Writers<L, D, C> {
 
     /// The side, once the round has ended, of which holds what the lock kept. It takes no memory.
     pub fn into_side(self) -> WriteSide<D, C>
-        ensures { IsLocked D.content D.moment D.images D.images_since D.faults C.may L.named result }
+        ensures { IsLocked D.content D.moment D.images D.images_since D.faults C.may L.named
+            result }
     {
         let Writers { held } = self;
         let Held { side, of: _ } = held.into_inner();
@@ -174,7 +181,9 @@ impl<L: Round, D: Disk, C: Clock> Writers<L, D, C> {
         requires of_round { IsOfRound (begun L.named) line before (write_view request.now) bytes }
         requires bytes { bytes ≤ 262_144 }
         requires line { line < 2 ^ 63 }
-        ensures told { IfOk result (λ found. IfSome found (λ receipt. IsToldLocked D.content D.moment D.images D.images_since D.faults C.may L.named receipt)) }
+        ensures told { IfOk result (λ found. IfSome found
+            (λ receipt. IsToldLocked D.content D.moment D.images D.images_since D.faults C.may
+            L.named receipt)) }
     {
         self.held.lock(rt).write(rt, line, before, request, bytes)
     }

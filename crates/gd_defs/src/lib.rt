@@ -1,2 +1,3 @@
-//! Definitions of what a store means: data, ids, queries, rows, replies, templates and writes. They stand in `specs/`.
+//! Definitions of what a store means: data, ids, queries, rows, replies, templates and writes. They
+//! stand in `specs/`.
 #![tactic(auto)]

@@ -12,8 +12,8 @@ use std::os::unix::fs::FileExt;
 use std::path::Path;
 use std::rt::Files;
 
-/// A file of the operating system, which nobody else may write. Contracts see it as its count of faults: no clause
-/// says what a real file holds, and its room does not end.
+/// A file of the operating system, which nobody else may write. Contracts see it as its count of
+/// faults: no clause says what a real file holds, and its room does not end.
 #[derive(Drop)]
 pub struct FileDisk {
     file: File,
@@ -37,9 +37,10 @@ impl Model for FileDisk {
 }
 
 impl FileDisk {
-    /// Opens the file, makes it where there is none, and takes the system's exclusive lock of it, without waiting: the
-    /// lock is held as long as the disk is there. An error is that of the system, or `WouldBlock` where the file is open
-    /// and locked elsewhere; then it is left as it is.
+    /// Opens the file, makes it where there is none, and takes the system's exclusive lock of it,
+    /// without waiting: the lock is held as long as the disk is there. An error is that of the
+    /// system, or `WouldBlock` where the file is open and locked elsewhere; then it is left as it
+    /// is.
     pub fn open<R: Files<File = File>>(files: &R, path: &str) -> io::Result<FileDisk>
         ensures { IfOk result (λ disk. disk ≡ 0) }
     {
@@ -68,8 +69,9 @@ impl FileDisk {
         self.faults
     }
 
-    /// Syncs the content and the length, and the first time the folder, which has the file's name. Where a sync
-    /// failed, the system may take for written what was not: so that is written again first.
+    /// Syncs the content and the length, and the first time the folder, which has the file's name.
+    /// Where a sync failed, the system may take for written what was not: so that is written again
+    /// first.
     fn settle(&mut self) -> io::Result<()>
         ensures { self.new ≡ self.old }
     {

@@ -1,5 +1,6 @@
 //! The files of the operating system as a shelf.
-ghost use Rattle.std.specs.Prelude.{◌≡◌, ◌<◌, [], ◌∷◌, ◌++◌, None, filter, not, bytes_eq, vec_len, vec_capacity};
+ghost use Rattle.std.specs.Prelude.{◌≡◌, ◌<◌, [], ◌∷◌, ◌++◌, None, filter, not, bytes_eq, vec_len};
+ghost use Rattle.std.specs.Prelude.{vec_capacity};
 ghost use Rattle.gd_disk.specs.FileShelf.{is_among};
 
 use crate::file_disk::FileDisk;
@@ -10,8 +11,8 @@ use std::fs::File;
 use std::marker::Model;
 use std::rt::Files;
 
-/// The files of the operating system, of which contracts see no content: only which paths are out, and the count of
-/// faults.
+/// The files of the operating system, of which contracts see no content: only which paths are out,
+/// and the count of faults.
 #[derive(Drop)]
 pub struct FileShelf<R> {
     files: R,
@@ -28,8 +29,8 @@ impl<R> Model for FileShelf<R> {
 }
 
 impl<R: Files<File = File>> FileShelf<R> {
-    /// The files that `files` opens. A file is locked while it is out, and one that another program has locked is not
-    /// opened: the answer is `Failed`.
+    /// The files that `files` opens. A file is locked while it is out, and one that another program
+    /// has locked is not opened: the answer is `Failed`.
     pub fn new(alloc: Global, files: R) -> FileShelf<R>
         ensures out { result.out ≡ [] }
         ensures faults { result.faults ≡ 0 }

@@ -1,5 +1,6 @@
 //! A file in memory that can tell all its calls.
-ghost use Rattle.std.specs.Prelude.{◌≡◌, ◌+◌, ◌-◌, ◌*◌, ◌<◌, ◌≤◌, ◌∷◌, ◌++◌, [], length, vec_len, vec_capacity, IfOk, OnOk};
+ghost use Rattle.std.specs.Prelude.{◌≡◌, ◌+◌, ◌-◌, ◌*◌, ◌<◌, ◌≤◌, ◌∷◌, ◌++◌, [], length, vec_len};
+ghost use Rattle.std.specs.Prelude.{vec_capacity, IfOk, OnOk};
 ghost use Rattle.gd_bytes.specs.Disk.{written};
 ghost use Rattle.gd_disk.specs.Recorded.{wrote, cut_to, synced, held};
 ghost use Rattle.gd_disk.specs.Calls.{numbers_of, IsWrite};
@@ -8,7 +9,8 @@ use gd_base::memory::Memory;
 use std::alloc::Global;
 use std::marker::Model;
 
-/// What a call was: a write behind all bytes that are kept, within the file, or past its end; a cut, or a sync.
+/// What a call was: a write behind all bytes that are kept, within the file, or past its end; a
+/// cut, or a sync.
 #[derive(Clone, Copy)]
 #[repr(u8)]
 enum Call {
@@ -21,8 +23,9 @@ enum Call {
 
 const _: () = prove!(std::mem::size_of::<Call>() == 1);
 
-/// A file in memory with all its writes, cuts and syncs. It keeps each byte once: the file as it is, and of each call
-/// what it replaced, so that the calls follow backwards. Contracts see the first content and the calls.
+/// A file in memory with all its writes, cuts and syncs. It keeps each byte once: the file as it
+/// is, and of each call what it replaced, so that the calls follow backwards. Contracts see the
+/// first content and the calls.
 #[derive(Drop)]
 pub(crate) struct KeptFile {
     // the file, and behind its end what cuts left there
@@ -36,23 +39,30 @@ pub(crate) struct KeptFile {
 }
 
 impl Model for KeptFile {
-    ghost use Rattle.std.specs.Prelude.{◌≡◌, ◌-◌, ◌/◌, ◌≤◌, length, take, min, reverse, vec_len, vec_capacity};
+    ghost use Rattle.std.specs.Prelude.{◌≡◌, ◌-◌, ◌/◌, ◌≤◌, length, take, min, reverse, vec_len};
+    ghost use Rattle.std.specs.Prelude.{vec_capacity};
     ghost use Rattle.gd_disk.specs.Recorded.{Told, held};
     ghost use Rattle.gd_disk.specs.Calls.{kept, made_of, first_of};
 
     ghost Value = { Told };
 
     ghost view = { λ f. record {
-      first = first_of (kept f.bytes.items f.stop f.replaced.items f.numbers.items) (reverse f.calls.items);
-      made = made_of (kept f.bytes.items f.stop f.replaced.items f.numbers.items) (reverse f.calls.items);
-      calls_left = min (vec_capacity f.calls - vec_len f.calls) ((vec_capacity f.numbers - vec_len f.numbers) / 3);
-      bytes_left = min (vec_capacity f.replaced - vec_len f.replaced) (vec_capacity f.bytes - vec_len f.bytes);
+      first = first_of (kept f.bytes.items f.stop f.replaced.items f.numbers.items)
+          (reverse f.calls.items);
+      made = made_of (kept f.bytes.items f.stop f.replaced.items f.numbers.items)
+          (reverse f.calls.items);
+      calls_left = min (vec_capacity f.calls - vec_len f.calls)
+          ((vec_capacity f.numbers - vec_len f.numbers) / 3);
+      bytes_left = min (vec_capacity f.replaced - vec_len f.replaced)
+          (vec_capacity f.bytes - vec_len f.bytes);
     } };
 
     ghost invariant = { λ f. (f.stop ≤ length f.bytes.items)
         × (take f.stop f.bytes.items ≡ held
-        (first_of (kept f.bytes.items f.stop f.replaced.items f.numbers.items) (reverse f.calls.items))
-        (made_of (kept f.bytes.items f.stop f.replaced.items f.numbers.items) (reverse f.calls.items))) };
+        (first_of (kept f.bytes.items f.stop f.replaced.items f.numbers.items)
+        (reverse f.calls.items))
+        (made_of (kept f.bytes.items f.stop f.replaced.items f.numbers.items)
+        (reverse f.calls.items))) };
 }
 
 impl KeptFile {
@@ -136,7 +146,8 @@ impl KeptFile {
     }
 }
 
-/// Which write it is, of so many bytes at an offset of a file that ends at `stop`, where so many bytes are kept.
+/// Which write it is, of so many bytes at an offset of a file that ends at `stop`, where so many
+/// bytes are kept.
 fn write_call(at: usize, len: usize, stop: usize, all: usize) -> Call
     requires { at ≤ stop }
     ensures { IsWrite result at len stop all }
@@ -187,7 +198,8 @@ fn keep(kept: &mut Vec<u8>, bytes: &[u8])
     kept.extend_from_slice(bytes).unwrap();
 }
 
-/// Writes over what is there and past the end, for which there is room, and says where the write ends.
+/// Writes over what is there and past the end, for which there is room, and says where the write
+/// ends.
 fn overwrite(file: &mut Vec<u8>, at: usize, bytes: &[u8]) -> usize
     requires within { at ≤ vec_len file.old }
     requires room { vec_len file.old + length bytes.now ≤ vec_capacity file.old }

@@ -1,4 +1,5 @@
-//! Files as a store sees them: what a read gives, what a stop at any moment may leave, and where files are kept.
+//! Files as a store sees them: what a read gives, what a stop at any moment may leave, and where
+//! files are kept.
 #![tactic(auto)]
 
 pub mod disk;

@@ -1,9 +1,13 @@
 //! A file in memory, whose failures are chosen.
-ghost use Rattle.std.specs.Prelude.{◌≡◌, ◌+◌, ◌-◌, ◌^◌, ◌<◌, ◌≤◌, ◌↔◌, ◌∷◌, ◌++◌, [], List, ℕ, min, length, take, Some, Contains, vec_len, vec_capacity, is_ok, if◌then◌else◌, IsErr, OnOk, IfOk, OnErr};
+ghost use Rattle.std.specs.Prelude.{◌≡◌, ◌+◌, ◌-◌, ◌^◌, ◌<◌, ◌≤◌, ◌↔◌, ◌∷◌, ◌++◌, [], List, ℕ, min};
+ghost use Rattle.std.specs.Prelude.{length, take, Some, Contains, vec_len, vec_capacity, is_ok};
+ghost use Rattle.std.specs.Prelude.{if◌then◌else◌, IsErr, OnOk, IfOk, OnErr};
 ghost use Rattle.std.specs.Option.{ForSome};
 ghost use Rattle.gd_base.specs.Counts.{HasCause};
-ghost use Rattle.gd_bytes.specs.Disk.{part, written, Written, Shortened, Torn, Cut, Tells, Follows, Only, Stays, Elapses};
-ghost use Rattle.gd_disk.specs.Recorded.{wrote, cut_to, synced, held, content_of, images_of, images_since_of, IsNumbered};
+ghost use Rattle.gd_bytes.specs.Disk.{part, written, Written, Shortened, Torn, Cut, Tells, Follows};
+ghost use Rattle.gd_bytes.specs.Disk.{Only, Stays, Elapses};
+ghost use Rattle.gd_disk.specs.Recorded.{wrote, cut_to, synced, held, content_of, images_of};
+ghost use Rattle.gd_disk.specs.Recorded.{images_since_of, IsNumbered};
 ghost use Rattle.gd_disk.specs.Laws.{reads_one_law, counts_now_law, only_now_law};
 
 use crate::Failed;
@@ -13,8 +17,8 @@ use gd_base::memory::Memory;
 use std::alloc::Global;
 use std::marker::Model;
 
-/// A file in memory. It can tell its writes, cuts and syncs, so that contracts can say what a stop may leave, and counts
-/// its calls from 0, `reserve` aside: those whose numbers it was given fail.
+/// A file in memory. It can tell its writes, cuts and syncs, so that contracts can say what a stop
+/// may leave, and counts its calls from 0, `reserve` aside: those whose numbers it was given fail.
 #[derive(Drop)]
 pub struct MemoryDisk {
     file: KeptFile,
@@ -82,7 +86,8 @@ impl MemoryDisk {
 pub(crate) fn meet(failing: &[u64], number: &mut u64, faults: &mut u64) -> Result<(), Failed>
     ensures number { number.new ≡ min (number.old + 1) (2 ^ 64 - 1) }
     ensures fails { IsErr result ↔ Contains failing.now number.old }
-    ensures faults { faults.new ≡ (if is_ok result then faults.old else min (faults.old + 1) (2 ^ 64 - 1)) }
+    ensures faults { faults.new ≡ (if is_ok result then faults.old else min (faults.old + 1)
+        (2 ^ 64 - 1)) }
     ensures cause { HasCause faults.old faults.new result }
 {
     let fails = failing.contains(number);
@@ -121,7 +126,8 @@ impl Disk for MemoryDisk {
             take n buf.new ≡ part at (length buf.old) file)) }
         ensures stays { Stays (content_of self.old) (content_of self.new)
             (images_of self.old) (images_of self.new) }
-        ensures time { Elapses (length self.old.made) (length self.new.made) (images_since_of self.old)
+        ensures time { Elapses (length self.old.made) (length self.new.made)
+            (images_since_of self.old)
             (images_since_of self.new) (images_of self.new) }
         ensures calls { self.old.calls_left ≤ self.new.calls_left }
         ensures room { self.old.bytes_left ≤ self.new.bytes_left }
@@ -141,7 +147,8 @@ impl Disk for MemoryDisk {
         ensures value { IfOk result (λ n. ForSome (content_of self.old) (λ file. n ≡ length file)) }
         ensures stays { Stays (content_of self.old) (content_of self.new)
             (images_of self.old) (images_of self.new) }
-        ensures time { Elapses (length self.old.made) (length self.new.made) (images_since_of self.old)
+        ensures time { Elapses (length self.old.made) (length self.new.made)
+            (images_since_of self.old)
             (images_since_of self.new) (images_of self.new) }
         ensures calls { self.old.calls_left ≤ self.new.calls_left }
         ensures room { self.old.bytes_left ≤ self.new.bytes_left }
@@ -163,7 +170,8 @@ impl Disk for MemoryDisk {
             (content_of self.new) }
         ensures images { Follows (Torn at (length bytes.now)) (images_of self.old)
             (images_of self.new) }
-        ensures time { Elapses (length self.old.made) (length self.new.made) (images_since_of self.old)
+        ensures time { Elapses (length self.old.made) (length self.new.made)
+            (images_since_of self.old)
             (images_since_of self.new) (images_of self.new) }
         ensures calls { self.old.calls_left ≤ self.new.calls_left + 1 }
         ensures room { self.old.bytes_left ≤ self.new.bytes_left + length bytes.now }
@@ -185,7 +193,8 @@ impl Disk for MemoryDisk {
         ensures told { Tells (Cut len) (content_of self.old)
             (content_of self.new) }
         ensures images { Follows (Cut len) (images_of self.old) (images_of self.new) }
-        ensures time { Elapses (length self.old.made) (length self.new.made) (images_since_of self.old)
+        ensures time { Elapses (length self.old.made) (length self.new.made)
+            (images_since_of self.old)
             (images_since_of self.new) (images_of self.new) }
         ensures calls { self.old.calls_left ≤ self.new.calls_left + 1 }
         ensures room { self.old.bytes_left ≤ self.new.bytes_left }
@@ -200,10 +209,12 @@ impl Disk for MemoryDisk {
 
     fn sync(&mut self) -> Result<(), Failed>
         requires { 1 ≤ self.old.calls_left }
-        ensures durable { OnOk result (ForSome (content_of self.new) (λ file. Only file (images_of self.new))) }
+        ensures durable { OnOk result (ForSome (content_of self.new)
+            (λ file. Only file (images_of self.new))) }
         ensures stays { Stays (content_of self.old) (content_of self.new)
             (images_of self.old) (images_of self.new) }
-        ensures time { Elapses (length self.old.made) (length self.new.made) (images_since_of self.old)
+        ensures time { Elapses (length self.old.made) (length self.new.made)
+            (images_since_of self.old)
             (images_since_of self.new) (images_of self.new) }
         ensures calls { self.old.calls_left ≤ self.new.calls_left + 1 }
         ensures room { self.old.bytes_left ≤ self.new.bytes_left }
@@ -220,12 +231,14 @@ impl Disk for MemoryDisk {
         ensures made { OnOk result ((calls ≤ self.new.calls_left) × (bytes ≤ self.new.bytes_left)) }
         ensures stays { Stays (content_of self.old) (content_of self.new)
             (images_of self.old) (images_of self.new) }
-        ensures time { Elapses (length self.old.made) (length self.new.made) (images_since_of self.old)
+        ensures time { Elapses (length self.old.made) (length self.new.made)
+            (images_since_of self.old)
             (images_since_of self.new) (images_of self.new) }
         ensures calls { self.old.calls_left ≤ self.new.calls_left }
         ensures room { self.old.bytes_left ≤ self.new.bytes_left }
         ensures faults { self.new.faults ≡ self.old.faults }
-        ensures same { (self.new.first ≡ self.old.first) × (self.new.made ≡ self.old.made) × (self.new.failing ≡ self.old.failing) × (self.new.calls ≡ self.old.calls) }
+        ensures same { (self.new.first ≡ self.old.first) × (self.new.made ≡ self.old.made)
+            × (self.new.failing ≡ self.old.failing) × (self.new.calls ≡ self.old.calls) }
     {
         self.file.reserve(calls, bytes)?;
         Ok(())

@@ -1,5 +1,8 @@
 //! A shelf in memory, whose failures are chosen.
-ghost use Rattle.std.specs.Prelude.{◌≡◌, ◌≢◌, ◌+◌, ◌-◌, ◌^◌, ◌≤◌, ◌<◌, ◌↔◌, ◌∷◌, [], ℕ, List, Some, None, true, false, min, vec_len, is_ok, IfOk, OnOk, OnErr, IsErr, IsErrOf, Contains, position, bytes_eq, length, option_map};
+ghost use Rattle.std.specs.Prelude.{◌≡◌, ◌≢◌, ◌+◌, ◌-◌, ◌^◌, ◌≤◌, ◌<◌, ◌↔◌, ◌∷◌, [], ℕ, List, Some};
+ghost use Rattle.std.specs.Prelude.{None, true, false, min, vec_len, is_ok, IfOk, OnOk, OnErr};
+ghost use Rattle.std.specs.Prelude.{IsErr, IsErrOf, Contains, position, bytes_eq, length};
+ghost use Rattle.std.specs.Prelude.{option_map};
 ghost use Rattle.std.specs.Option.{ForSome};
 ghost use Rattle.gd_base.specs.Counts.{Rose};
 ghost use Rattle.gd_bytes.specs.Disk.{HoldsSame};
@@ -22,8 +25,8 @@ struct Slot {
     disk: Option<MemoryDisk>,
 }
 
-/// Disks in memory by their paths. A path that was not put there holds an empty file. Calls of `open_at` are counted
-/// from 0, and those whose numbers it was given fail.
+/// Disks in memory by their paths. A path that was not put there holds an empty file. Calls of
+/// `open_at` are counted from 0, and those whose numbers it was given fail.
 #[derive(Drop)]
 pub struct MemoryShelf {
     slots: Vec<Slot>,
@@ -38,12 +41,17 @@ impl Model for MemoryShelf {
 
     ghost Value = { Shelved };
 
-    ghost view = { λ s. record { slots = s.slots.items; failing = s.failing.items; opened = s.number; faults = s.faults } };
+    ghost view = { λ s. record {
+      slots = s.slots.items;
+      failing = s.failing.items;
+      opened = s.number;
+      faults = s.faults;
+    } };
 }
 
 impl MemoryShelf {
-    /// A shelf that holds this disk at this path, and nothing elsewhere. The calls of `open_at` with the numbers in
-    /// `failing` fail.
+    /// A shelf that holds this disk at this path, and nothing elsewhere. The calls of `open_at`
+    /// with the numbers in `failing` fail.
     pub fn new(
         alloc: Global,
         path: &Text,
@@ -87,15 +95,18 @@ fn place_of(slots: &[Slot], path: &Text) -> Option<usize>
     slots.iter().position(|slot| slot.path == *path)
 }
 
-/// Puts a disk, or none, into a path's slot, and gives what was in it. Without such a slot nothing is done.
+/// Puts a disk, or none, into a path's slot, and gives what was in it. Without such a slot nothing
+/// is done.
 fn replace_at(
     slots: &mut Vec<Slot>,
     path: &Text,
     disk: Option<MemoryDisk>,
 ) -> Option<Option<MemoryDisk>>
     ensures was { result ≡ slot_at slots.old.items path.now }
-    ensures now { slot_at slots.new.items path.now ≡ option_map (λ _. disk) (slot_at slots.old.items path.now) }
-    ensures others { (other : List ℕ) → other ≢ path.now → slot_at slots.new.items other ≡ slot_at slots.old.items other }
+    ensures now { slot_at slots.new.items path.now
+        ≡ option_map (λ _. disk) (slot_at slots.old.items path.now) }
+    ensures others { (other : List ℕ) → other ≢ path.now → slot_at slots.new.items other
+        ≡ slot_at slots.old.items other }
 {
     let place = place_of(slots, path)?;
     let slot = &mut slots[place];
@@ -144,22 +155,27 @@ impl Shelf for MemoryShelf {
 
     fn open_at(&mut self, path: &Text) -> Result<MemoryDisk, ShelfFault>
         requires { is_out_in (slot_at self.old.slots path.now) ≡ false }
-        ensures holds { IfOk result (λ device. HoldsSame (content_in (slot_at self.old.slots path.now)) (content_of device)
+        ensures holds { IfOk result (λ device. HoldsSame
+            (content_in (slot_at self.old.slots path.now)) (content_of device)
             (images_in (slot_at self.old.slots path.now)) (images_of device)) }
         ensures count { IfOk result (λ device. device.faults ≡ 0) }
         ensures out { is_out_in (slot_at self.new.slots path.now) ≡ is_ok result }
         ensures refused { OnErr result (HoldsSame
-            (content_in (slot_at self.old.slots path.now)) (content_in (slot_at self.new.slots path.now))
-            (images_in (slot_at self.old.slots path.now)) (images_in (slot_at self.new.slots path.now))) }
+            (content_in (slot_at self.old.slots path.now))
+            (content_in (slot_at self.new.slots path.now))
+            (images_in (slot_at self.old.slots path.now))
+            (images_in (slot_at self.new.slots path.now))) }
         ensures others { (other : List ℕ) → other ≢ path.now → HoldsSame
             (content_in (slot_at self.old.slots other)) (content_in (slot_at self.new.slots other))
             (images_in (slot_at self.old.slots other)) (images_in (slot_at self.new.slots other))
-            × (is_out_in (slot_at self.new.slots other) ≡ is_out_in (slot_at self.old.slots other)) }
+            × (is_out_in (slot_at self.new.slots other)
+            ≡ is_out_in (slot_at self.old.slots other)) }
         ensures later { self.old.faults ≤ self.new.faults }
         ensures cause { IsErrOf result ShelfFault.Failed → Rose self.old.faults self.new.faults }
         ensures tried { IsTried self.old self.new result }
         // It is the very disk that was kept.
-        ensures kept { IfOk result (λ device. ForSome (slot_at self.old.slots path.now) (λ kept. ForSome kept (λ disk.
+        ensures kept { IfOk result (λ device. ForSome (slot_at self.old.slots path.now)
+            (λ kept. ForSome kept (λ disk.
             device ≡ record disk { faults = 0 }))) }
     {
         meet(&self.failing, &mut self.number, &mut self.faults)?;
@@ -181,7 +197,8 @@ impl Shelf for MemoryShelf {
         ensures others { (other : List ℕ) → other ≢ path.now → HoldsSame
             (content_in (slot_at self.old.slots other)) (content_in (slot_at self.new.slots other))
             (images_in (slot_at self.old.slots other)) (images_in (slot_at self.new.slots other))
-            × (is_out_in (slot_at self.new.slots other) ≡ is_out_in (slot_at self.old.slots other)) }
+            × (is_out_in (slot_at self.new.slots other)
+            ≡ is_out_in (slot_at self.old.slots other)) }
         ensures count { self.new.faults ≡ min (self.old.faults + device.faults) (2 ^ 64 - 1) }
         ensures kept { slot_at self.new.slots path.now ≡ Some (Some device) }
     {

@@ -48,11 +48,12 @@ pub enum Event {
     Reopen,
 }
 
-/// The event that the bytes of a line spell: an object of one member, named as the event, whose value is an object of
-/// just the members of that event. They are at most `LINE_LIMIT` bytes, without the newline that ended them. First comes
-/// `Json`: the bytes are no JSON of this profile; then `BadLine`: the value is no event; then `BadQuery`: the request of a
-/// begin, a write or a thaw has a fault of form, and the first in the order of the walk is told. `Memory`: an allocation
-/// was refused.
+/// The event that the bytes of a line spell: an object of one member, named as the event, whose
+/// value is an object of just the members of that event. They are at most `LINE_LIMIT` bytes,
+/// without the newline that ended them. First comes `Json`: the bytes are no JSON of this profile;
+/// then `BadLine`: the value is no event; then `BadQuery`: the request of a begin, a write or a
+/// thaw has a fault of form, and the first in the order of the walk is told. `Memory`: an
+/// allocation was refused.
 pub fn event_from(alloc: Global, bytes: &[u8]) -> Result<Event, LineFault>
     requires { length bytes.now ≤ LINE_LIMIT }
     ensures asked { GivesEvent (event_from bytes.now) result }

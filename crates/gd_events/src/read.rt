@@ -1,5 +1,6 @@
 //! The event that the name and the value of a line's one member spell.
-ghost use Rattle.std.specs.Prelude.{◌≡◌, ◌≤◌, ◌∷◌, [], false, IfSome, bytes_eq, option_and_then, option_map, codes, Some, List, ℕ};
+ghost use Rattle.std.specs.Prelude.{◌≡◌, ◌≤◌, ◌∷◌, [], false, IfSome, bytes_eq, option_and_then};
+ghost use Rattle.std.specs.Prelude.{option_map, codes, Some, List, ℕ};
 ghost use Rattle.gd_tree.specs.Bounds.{json_depth};
 ghost use Rattle.gd_tree.specs.Json as tree;
 ghost use Rattle.gd_tree.specs.Look.{get, only, member_of, text_of};
@@ -7,7 +8,8 @@ ghost use Rattle.gd_json.specs.View.{view, member_view, members_view};
 ghost use Rattle.gd_runs.specs.Request.{session_of};
 ghost use Rattle.gd_runs.specs.Replay.{number_between};
 ghost use Rattle.gd_events.specs.Events.{event_view, GivesEvent};
-ghost use Rattle.gd_events.specs.Parts.{sole_of, event_in, sid_in, or_no_line, begun_of, written_of, thawed_of};
+ghost use Rattle.gd_events.specs.Parts.{sole_of, event_in, sid_in, or_no_line, begun_of};
+ghost use Rattle.gd_events.specs.Parts.{written_of, thawed_of};
 
 use crate::event::Event;
 use gd_fault::fault::LineFault;
@@ -77,7 +79,8 @@ fn number_of(value: &Json, name: &str, low: u64, high: u64) -> Option<u64>
 }
 
 fn slice(value: &Json) -> Option<Event>
-    ensures { or_no_line (option_map event_view result) ≡ event_in (codes "slice") (view value.now) }
+    ensures { or_no_line (option_map event_view result) ≡ event_in (codes "slice")
+        (view value.now) }
 {
     let sid = sid_of(value, "budget", "sid", "sid")?;
     let budget = number_of(value, "budget", 1, BUDGET_LIMIT)?;
@@ -85,7 +88,8 @@ fn slice(value: &Json) -> Option<Event>
 }
 
 fn learn(value: &Json) -> Option<Event>
-    ensures { or_no_line (option_map event_view result) ≡ event_in (codes "learn") (view value.now) }
+    ensures { or_no_line (option_map event_view result) ≡ event_in (codes "learn")
+        (view value.now) }
 {
     let sid = sid_of(value, "dateline", "sid", "sid")?;
     let dateline = number_of(value, "dateline", 0, DATELINE_LIMIT)?;
@@ -96,7 +100,8 @@ fn learn(value: &Json) -> Option<Event>
 }
 
 fn freeze(value: &Json) -> Option<Event>
-    ensures { or_no_line (option_map event_view result) ≡ event_in (codes "freeze") (view value.now) }
+    ensures { or_no_line (option_map event_view result) ≡ event_in (codes "freeze")
+        (view value.now) }
 {
     let sid = sid_of(value, "sid", "sid", "sid")?;
     Some(Event::Freeze { sid })
@@ -110,7 +115,8 @@ fn is_bare(members: &[(JsonText, Json)]) -> bool
 }
 
 fn reopen(value: &Json) -> Option<Event>
-    ensures { or_no_line (option_map event_view result) ≡ event_in (codes "reopen") (view value.now) }
+    ensures { or_no_line (option_map event_view result) ≡ event_in (codes "reopen")
+        (view value.now) }
 {
     if is_bare(value.as_object()?) {
         Some(Event::Reopen)
@@ -196,7 +202,8 @@ fn write(alloc: Global, value: Json) -> Result<Event, LineFault>
 
 /// The text that the member `text` has.
 fn text_in(value: &Json) -> Option<&JsonText>
-    ensures { option_map (λ text. text.now) result ≡ option_and_then text_of (member_of (codes "text") (view value.now)) }
+    ensures { option_map (λ text. text.now) result ≡ option_and_then text_of
+        (member_of (codes "text") (view value.now)) }
 {
     value.member("text")?.as_text()
 }
@@ -213,7 +220,8 @@ fn thaw(alloc: Global, value: Json) -> Result<Event, LineFault>
 
 fn thaw_by(alloc: Global, sid: u32, value: Json) -> Result<Event, LineFault>
     requires shallow { json_depth (view value) ≤ 16 }
-    requires sid { Some sid ≡ sid_in (codes "read" ∷ codes "sid" ∷ codes "text" ∷ codes "text" ∷ []) (view value) }
+    requires sid { Some sid ≡ sid_in (codes "read" ∷ codes "sid" ∷ codes "text" ∷ codes "text" ∷ [])
+        (view value) }
     ensures { GivesEvent (event_in (codes "thaw") (view value)) result }
 {
     match text_in(&value) {
@@ -224,7 +232,8 @@ fn thaw_by(alloc: Global, sid: u32, value: Json) -> Result<Event, LineFault>
 
 fn thaw_from(alloc: Global, sid: u32, text: JsonText, value: Json) -> Result<Event, LineFault>
     requires shallow { json_depth (view value) ≤ 16 }
-    requires sid { Some sid ≡ sid_in (codes "read" ∷ codes "sid" ∷ codes "text" ∷ codes "text" ∷ []) (view value) }
+    requires sid { Some sid ≡ sid_in (codes "read" ∷ codes "sid" ∷ codes "text" ∷ codes "text" ∷ [])
+        (view value) }
     requires text { Some text ≡ option_and_then text_of (member_of (codes "text") (view value)) }
     ensures { GivesEvent (event_in (codes "thaw") (view value)) result }
 {

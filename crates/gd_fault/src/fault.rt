@@ -11,7 +11,8 @@ use std::error::Error;
 use std::fmt;
 use std::marker::Model;
 
-/// What is wrong with a query or a write: first with its form, and then with what its words stand for.
+/// What is wrong with a query or a write: first with its form, and then with what its words stand
+/// for.
 #[derive(Clone, Copy, Debug, PartialEq, Eq)]
 pub enum Code {
     /// The envelope of a request has other members than it should, or a member of another form.
@@ -83,8 +84,8 @@ impl fmt::Display for Code {
 
 impl Error for Code {}
 
-/// The names of members that lead from the root of a query down to a place in it. Contracts see the list of these
-/// names, each as the list of its bytes.
+/// The names of members that lead from the root of a query down to a place in it. Contracts see the
+/// list of these names, each as the list of its bytes.
 #[derive(Debug, Drop)]
 pub struct Path {
     names: Vec<JsonText>,

@@ -1,5 +1,7 @@
 //! What the text of an id spells: a guid, or keys.
-ghost use Rattle.std.specs.Prelude.{◌≡◌, ◌≤◌, ◌<◌, ◌^◌, Some, None, is_some, length, map, take, drop, nat_eq, nat_le, ◌&&◌, true, codes, IfOk, IfSome, option_map};
+ghost use Rattle.std.specs.Prelude.{◌≡◌, ◌≤◌, ◌<◌, ◌^◌, Some, None, is_some, length, map, take};
+ghost use Rattle.std.specs.Prelude.{drop, nat_eq, nat_le, ◌&&◌, true, codes, IfOk, IfSome};
+ghost use Rattle.std.specs.Prelude.{option_map};
 ghost use Rattle.std.specs.List.{list_all, slice_split, starts_with};
 ghost use Rattle.gd_defs.specs.Ids as defined;
 
@@ -42,7 +44,8 @@ fn hex_number(digits: &[u8]) -> Option<u64>
     Some(number)
 }
 
-/// The place whose guid the bytes are: `#0000000000000001` and 16 lower-case hexadecimal digits. It takes no memory.
+/// The place whose guid the bytes are: `#0000000000000001` and 16 lower-case hexadecimal digits. It
+/// takes no memory.
 pub fn guid_place(text: &[u8]) -> Option<u64>
     ensures { result ≡ defined.guid_place text.now }
 {
@@ -81,14 +84,16 @@ fn are_keys(texts: &[&str]) -> bool
 
 /// Whether these are keys, and no more of them than an id has.
 fn are_id_keys(texts: &[&str]) -> bool
-    ensures { result ≡ (nat_le (length texts.now) 16 && list_all (λ text. defined.is_key text.now) texts.now) }
+    ensures { result ≡ (nat_le (length texts.now) 16 && list_all (λ text. defined.is_key text.now)
+        texts.now) }
 {
     texts.len() <= MAX_KEYS && are_keys(texts)
 }
 
 /// The first 17 parts of a path behind its first slash, each as far as the next one.
 fn first_parts<'a>(alloc: Global, path: &'a str) -> Result<Vec<&'a str>, AllocError>
-    ensures { IfOk result (λ parts. map (λ part. part.now) parts.items ≡ take 17 (drop 1 (slice_split defined.is_slash path.now))) }
+    ensures { IfOk result (λ parts. map (λ part. part.now) parts.items
+        ≡ take 17 (drop 1 (slice_split defined.is_slash path.now))) }
 {
     path.split('/').skip(1).take(MAX_KEYS + 1).collect(alloc)
 }
@@ -99,12 +104,14 @@ fn starts_with_slash(text: &str) -> bool
     text.starts_with("/")
 }
 
-/// The keys of an id that is no guid: none for `/`, else 1 to 16, each behind a slash. A key has 1 to 64 ASCII letters,
-/// digits, `_`, `-` or `$`.
+/// The keys of an id that is no guid: none for `/`, else 1 to 16, each behind a slash. A key has 1
+/// to 64 ASCII letters, digits, `_`, `-` or `$`.
 pub fn id_keys<'a>(alloc: Global, text: &'a str) -> Result<Option<Vec<&'a str>>, Memory>
-    ensures found { IfOk result (λ keys. option_map (λ keys. map (λ key. key.now) keys.items) keys ≡ defined.id_keys text.now) }
+    ensures found { IfOk result (λ keys. option_map (λ keys. map (λ key. key.now) keys.items) keys
+        ≡ defined.id_keys text.now) }
     ensures few { IfOk result (λ keys. IfSome keys (λ keys. length keys.items ≤ 16)) }
-    ensures each { IfOk result (λ keys. IfSome keys (λ keys. list_all (λ key. defined.is_key key.now) keys.items ≡ true)) }
+    ensures each { IfOk result (λ keys. IfSome keys
+        (λ keys. list_all (λ key. defined.is_key key.now) keys.items ≡ true)) }
 {
     if text == "/" {
         return Ok(Some(Vec::new(alloc)));
@@ -129,7 +136,8 @@ fn part_count(path: &str) -> usize
 
 /// Whether the first 17 of these parts are keys.
 fn parts_are_keys(path: &str) -> bool
-    ensures { result ≡ list_all defined.is_key (take 17 (drop 1 (slice_split defined.is_slash path.now))) }
+    ensures { result ≡ list_all defined.is_key
+        (take 17 (drop 1 (slice_split defined.is_slash path.now))) }
 {
     path.split('/')
         .skip(1)
@@ -138,7 +146,8 @@ fn parts_are_keys(path: &str) -> bool
 }
 
 fn has_id_keys(path: &str) -> bool
-    ensures { result ≡ (nat_le (length (take 17 (drop 1 (slice_split defined.is_slash path.now)))) 16
+    ensures { result ≡ (nat_le (length (take 17 (drop 1 (slice_split defined.is_slash path.now))))
+        16
         && list_all defined.is_key (take 17 (drop 1 (slice_split defined.is_slash path.now)))) }
 {
     part_count(path) <= MAX_KEYS && parts_are_keys(path)

@@ -4,7 +4,8 @@ ghost use Rattle.std.specs.List.{list_all};
 ghost use Rattle.gd_prim.specs.End.{end_of};
 ghost use Rattle.gd_prim.specs.History.{prims_of};
 ghost use Rattle.gd_prim.specs.Live.{end_at, refers};
-ghost use Rattle.gd_tree.specs.Trees.{list_of, place_of, tree_lists_of, lists_of, lists_count, trees_count};
+ghost use Rattle.gd_tree.specs.Trees.{list_of, place_of, tree_lists_of, lists_of, lists_count};
+ghost use Rattle.gd_tree.specs.Trees.{trees_count};
 ghost use Rattle.gd_defs.specs.Template as defs;
 ghost use Rattle.gd_runs.specs.Owed as owed;
 ghost use Rattle.gd_template.specs.Built.{view as template_view};
@@ -69,7 +70,8 @@ pub fn tree_fits<L>(
     store: &View<'_>,
     steps: &mut Steps<L>,
 ) -> bool
-    ensures fits { result ≡ owed.tree_fits (prims_of store.now) (template_view template.now) (view tree.now) }
+    ensures fits { result ≡ owed.tree_fits (prims_of store.now) (template_view template.now)
+        (view tree.now) }
     ensures work { steps.new ≤ steps.old + 3 + 4 * lists_count (lists_of (view tree.now)) }
     ensures later { steps.old ≤ steps.new }
 {
@@ -95,8 +97,10 @@ fn lists_fit<L>(
     store: &View<'_>,
     steps: &mut Steps<L>,
 ) -> bool
-    ensures fits { result ≡ owed.lists_fit (prims_of store.now) (clauses_view clauses.now) place (tree_lists_of (map trees_view lists.now)) }
-    ensures work { steps.new ≤ steps.old + 4 * lists_count (tree_lists_of (map trees_view lists.now)) }
+    ensures fits { result ≡ owed.lists_fit (prims_of store.now) (clauses_view clauses.now) place
+        (tree_lists_of (map trees_view lists.now)) }
+    ensures work { steps.new ≤ steps.old + 4 * lists_count
+        (tree_lists_of (map trees_view lists.now)) }
     ensures later { steps.old ≤ steps.new }
 {
     if clauses.len() != lists.len() {
@@ -120,7 +124,10 @@ pub(crate) fn trees_fit<L>(
     store: &View<'_>,
     steps: &mut Steps<L>,
 ) -> bool
-    ensures fits { result ≡ list_all (λ u. owed.is_among (defs.led_to (prims_of store.now) (parts clause.now).1 place) (place_of u) && owed.tree_fits (prims_of store.now) (parts clause.now).2 u) (list_of (trees_view trees.now)) }
+    ensures fits { result ≡ list_all
+        (λ u. owed.is_among (defs.led_to (prims_of store.now) (parts clause.now).1 place)
+        (place_of u) && owed.tree_fits (prims_of store.now) (parts clause.now).2 u)
+        (list_of (trees_view trees.now)) }
     ensures work { steps.new ≤ steps.old + 4 * trees_count (trees_view trees.now) }
     ensures later { steps.old ≤ steps.new }
 {

@@ -26,8 +26,8 @@ pub(crate) struct Opened {
     pub(crate) last: Last,
 }
 
-/// What pieces have made: the lists that are open around the current one, the innermost last, the trees of the current one
-/// that are done, and its last one.
+/// What pieces have made: the lists that are open around the current one, the innermost last, the
+/// trees of the current one that are done, and its last one.
 #[derive(Drop)]
 pub(crate) struct Growing {
     pub(crate) outer: Vec<Opened>,
@@ -55,7 +55,8 @@ pub(crate) fn in_order(items: Vec<Tree>) -> Trees
 /// The trees of a list, with the last one.
 #[tactic(auto, using(crate::proofs::Made::one_more))]
 pub(crate) fn settled(done: Vec<Tree>, last: Option<Last>) -> Result<Vec<Tree>, Memory>
-    ensures { IfOk result (λ trees. map view trees.items ≡ pieces.settled (map view done.items) (last_of last)) }
+    ensures { IfOk result (λ trees. map view trees.items ≡ pieces.settled (map view done.items)
+        (last_of last)) }
 {
     let mut done = done;
     match last {
@@ -81,7 +82,8 @@ impl Growing {
 
     /// A place comes.
     fn named(self, alloc: Global, place: Id) -> Result<Growing, Memory>
-        ensures { IfOk result (λ growing. growing_of growing ≡ pieces.put (growing_of self) (piece.Place place)) }
+        ensures { IfOk result (λ growing. growing_of growing ≡ pieces.put (growing_of self)
+            (piece.Place place)) }
     {
         let Growing { outer, done, last } = self;
         let done = settled(done, last)?;
@@ -98,7 +100,8 @@ impl Growing {
     /// A list begins.
     #[tactic(auto, using(crate::proofs::Made::opens_more))]
     fn opened(self, alloc: Global) -> Result<Growing, Memory>
-        ensures { IfOk result (λ growing. growing_of growing ≡ pieces.put (growing_of self) piece.Opens) }
+        ensures { IfOk result (λ growing. growing_of growing ≡ pieces.put (growing_of self)
+            piece.Opens) }
     {
         let Growing { outer, done, last } = self;
         match last {
@@ -122,7 +125,8 @@ impl Growing {
     /// The list ends.
     #[tactic(auto, using(crate::proofs::Made::opens_more))]
     fn closed(self) -> Result<Growing, Memory>
-        ensures { IfOk result (λ growing. growing_of growing ≡ pieces.put (growing_of self) piece.Closes) }
+        ensures { IfOk result (λ growing. growing_of growing ≡ pieces.put (growing_of self)
+            piece.Closes) }
     {
         let Growing { outer, done, last } = self;
         let done = settled(done, last)?;

@@ -1,5 +1,6 @@
 //! Trees of frozen texts as those of a matcher.
-ghost use Rattle.std.specs.Prelude.{◌≡◌, ◌+◌, ◌*◌, ◌≤◌, ◌<◌, ◌&&◌, true, false, drop, IfOk, MatchOption, map};
+ghost use Rattle.std.specs.Prelude.{◌≡◌, ◌+◌, ◌*◌, ◌≤◌, ◌<◌, ◌&&◌, true, false, drop, IfOk};
+ghost use Rattle.std.specs.Prelude.{MatchOption, map};
 ghost use Rattle.std.specs.List.{list_all};
 ghost use Rattle.gd_prim.specs.History.{prims_of};
 ghost use Rattle.gd_tree.specs.Trees.{list_of, place_of, trees_count};
@@ -59,7 +60,9 @@ fn made(alloc: Global, pieces: &[Piece]) -> Result<Trees, Memory>
 /// Whether each of trees fits a template.
 #[tactic(auto, using(crate::proofs::Fitting::trees_seen, crate::proofs::Fitting::one_tree, crate::proofs::Counts::trees_counted, crate::proofs::Counts::one_tree_less))]
 fn all_fit<L>(template: &Template, trees: &Trees, store: &View<'_>, steps: &mut Steps<L>) -> bool
-    ensures fits { result ≡ list_all (owed.tree_fits (prims_of store.now) (template_view template.now)) (list_of (trees_view trees.now)) }
+    ensures fits { result ≡ list_all
+        (owed.tree_fits (prims_of store.now) (template_view template.now))
+        (list_of (trees_view trees.now)) }
     ensures work { steps.new ≤ steps.old + 4 * trees_count (trees_view trees.now) }
     ensures later { steps.old ≤ steps.new }
 {
@@ -81,8 +84,11 @@ pub fn thawed_trees<L>(
     steps: &mut Steps<L>,
 ) -> Result<Option<Trees>, Memory>
     ensures fits { IfOk result (λ thawed. MatchOption thawed
-        (list_all (owed.tree_fits (prims_of store.now) (template_view template.now)) (list_of (trees_in frozen.now)) ≡ false)
-        (λ trees. (trees_view trees ≡ trees_in frozen.now) × (list_all (owed.tree_fits (prims_of store.now) (template_view template.now)) (list_of (trees_in frozen.now)) ≡ true))) }
+        (list_all (owed.tree_fits (prims_of store.now) (template_view template.now))
+        (list_of (trees_in frozen.now)) ≡ false)
+        (λ trees. (trees_view trees ≡ trees_in frozen.now)
+        × (list_all (owed.tree_fits (prims_of store.now) (template_view template.now))
+        (list_of (trees_in frozen.now)) ≡ true))) }
     ensures work { steps.new ≤ steps.old + 4 * trees_count (trees_in frozen.now) }
     ensures later { steps.old ≤ steps.new }
 {
@@ -97,8 +103,8 @@ pub fn thawed_trees<L>(
     Ok(Some(trees))
 }
 
-/// The trees of a frozen text that answer a clause at a place. None: the clause does not lead to the place of one, or that does
-/// not fit its template.
+/// The trees of a frozen text that answer a clause at a place. None: the clause does not lead to
+/// the place of one, or that does not fit its template.
 #[tactic(auto, using(crate::proofs::Deep::deep_fails_led))]
 pub fn thawed_list<L>(
     alloc: Global,
@@ -109,8 +115,13 @@ pub fn thawed_list<L>(
     steps: &mut Steps<L>,
 ) -> Result<Option<Trees>, Memory>
     ensures fits { IfOk result (λ thawed. MatchOption thawed
-        (list_all (λ u. owed.is_among (led_to (prims_of store.now) (parts clause.now).1 place) (place_of u) && owed.tree_fits (prims_of store.now) (parts clause.now).2 u) (list_of (trees_in frozen.now)) ≡ false)
-        (λ trees. (trees_view trees ≡ trees_in frozen.now) × (list_all (λ u. owed.is_among (led_to (prims_of store.now) (parts clause.now).1 place) (place_of u) && owed.tree_fits (prims_of store.now) (parts clause.now).2 u) (list_of (trees_in frozen.now)) ≡ true))) }
+        (list_all (λ u. owed.is_among (led_to (prims_of store.now) (parts clause.now).1 place)
+        (place_of u) && owed.tree_fits (prims_of store.now) (parts clause.now).2 u)
+        (list_of (trees_in frozen.now)) ≡ false)
+        (λ trees. (trees_view trees ≡ trees_in frozen.now)
+        × (list_all (λ u. owed.is_among (led_to (prims_of store.now) (parts clause.now).1 place)
+        (place_of u) && owed.tree_fits (prims_of store.now) (parts clause.now).2 u)
+        (list_of (trees_in frozen.now)) ≡ true))) }
     ensures work { steps.new ≤ steps.old + 4 * trees_count (trees_in frozen.now) }
     ensures later { steps.old ≤ steps.new }
 {

@@ -1,9 +1,13 @@
-//! Laws of the definitions of requests: which fault of form comes first, and how deep forms nest. They stand in `proofs/`.
-//! Those of a write are also the contracts of functions that do nothing: whoever calls one may use its law, whose statement
-//! stands in `specs/Laws.antt`.
+//! Laws of the definitions of requests: which fault of form comes first, and how deep forms nest.
+//! They stand in `proofs/`. Those of a write are also the contracts of functions that do nothing:
+//! whoever calls one may use its law, whose statement stands in `specs/Laws.antt`.
 #![tactic(auto)]
 
-ghost use Rattle.gd_form_laws.specs.Laws.{ChangesAreShallow, ConnectsAreSpelled, CreatesLead, FactsAreSpelled, FirstEntriesAreRight, IdentitiesAreSpelled, ItemsLead, ListsAreSpelled, NamesLead, NestedAreSpelled, OtherEntriesAreRight, RootsCreate, RootsName};
+ghost use Rattle.gd_form_laws.specs.Laws.{ChangesAreShallow, ConnectsAreSpelled, CreatesLead};
+ghost use Rattle.gd_form_laws.specs.Laws.{FactsAreSpelled, FirstEntriesAreRight};
+ghost use Rattle.gd_form_laws.specs.Laws.{IdentitiesAreSpelled, ItemsLead, ListsAreSpelled};
+ghost use Rattle.gd_form_laws.specs.Laws.{NamesLead, NestedAreSpelled, OtherEntriesAreRight};
+ghost use Rattle.gd_form_laws.specs.Laws.{RootsCreate, RootsName};
 
 /// A clause of a write without a fault of form has none in its first member.
 pub fn first_entries_are_right()
@@ -65,7 +69,8 @@ pub fn roots_name()
     ensures { RootsName }
 {}
 
-/// Forms and lists of a write nest no deeper than the JSON that spells it, the clause itself among them.
+/// Forms and lists of a write nest no deeper than the JSON that spells it, the clause itself among
+/// them.
 pub fn changes_are_shallow()
     ensures { ChangesAreShallow }
 {}

@@ -4,7 +4,8 @@ ghost use Rattle.std.specs.Prelude.{◌≡◌, ◌<◌, ◌≤◌, [], ◌∷◌
 use gd_base::id::Id;
 use std::marker::Model;
 
-/// A cursor: a dateline, and the row behind which a page begins, which is an object and the places of its sort keys.
+/// A cursor: a dateline, and the row behind which a page begins, which is an object and the places
+/// of its sort keys.
 #[derive(Drop)]
 pub struct Cursor {
     pub dateline: u32,

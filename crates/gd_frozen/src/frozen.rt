@@ -11,8 +11,8 @@ pub struct RowAt {
     pub keys: Places,
 }
 
-/// A place that is tried: the iterator over the answers of its current clause, and the lists of the clauses up to that one, of
-/// which the last still grows.
+/// A place that is tried: the iterator over the answers of its current clause, and the lists of the
+/// clauses up to that one, of which the last still grows.
 #[derive(Drop)]
 pub struct FrozenFrame {
     pub place: Id,
@@ -20,8 +20,8 @@ pub struct FrozenFrame {
     pub lists: Vec<FrozenTrees>,
 }
 
-/// A scan: the iterator over the root set, the weight of the candidate so far, and the frames of the places that are tried, one
-/// below the other.
+/// A scan: the iterator over the root set, the weight of the candidate so far, and the frames of
+/// the places that are tried, one below the other.
 #[derive(Drop)]
 pub struct FrozenScan {
     pub iter: FrozenIter,
@@ -29,7 +29,8 @@ pub struct FrozenScan {
     pub frames: Vec<FrozenFrame>,
 }
 
-/// How a printed id was found: it is a guid, the id of the root, or spelt by key links from the object up.
+/// How a printed id was found: it is a guid, the id of the root, or spelt by key links from the
+/// object up.
 #[derive(Drop)]
 pub enum Walk {
     Guid,
@@ -56,7 +57,8 @@ pub enum FrozenBody {
     },
 }
 
-/// A frozen reading: its dateline, the row after which its page begins, the best rows so far, and what it does.
+/// A frozen reading: its dateline, the row after which its page begins, the best rows so far, and
+/// what it does.
 #[derive(Drop)]
 pub struct FrozenReading {
     pub dateline: u32,

@@ -6,10 +6,12 @@ ghost use Rattle.gd_frozen.specs.Finds.{Finds};
 
 use crate::stop::Stop;
 
-/// Whether a number goes on with a byte: a digit with which it stays within the bound. Nothing goes on behind 0.
+/// Whether a number goes on with a byte: a digit with which it stays within the bound. Nothing goes
+/// on behind 0.
 pub(crate) fn goes_on(n: u32, byte: u8, bound: u32) -> bool
     requires within { n ≤ bound }
-    ensures { result ≡ (is_ascii_digit byte && not (n == 0) && nat_le (10 * n + (byte - 48)) bound) }
+    ensures { result ≡ (is_ascii_digit byte && not (n == 0) && nat_le (10 * n + (byte - 48))
+        bound) }
 {
     byte.is_ascii_digit()
         && n != 0

@@ -61,12 +61,14 @@ fn whole_cursor(bytes: &[u8]) -> Result<Cursor, Stop>
     Ok(cursor)
 }
 
-/// The cursor of a text. `BadFrozen`: the bytes are the text of no cursor, and the longest front of them that begins
-/// one has `offset` bytes. It takes no memory, and never tells `Memory`. Each cursor has one text, so `cursor_text` of
-/// what was read gives these bytes.
+/// The cursor of a text. `BadFrozen`: the bytes are the text of no cursor, and the longest front of
+/// them that begins one has `offset` bytes. It takes no memory, and never tells `Memory`. Each
+/// cursor has one text, so `cursor_text` of what was read gives these bytes.
 pub fn cursor_from(bytes: &[u8]) -> Result<Cursor, FrozenFault>
-    ensures read { MatchResult result (λ cursor. defined.IsCursorText (meant cursor) bytes.now) (IsCause bytes.now) }
-    ensures given { MatchResult result (λ cursor. defined.cursor_of bytes.now ≡ Ok (meant cursor)) (λ fault. Refuses fault (defined.cursor_of bytes.now)) }
+    ensures read { MatchResult result (λ cursor. defined.IsCursorText (meant cursor) bytes.now)
+        (IsCause bytes.now) }
+    ensures given { MatchResult result (λ cursor. defined.cursor_of bytes.now ≡ Ok (meant cursor))
+        (λ fault. Refuses fault (defined.cursor_of bytes.now)) }
 {
     match whole_cursor(bytes) {
         Ok(cursor) => Ok(cursor),

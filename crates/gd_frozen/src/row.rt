@@ -2,7 +2,8 @@
 ghost use Rattle.std.specs.Prelude.{◌≡◌, ◌∷◌, [], false, map, option_map, MatchOption};
 ghost use Rattle.gd_grammar.specs.Grammar.{more_at};
 ghost use Rattle.gd_bytes.specs.Cursor.{place_at};
-ghost use Rattle.gd_bytes.specs.FrozenRead.{mark_at, iter_at, row_at, after_at, some_at, bracketed_at};
+ghost use Rattle.gd_bytes.specs.FrozenRead.{mark_at, iter_at, row_at, after_at, some_at};
+ghost use Rattle.gd_bytes.specs.FrozenRead.{bracketed_at};
 ghost use Rattle.gd_frozen.specs.Finds.{Finds};
 ghost use Rattle.gd_frozen.specs.Halts.{Gets};
 ghost use Rattle.gd_frozen.specs.Meaning.{row_of, iter_of};
@@ -21,7 +22,8 @@ use std::alloc::Global;
 
 /// The bytes behind this one, if it comes next.
 pub(crate) fn skip(bytes: &[u8], mark: u8) -> Option<&[u8]>
-    ensures { MatchOption result (next_is mark bytes.now ≡ false) (λ rest. bytes.now ≡ mark ∷ rest.now) }
+    ensures { MatchOption result (next_is mark bytes.now ≡ false)
+        (λ rest. bytes.now ≡ mark ∷ rest.now) }
 {
     match bytes {
         [] => None,
@@ -122,7 +124,8 @@ pub(crate) fn after(bytes: &[u8]) -> Result<(Option<RowAt>, &[u8]), Stop>
 
 /// Reads a row and at most a thousand behind it.
 fn some_rows(alloc: Global, bytes: &[u8]) -> Result<(Vec<RowAt>, &[u8]), Halt>
-    ensures { Gets (λ x. (map row_of x.0.items, x.1.now)) (some_at 1000 59 row_at bytes.now) result }
+    ensures { Gets (λ x. (map row_of x.0.items, x.1.now)) (some_at 1000 59 row_at bytes.now)
+        result }
 {
     let mut rows = Vec::new(alloc);
     let (first, after) = row(bytes)?;
@@ -164,7 +167,8 @@ fn rows_behind(alloc: Global, bytes: &[u8]) -> Result<(Vec<RowAt>, &[u8]), Halt>
 /// Reads rows between brackets.
 #[tactic(auto, unfolding(crate::specs::RowSteps::rows_behind_at))]
 pub(crate) fn rows(alloc: Global, bytes: &[u8]) -> Result<(Vec<RowAt>, &[u8]), Halt>
-    ensures { Gets (λ x. (map row_of x.0.items, x.1.now)) (bracketed_at 1000 row_at bytes.now) result }
+    ensures { Gets (λ x. (map row_of x.0.items, x.1.now)) (bracketed_at 1000 row_at bytes.now)
+        result }
 {
     let rest = byte(bytes, b'[')?;
     rows_behind(alloc, rest)

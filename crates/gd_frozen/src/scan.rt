@@ -17,7 +17,8 @@ use std::alloc::Global;
 
 /// Reads a list of trees, and all that come behind commas.
 fn some_lists(alloc: Global, bytes: &[u8]) -> Result<(Vec<FrozenTrees>, &[u8]), Halt>
-    ensures { Gets (λ x. (map trees_in x.0.items, x.1.now)) (one_or_more_at 44 trees_at bytes.now) result }
+    ensures { Gets (λ x. (map trees_in x.0.items, x.1.now)) (one_or_more_at 44 trees_at bytes.now)
+        result }
 {
     let mut lists = Vec::new(alloc);
     let (first, after) = trees(alloc, bytes)?;
@@ -34,7 +35,8 @@ fn some_lists(alloc: Global, bytes: &[u8]) -> Result<(Vec<FrozenTrees>, &[u8]), 
 /// Reads lists of trees between parentheses.
 #[tactic(auto, using(crate::proofs::Loops::halts_then))]
 fn lists(alloc: Global, bytes: &[u8]) -> Result<(Vec<FrozenTrees>, &[u8]), Halt>
-    ensures { Gets (λ x. (tree_lists_of (map trees_in x.0.items), x.1.now)) (lists_at bytes.now) result }
+    ensures { Gets (λ x. (tree_lists_of (map trees_in x.0.items), x.1.now)) (lists_at bytes.now)
+        result }
 {
     let rest = byte(bytes, b'(')?;
     let (lists, rest) = some_lists(alloc, rest)?;

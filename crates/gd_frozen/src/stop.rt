@@ -4,7 +4,8 @@ use thiserror::Error;
 /// Why bytes are not read as a cursor.
 #[derive(Clone, Copy, Debug, PartialEq, Eq, Error)]
 pub enum FrozenFault {
-    /// The bytes are no such text, and the longest front of them that begins one has `offset` bytes.
+    /// The bytes are no such text, and the longest front of them that begins one has `offset`
+    /// bytes.
     #[error("the bytes are no cursor at byte {offset}")]
     BadFrozen { offset: u64 },
     /// An allocation was refused.

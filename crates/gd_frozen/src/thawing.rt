@@ -5,7 +5,8 @@ ghost use Rattle.gd_frozen.specs.Finds.{Finds};
 ghost use Rattle.gd_frozen.specs.Halts.{Gets};
 ghost use Rattle.gd_frozen.specs.FrozenAt.{building_at, printing_at, body_at};
 ghost use Rattle.gd_frozen.specs.Meaning.{body_of, reading_of, IsFrozenCause};
-ghost use Rattle.gd_frozen.specs.BodySteps.{head_at, scanning_at, further_body_at, lettered_at, behind_at, read_at, whole_frozen_at};
+ghost use Rattle.gd_frozen.specs.BodySteps.{head_at, scanning_at, further_body_at, lettered_at};
+ghost use Rattle.gd_frozen.specs.BodySteps.{behind_at, read_at, whole_frozen_at};
 ghost use Rattle.gd_frozen.specs.declared.stop.FrozenFault.TheVariants.{Memory as no_memory};
 
 use crate::frozen::{FrozenBody, FrozenReading};
@@ -151,11 +152,12 @@ fn whole_reading(alloc: Global, bytes: &[u8]) -> Result<FrozenReading, Halt>
     Ok(reading)
 }
 
-/// The frozen reading of a text. `BadFrozen`: the bytes are the text of none, and the longest front of them that begins one has
-/// `offset` bytes. `Memory`: an allocation was refused. Each frozen reading has one text, so `frozen_text` of what was read
-/// gives these bytes.
+/// The frozen reading of a text. `BadFrozen`: the bytes are the text of none, and the longest front
+/// of them that begins one has `offset` bytes. `Memory`: an allocation was refused. Each frozen
+/// reading has one text, so `frozen_text` of what was read gives these bytes.
 pub fn frozen_from(alloc: Global, bytes: &[u8]) -> Result<FrozenReading, FrozenFault>
-    ensures read { MatchResult result (λ reading. defined.IsFrozenText (reading_of reading) bytes.now) (IsFrozenCause bytes.now) }
+    ensures read { MatchResult result
+        (λ reading. defined.IsFrozenText (reading_of reading) bytes.now) (IsFrozenCause bytes.now) }
 {
     match whole_reading(alloc, bytes) {
         Ok(reading) => Ok(reading),

@@ -1,7 +1,9 @@
 //! Trees, one piece after another, and how they are read.
-ghost use Rattle.std.specs.Prelude.{◌≡◌, ◌+◌, ◌<◌, ◌≤◌, ◌^◌, ◌++◌, ◌∷◌, [], List, ℕ, IfOk, OnOk, MatchOption, Some, None};
+ghost use Rattle.std.specs.Prelude.{◌≡◌, ◌+◌, ◌<◌, ◌≤◌, ◌^◌, ◌++◌, ◌∷◌, [], List, ℕ, IfOk, OnOk};
+ghost use Rattle.std.specs.Prelude.{MatchOption, Some, None};
 ghost use Rattle.gd_prim.specs.Limits.{max_prims};
-ghost use Rattle.gd_frozen.specs.Pieces.{begin_place, close_list, after_tree, step as step_of, run, trees_at, trees_in, trees_pieces};
+ghost use Rattle.gd_frozen.specs.Pieces.{begin_place, close_list, after_tree, step as step_of, run};
+ghost use Rattle.gd_frozen.specs.Pieces.{trees_at, trees_in, trees_pieces};
 ghost use Rattle.gd_frozen.specs.Moving.{move_of, shown, IsSmall, MovesSmall};
 ghost use Rattle.gd_frozen.specs.Halts.{Gets};
 
@@ -21,7 +23,8 @@ pub enum Piece {
     Closes,
 }
 
-/// Trees, as their pieces one after another, so that nothing recurs however deep they are. Contracts see these; `trees_in` gives the trees.
+/// Trees, as their pieces one after another, so that nothing recurs however deep they are.
+/// Contracts see these; `trees_in` gives the trees.
 #[derive(Drop)]
 pub struct FrozenTrees {
     pieces: Vec<Piece>,
@@ -81,7 +84,8 @@ pub(crate) enum Move {
     Stops,
     /// The outermost list ends with it, behind this place, if one comes to its end.
     Ends(Option<Id>),
-    /// Reading goes on, below so many lists that are open: a place comes to its end, and a list begins or ends, if they do.
+    /// Reading goes on, below so many lists that are open: a place comes to its end, and a list
+    /// begins or ends, if they do.
     Goes(At, u64, Option<Id>, Option<Piece>),
 }
 

@@ -18,7 +18,8 @@ use std::alloc::Global;
 
 /// Reads a key link and at most 15 behind it.
 fn links(alloc: Global, bytes: &[u8]) -> Result<(Vec<Id>, &[u8]), Halt>
-    ensures { Gets (λ x. (x.0.items, x.1.now)) (some_at 15 44 (number_at max_prims) bytes.now) result }
+    ensures { Gets (λ x. (x.0.items, x.1.now)) (some_at 15 44 (number_at max_prims) bytes.now)
+        result }
 {
     let mut links = Vec::new(alloc);
     let (first, after) = number(bytes, MAX_PLACE)?;
@@ -70,7 +71,8 @@ fn walk(alloc: Global, bytes: &[u8]) -> Result<(Walk, &[u8]), Halt>
 
 /// Reads a walk, and all that come behind semicolons.
 fn some_walks(alloc: Global, bytes: &[u8]) -> Result<(Vec<Walk>, &[u8]), Halt>
-    ensures { Gets (λ x. (map walk_of x.0.items, x.1.now)) (one_or_more_at 59 walk_at bytes.now) result }
+    ensures { Gets (λ x. (map walk_of x.0.items, x.1.now)) (one_or_more_at 59 walk_at bytes.now)
+        result }
 {
     let mut walks = Vec::new(alloc);
     let (first, after) = walk(alloc, bytes)?;

@@ -1,12 +1,15 @@
 //! Texts of frozen readings.
-ghost use Rattle.std.specs.Prelude.{◌≡◌, ◌++◌, ◌∷◌, [], ℕ, List, Ok, OnOk, IfOk, codes, decimal, flat_map, string_bytes};
+ghost use Rattle.std.specs.Prelude.{◌≡◌, ◌++◌, ◌∷◌, [], ℕ, List, Ok, OnOk, IfOk, codes, decimal};
+ghost use Rattle.std.specs.Prelude.{flat_map, string_bytes};
 ghost use Rattle.gd_grammar.specs.Mark.{place_text};
 ghost use Rattle.gd_bytes.specs.Frozen as defined;
 ghost use Rattle.gd_frozen.specs.Flatly.{flat_items};
 ghost use Rattle.gd_frozen.specs.FrozenAt.{frozen_of};
 ghost use Rattle.gd_frozen.specs.Meaning.{reading_of};
 ghost use Rattle.gd_frozen.specs.Printing.{parted, added, behind_it, print};
-ghost use Rattle.gd_frozen.specs.Written.{row_written, after_written, iter_written, trees_written, frame_written, scan_written, walk_written, body_written, reading_written};
+ghost use Rattle.gd_frozen.specs.Written.{row_written, after_written, iter_written, trees_written};
+ghost use Rattle.gd_frozen.specs.Written.{frame_written, scan_written, walk_written, body_written};
+ghost use Rattle.gd_frozen.specs.Written.{reading_written};
 
 use crate::frozen::{FrozenBody, FrozenFrame, FrozenReading, FrozenScan, RowAt, Walk};
 use crate::tree::{FrozenTrees, Piece};
@@ -99,7 +102,8 @@ fn end(last: Last) -> &'static str
 
 /// Appends pieces, up to the last bracket.
 fn push_pieces(out: &mut String, pieces: &[Piece]) -> Result<(), Memory>
-    ensures { OnOk result (string_bytes out.new ≡ string_bytes out.old ++ print Last.Opened pieces.now) }
+    ensures { OnOk result (string_bytes out.new ≡ string_bytes out.old ++ print Last.Opened
+        pieces.now) }
 {
     let mut last = Last::Opened;
     for piece in pieces {
@@ -112,7 +116,8 @@ fn push_pieces(out: &mut String, pieces: &[Piece]) -> Result<(), Memory>
 
 /// Appends pieces between brackets.
 fn push_bracketed(out: &mut String, pieces: &[Piece]) -> Result<(), Memory>
-    ensures { OnOk result (string_bytes out.new ≡ string_bytes out.old ++ 91 ∷ (print Last.Opened pieces.now ++ codes "]")) }
+    ensures { OnOk result (string_bytes out.new ≡ string_bytes out.old ++ 91
+        ∷ (print Last.Opened pieces.now ++ codes "]")) }
 {
     out.push_str("[")?;
     push_pieces(out, pieces)?;
@@ -130,7 +135,8 @@ fn push_trees(out: &mut String, trees: &FrozenTrees) -> Result<(), Memory>
 
 /// Appends lists of trees, a comma before each.
 fn push_more_lists(out: &mut String, lists: &[FrozenTrees]) -> Result<(), Memory>
-    ensures { OnOk result (string_bytes out.new ≡ string_bytes out.old ++ flat_map (λ t. codes "," ++ trees_written t) lists.now) }
+    ensures { OnOk result (string_bytes out.new ≡ string_bytes out.old ++ flat_map
+        (λ t. codes "," ++ trees_written t) lists.now) }
 {
     for trees in lists {
         out.push_str(",")?;
@@ -141,7 +147,8 @@ fn push_more_lists(out: &mut String, lists: &[FrozenTrees]) -> Result<(), Memory
 
 /// Appends lists of trees, with commas between them.
 fn push_lists(out: &mut String, lists: &[FrozenTrees]) -> Result<(), Memory>
-    ensures { OnOk result (string_bytes out.new ≡ string_bytes out.old ++ flat_items (codes ",") trees_written lists.now) }
+    ensures { OnOk result (string_bytes out.new ≡ string_bytes out.old ++ flat_items (codes ",")
+        trees_written lists.now) }
 {
     match lists {
         [] => Ok(()),
@@ -154,7 +161,8 @@ fn push_lists(out: &mut String, lists: &[FrozenTrees]) -> Result<(), Memory>
 
 /// Appends the places of keys, a comma before each.
 fn push_keys(out: &mut String, keys: &[Option<Id>]) -> Result<(), Memory>
-    ensures { OnOk result (string_bytes out.new ≡ string_bytes out.old ++ flat_map (λ k. codes "," ++ place_text k) keys.now) }
+    ensures { OnOk result (string_bytes out.new ≡ string_bytes out.old ++ flat_map
+        (λ k. codes "," ++ place_text k) keys.now) }
 {
     for key in keys {
         push_key(out, *key)?;
@@ -164,7 +172,8 @@ fn push_keys(out: &mut String, keys: &[Option<Id>]) -> Result<(), Memory>
 
 /// Appends the place of a key behind a comma.
 fn push_key(out: &mut String, key: Option<Id>) -> Result<(), Memory>
-    ensures { OnOk result (string_bytes out.new ≡ string_bytes out.old ++ (codes "," ++ place_text key)) }
+    ensures { OnOk result (string_bytes out.new
+        ≡ string_bytes out.old ++ (codes "," ++ place_text key)) }
 {
     match key {
         Some(id) => push_number(out, ",", id.place()),
@@ -185,7 +194,8 @@ fn push_row(out: &mut String, row: &RowAt) -> Result<(), Memory>
 
 /// Appends rows, a semicolon before each.
 fn push_more_rows(out: &mut String, rows: &[RowAt]) -> Result<(), Memory>
-    ensures { OnOk result (string_bytes out.new ≡ string_bytes out.old ++ flat_map (λ r. codes ";" ++ row_written r) rows.now) }
+    ensures { OnOk result (string_bytes out.new ≡ string_bytes out.old ++ flat_map
+        (λ r. codes ";" ++ row_written r) rows.now) }
 {
     for row in rows {
         out.push_str(";")?;
@@ -196,7 +206,8 @@ fn push_more_rows(out: &mut String, rows: &[RowAt]) -> Result<(), Memory>
 
 /// Appends rows, with semicolons between them.
 fn push_rows(out: &mut String, rows: &[RowAt]) -> Result<(), Memory>
-    ensures { OnOk result (string_bytes out.new ≡ string_bytes out.old ++ flat_items (codes ";") row_written rows.now) }
+    ensures { OnOk result (string_bytes out.new ≡ string_bytes out.old ++ flat_items (codes ";")
+        row_written rows.now) }
 {
     match rows {
         [] => Ok(()),
@@ -248,7 +259,8 @@ fn push_frame(out: &mut String, frame: &FrozenFrame) -> Result<(), Memory>
 
 /// Appends frames, a semicolon before each.
 fn push_frames(out: &mut String, frames: &[FrozenFrame]) -> Result<(), Memory>
-    ensures { OnOk result (string_bytes out.new ≡ string_bytes out.old ++ flat_map (λ f. codes ";" ++ frame_written f) frames.now) }
+    ensures { OnOk result (string_bytes out.new ≡ string_bytes out.old ++ flat_map
+        (λ f. codes ";" ++ frame_written f) frames.now) }
 {
     for frame in frames {
         out.push_str(";")?;
@@ -271,7 +283,8 @@ fn push_scan(out: &mut String, scan: &FrozenScan) -> Result<(), Memory>
 
 /// Appends links, a comma before each.
 fn push_more_links(out: &mut String, links: &[Id]) -> Result<(), Memory>
-    ensures { OnOk result (string_bytes out.new ≡ string_bytes out.old ++ flat_map (λ k. codes "," ++ decimal k) links.now) }
+    ensures { OnOk result (string_bytes out.new ≡ string_bytes out.old ++ flat_map
+        (λ k. codes "," ++ decimal k) links.now) }
 {
     for link in links {
         push_number(out, ",", link.place())?;
@@ -281,7 +294,8 @@ fn push_more_links(out: &mut String, links: &[Id]) -> Result<(), Memory>
 
 /// Appends links, with commas between them.
 fn push_links(out: &mut String, links: &[Id]) -> Result<(), Memory>
-    ensures { OnOk result (string_bytes out.new ≡ string_bytes out.old ++ flat_items (codes ",") decimal links.now) }
+    ensures { OnOk result (string_bytes out.new ≡ string_bytes out.old ++ flat_items (codes ",")
+        decimal links.now) }
 {
     match links {
         [] => Ok(()),
@@ -306,7 +320,8 @@ fn push_walk(out: &mut String, walk: &Walk) -> Result<(), Memory>
 
 /// Appends walks, a semicolon before each.
 fn push_more_walks(out: &mut String, walks: &[Walk]) -> Result<(), Memory>
-    ensures { OnOk result (string_bytes out.new ≡ string_bytes out.old ++ flat_map (λ w. codes ";" ++ walk_written w) walks.now) }
+    ensures { OnOk result (string_bytes out.new ≡ string_bytes out.old ++ flat_map
+        (λ w. codes ";" ++ walk_written w) walks.now) }
 {
     for walk in walks {
         out.push_str(";")?;
@@ -317,7 +332,8 @@ fn push_more_walks(out: &mut String, walks: &[Walk]) -> Result<(), Memory>
 
 /// Appends walks, with semicolons between them.
 fn push_walks(out: &mut String, walks: &[Walk]) -> Result<(), Memory>
-    ensures { OnOk result (string_bytes out.new ≡ string_bytes out.old ++ flat_items (codes ";") walk_written walks.now) }
+    ensures { OnOk result (string_bytes out.new ≡ string_bytes out.old ++ flat_items (codes ";")
+        walk_written walks.now) }
 {
     match walks {
         [] => Ok(()),
@@ -335,7 +351,10 @@ fn push_building(
     trees: &FrozenTrees,
     scan: &FrozenScan,
 ) -> Result<(), Memory>
-    ensures { OnOk result (string_bytes out.new ≡ string_bytes out.old ++ (codes "b" ++ (decimal weight ++ (codes ":" ++ (trees_written trees.now ++ (codes ":" ++ scan_written scan.now)))))) }
+    ensures { OnOk result (string_bytes out.new
+        ≡ string_bytes out.old ++ (codes
+        "b" ++ (decimal weight ++ (codes
+        ":" ++ (trees_written trees.now ++ (codes ":" ++ scan_written scan.now)))))) }
 {
     push_number(out, "b", weight)?;
     out.push_str(":")?;
@@ -351,7 +370,11 @@ fn push_printing(
     trees: &FrozenTrees,
     walks: &[Walk],
 ) -> Result<(), Memory>
-    ensures { OnOk result (string_bytes out.new ≡ string_bytes out.old ++ (codes "p" ++ (decimal printed ++ (codes ":" ++ (trees_written trees.now ++ (codes ":[" ++ (flat_items (codes ";") walk_written walks.now ++ codes "]"))))))) }
+    ensures { OnOk result (string_bytes out.new
+        ≡ string_bytes out.old ++ (codes
+        "p" ++ (decimal printed ++ (codes
+        ":" ++ (trees_written trees.now ++ (codes
+        ":[" ++ (flat_items (codes ";") walk_written walks.now ++ codes "]"))))))) }
 {
     push_number(out, "p", printed)?;
     out.push_str(":")?;
@@ -399,12 +422,14 @@ fn written_text(alloc: Global, reading: &FrozenReading) -> Result<String, Memory
     Ok(out)
 }
 
-/// The text of a frozen reading that lies within the bounds of the grammar. `frozen_from` gives the reading again; of one that
-/// was read it is the text that was read.
+/// The text of a frozen reading that lies within the bounds of the grammar. `frozen_from` gives the
+/// reading again; of one that was read it is the text that was read.
 pub fn frozen_text(alloc: Global, reading: &FrozenReading) -> Result<Vec<u8>, Memory>
     requires { defined.Fits (reading_of reading.now) }
-    ensures spelled { IfOk result (λ text. defined.IsFrozenText (reading_of reading.now) text.items) }
-    ensures one { (bytes : List ℕ) → defined.IsFrozenText (reading_of reading.now) bytes → IfOk result (λ text. text.items ≡ bytes) }
+    ensures spelled { IfOk result (λ text. defined.IsFrozenText (reading_of reading.now)
+        text.items) }
+    ensures one { (bytes : List ℕ) → defined.IsFrozenText (reading_of reading.now) bytes
+        → IfOk result (λ text. text.items ≡ bytes) }
     ensures again { IfOk result (λ text. frozen_of text.items ≡ Ok (reading_of reading.now)) }
 {
     let text = written_text(alloc, reading)?;

@@ -90,7 +90,8 @@ pub(crate) fn is_answer_at(
     }
 }
 
-/// Whether an answer of the property on the object stands at a place, and leads to the target, if one is given.
+/// Whether an answer of the property on the object stands at a place, and leads to the target, if
+/// one is given.
 fn is_wanted_at(
     growing: &Growing<'_>,
     property: &Property,
@@ -98,7 +99,8 @@ fn is_wanted_at(
     target: Option<&Target>,
     place: Id,
 ) -> bool
-    ensures { result ≡ is_wanted_at (so_far growing.now) property.now object (option_map (λ t. target_view t.now) target.entry) place }
+    ensures { result ≡ is_wanted_at (so_far growing.now) property.now object
+        (option_map (λ t. target_view t.now) target.entry) place }
 {
     match target {
         Some(target) => leads_at(growing, property, object, target, place),
@@ -115,7 +117,9 @@ fn push_wanted(
     place: Id,
     links: &mut Vec<Id>,
 ) -> Result<(), Memory>
-    ensures { OnOk result (links.new.items ≡ links.old.items ++ kept (is_wanted_at (so_far growing.now) property.now object (option_map (λ t. target_view t.now) target.entry)) place) }
+    ensures { OnOk result (links.new.items ≡ links.old.items ++ kept
+        (is_wanted_at (so_far growing.now) property.now object
+        (option_map (λ t. target_view t.now) target.entry)) place) }
 {
     if is_wanted_at(growing, property, object, target, place) {
         links.push(place)?;
@@ -132,7 +136,8 @@ fn push_below(
     links: &mut Vec<Id>,
 ) -> Result<(), Memory>
     ensures { OnOk result (links.new.items ≡ links.old.items
-        ++ filter (is_wanted_at (so_far growing.now) property.now object (option_map (λ t. target_view t.now) target.entry))
+        ++ filter (is_wanted_at (so_far growing.now) property.now object
+        (option_map (λ t. target_view t.now) target.entry))
         (places_with (plan.asked_end property.now) object (prims_of growing.now.batches))) }
 {
     let mut steps: Steps<()> = Steps::new();
@@ -154,7 +159,8 @@ fn push_made(
     links: &mut Vec<Id>,
 ) -> Result<(), Memory>
     ensures { OnOk result (links.new.items ≡ links.old.items
-        ++ filter (is_wanted_at (so_far growing.now) property.now object (option_map (λ t. target_view t.now) target.entry))
+        ++ filter (is_wanted_at (so_far growing.now) property.now object
+        (option_map (λ t. target_view t.now) target.entry))
         (range_with_len (length (prims_of growing.now.batches)) (length growing.now.made))) }
 {
     for place in growing.first_made()..growing.end().place() {
@@ -163,9 +169,9 @@ fn push_made(
     Ok(())
 }
 
-/// The answers of a property on an object: the places of the live links of its stored property, of texts those in its
-/// language, that have the object at the end by which it is asked and hold what is expected at the other one, in rising order. `Memory`: an allocation was
-/// refused.
+/// The answers of a property on an object: the places of the live links of its stored property, of
+/// texts those in its language, that have the object at the end by which it is asked and hold what
+/// is expected at the other one, in rising order. `Memory`: an allocation was refused.
 #[tactic(auto, using(crate::proofs::Answering::parts))]
 pub fn answers(
     alloc: Global,
@@ -173,7 +179,8 @@ pub fn answers(
     property: &Property,
     object: Id,
 ) -> Result<Vec<Id>, Memory>
-    ensures { IfOk result (λ answers. answers.items ≡ defined.answers (so_far growing.now) property.now object) }
+    ensures { IfOk result (λ answers. answers.items ≡ defined.answers (so_far growing.now)
+        property.now object) }
 {
     let mut answers = Vec::new(alloc);
     push_below(growing, property, object, None, &mut answers)?;
@@ -181,7 +188,8 @@ pub fn answers(
     Ok(answers)
 }
 
-/// The answers of a property on an object that lead to the target, in rising order. `Memory`: an allocation was refused.
+/// The answers of a property on an object that lead to the target, in rising order. `Memory`: an
+/// allocation was refused.
 #[tactic(auto, using(crate::proofs::Targets::links_in_parts))]
 pub fn equal_links(
     alloc: Global,
@@ -190,7 +198,8 @@ pub fn equal_links(
     object: Id,
     target: &Target,
 ) -> Result<Vec<Id>, Memory>
-    ensures { IfOk result (λ links. links.items ≡ parts.equal_links (so_far growing.now) property.now object (target_view target.now)) }
+    ensures { IfOk result (λ links. links.items ≡ parts.equal_links (so_far growing.now)
+        property.now object (target_view target.now)) }
 {
     let mut links = Vec::new(alloc);
     push_below(growing, property, object, Some(target), &mut links)?;

@@ -6,8 +6,8 @@ use gd_base::memory::Memory;
 use gd_base::text::Text;
 use thiserror::Error;
 
-/// Why a link is refused. Contracts see it at a path as the fault of the definitions, `fault_at`; the path is the
-/// caller's to tell.
+/// Why a link is refused. Contracts see it at a path as the fault of the definitions, `fault_at`;
+/// the path is the caller's to tell.
 #[derive(Debug, PartialEq, Eq, Drop, Error)]
 pub enum LinkFault {
     /// Of a unique property another answer is there, or more than one.

@@ -1,5 +1,6 @@
 //! The primitives below a dateline, and those that a write has made so far.
-ghost use Rattle.std.specs.Prelude.{◌≡◌, ◌+◌, ◌≤◌, [], ◌∷◌, ◌++◌, length, drop, option_map, slice_get, OnOk, OnErr};
+ghost use Rattle.std.specs.Prelude.{◌≡◌, ◌+◌, ◌≤◌, [], ◌∷◌, ◌++◌, length, drop, option_map};
+ghost use Rattle.std.specs.Prelude.{slice_get, OnOk, OnErr};
 ghost use Rattle.gd_prim.specs.History.{prims_of};
 ghost use Rattle.gd_prim.specs.Live as live;
 ghost use Rattle.gd_growing.specs.State.{so_far};
@@ -13,9 +14,9 @@ use gd_store::view::View;
 use std::alloc::Global;
 use std::marker::Model;
 
-/// The primitives below the dateline of a view, and behind them those that a write has made so far. Contracts see the
-/// batches below the dateline and the list of what was made, and `so_far` is the whole list. It has at most
-/// 4,294,967,295 primitives.
+/// The primitives below the dateline of a view, and behind them those that a write has made so far.
+/// Contracts see the batches below the dateline and the list of what was made, and `so_far` is the
+/// whole list. It has at most 4,294,967,295 primitives.
 #[derive(Drop)]
 pub struct Growing<'a> {
     below: View<'a>,
@@ -47,8 +48,8 @@ impl<'a> Growing<'a> {
         }
     }
 
-    /// Puts a primitive behind the others, or leaves all as it was. `Memory`: an allocation was refused, or there are
-    /// 4,294,967,295 primitives, which leaves no place for one more.
+    /// Puts a primitive behind the others, or leaves all as it was. `Memory`: an allocation was
+    /// refused, or there are 4,294,967,295 primitives, which leaves no place for one more.
     pub fn push(&mut self, prim: Primitive) -> Result<(), Memory>
         ensures ok { OnOk result (so_far self.new ≡ so_far self.old ++ prim ∷ []) }
         ensures below { self.new.batches ≡ self.old.batches }
@@ -61,8 +62,8 @@ impl<'a> Growing<'a> {
         Ok(())
     }
 
-    /// Moves these primitives behind the others, or leaves all as it was. `Memory`: an allocation was refused, or there
-    /// would be more than 4,294,967,295 primitives.
+    /// Moves these primitives behind the others, or leaves all as it was. `Memory`: an allocation
+    /// was refused, or there would be more than 4,294,967,295 primitives.
     pub fn append(&mut self, more: Vec<Primitive>) -> Result<(), Memory>
         ensures ok { OnOk result (so_far self.new ≡ so_far self.old ++ more.items) }
         ensures below { self.new.batches ≡ self.old.batches }
@@ -109,7 +110,8 @@ impl<'a> Growing<'a> {
     #[tactic(auto, using(crate::proofs::Behind::rest_behind))]
     pub fn into_made(self) -> Vec<Primitive>
         ensures made { result.items ≡ self.entry.made }
-        ensures behind { result.items ≡ drop (length (prims_of self.entry.batches)) (so_far self.entry) }
+        ensures behind { result.items ≡ drop (length (prims_of self.entry.batches))
+            (so_far self.entry) }
     {
         self.made
     }
@@ -147,8 +149,8 @@ impl<'a> Growing<'a> {
         self.successor(place).is_none()
     }
 
-    /// Whether the primitive at a place is marked live and none has it as `previous`. A place at which none stands is not
-    /// live.
+    /// Whether the primitive at a place is marked live and none has it as `previous`. A place at
+    /// which none stands is not live.
     pub fn is_live(&self, place: Id) -> bool
         ensures { result ≡ live.is_live (so_far self.now) place }
     {

@@ -33,8 +33,8 @@ fn near_end(growing: &Growing<'_>, property: &Property, place: Id) -> Option<Id>
     }
 }
 
-/// The object of which the link at a place states the fact: the one by which the property is asked, where the link is an
-/// answer on it that leads to the target. It takes no memory.
+/// The object of which the link at a place states the fact: the one by which the property is asked,
+/// where the link is an answer on it that leads to the target. It takes no memory.
 pub fn holder_at(
     growing: &Growing<'_>,
     property: &Property,
@@ -70,9 +70,11 @@ fn property_links<'a>(growing: &Growing<'a>, property: &Property) -> &'a [Id]
     growing.below().links(End::Typ, property.stored, &mut steps)
 }
 
-/// The links below the dateline with the object at the end where the property's answers stand, dead ones among them.
+/// The links below the dateline with the object at the end where the property's answers stand, dead
+/// ones among them.
 fn object_links<'a>(growing: &Growing<'a>, property: &Property, object: Id) -> &'a [Id]
-    ensures { result.now ≡ places_with (far_side property.now) object (prims_of growing.now.batches) }
+    ensures { result.now ≡ places_with (far_side property.now) object
+        (prims_of growing.now.batches) }
 {
     let mut steps: Steps<()> = Steps::new();
     growing
@@ -92,10 +94,12 @@ fn value_links<'a>(growing: &Growing<'a>, value: &Datum) -> &'a [Id]
     }
 }
 
-/// The places below the dateline that have the value by which links lead to the target. `Memory`: an allocation was
-/// refused.
+/// The places below the dateline that have the value by which links lead to the target. `Memory`:
+/// an allocation was refused.
 fn datum_links<'a>(growing: &Growing<'a>, target: &Target) -> Result<&'a [Id], Memory>
-    ensures { IfOk result (λ links. links.now ≡ live.places_where (has_value (datum_of (target_view target.now))) (prims_of growing.now.batches)) }
+    ensures { IfOk result (λ links. links.now
+        ≡ live.places_where (has_value (datum_of (target_view target.now)))
+        (prims_of growing.now.batches)) }
 {
     match target {
         Target::Object(object) => Ok(value_links(growing, &Datum::Object(*object))),
@@ -104,8 +108,8 @@ fn datum_links<'a>(growing: &Growing<'a>, target: &Target) -> Result<&'a [Id], M
     }
 }
 
-/// Links below the dateline that lead to the target, where the property's answers are objects: those with the object at
-/// their other end, or for another target all of the property.
+/// Links below the dateline that lead to the target, where the property's answers are objects:
+/// those with the object at their other end, or for another target all of the property.
 #[tactic(auto, using(crate::proofs::Held::of_property, crate::proofs::Held::of_object))]
 fn links_to<'a>(growing: &Growing<'a>, property: &Property, target: &Target) -> &'a [Id]
     requires objects { defined.holds_values (plan.answers_of property.now) ≡ false }
@@ -124,7 +128,8 @@ fn leading_links<'a>(
     property: &Property,
     target: &Target,
 ) -> Result<&'a [Id], Memory>
-    ensures { IfOk result (λ links. Holds growing.now property.now (target_view target.now) links.now) }
+    ensures { IfOk result (λ links. Holds growing.now property.now (target_view target.now)
+        links.now) }
 {
     if gives_values(property) {
         datum_links(growing, target)
@@ -133,16 +138,17 @@ fn leading_links<'a>(
     }
 }
 
-/// Places below the dateline, in rising order, among which are all links that state the fact of an object: those that lead
-/// to the target, or those of the property where these are fewer. Others may stand among them. `Memory`: an allocation was
-/// refused.
+/// Places below the dateline, in rising order, among which are all links that state the fact of an
+/// object: those that lead to the target, or those of the property where these are fewer. Others
+/// may stand among them. `Memory`: an allocation was refused.
 #[tactic(auto, using(crate::proofs::Held::of_property))]
 pub fn fact_links<'a>(
     growing: &Growing<'a>,
     property: &Property,
     target: &Target,
 ) -> Result<&'a [Id], Memory>
-    ensures { IfOk result (λ links. Holds growing.now property.now (target_view target.now) links.now) }
+    ensures { IfOk result (λ links. Holds growing.now property.now (target_view target.now)
+        links.now) }
 {
     let leading = leading_links(growing, property, target)?;
     let typed = property_links(growing, property);

@@ -15,7 +15,8 @@ use gd_base::text::Text;
 /// The last place whose primitive is a link of this key into this namespace.
 #[tactic(auto, using(crate::proofs::Behind::places_behind, crate::proofs::Behind::last_behind))]
 fn last_link(growing: &Growing<'_>, namespace: Id, key: &Text) -> Option<Id>
-    ensures { result ≡ last_or None (live.places_where (defined.is_key_link namespace key.now) (so_far growing.now)) }
+    ensures { result ≡ last_or None (live.places_where (defined.is_key_link namespace key.now)
+        (so_far growing.now)) }
 {
     let mut steps: Steps<()> = Steps::new();
     let below = growing.below().by_key(namespace, key, &mut steps);
@@ -37,8 +38,8 @@ fn link_leads(growing: &Growing<'_>, link: Id) -> Option<Id>
     }
 }
 
-/// The object that a key in a namespace leads to: the left end of the last link of that key into that namespace, if the
-/// link is live and an object stands there. It takes no memory.
+/// The object that a key in a namespace leads to: the left end of the last link of that key into
+/// that namespace, if the link is live and an object stands there. It takes no memory.
 pub fn key_leads(growing: &Growing<'_>, namespace: Id, key: &Text) -> Option<Id>
     ensures { result ≡ defined.key_leads (so_far growing.now) namespace key.now }
 {

@@ -1,5 +1,6 @@
 //! What inserting, deleting and updating links adds.
-ghost use Rattle.std.specs.Prelude.{◌≡◌, ◌∷◌, [], ◌++◌, ◌&&◌, ◌==◌, Some, None, IfOk, OnOk, OnErr, if◌then◌else◌, map, nat_lt, length, slice_get, option_and_then};
+ghost use Rattle.std.specs.Prelude.{◌≡◌, ◌∷◌, [], ◌++◌, ◌&&◌, ◌==◌, Some, None, IfOk, OnOk, OnErr};
+ghost use Rattle.std.specs.Prelude.{if◌then◌else◌, map, nat_lt, length, slice_get, option_and_then};
 ghost use Rattle.std.specs.Option.{option_eq};
 ghost use Rattle.gd_mql.specs.Changes.{connect_view};
 ghost use Rattle.gd_defs.specs.Ids as ids;
@@ -71,8 +72,10 @@ fn first_answer(
     property: &Property,
     object: Id,
 ) -> Result<First, Memory>
-    ensures first { IfOk result (λ f. f.first ≡ slice_get (property_defs.answers (so_far growing.now) property.now object) 0) }
-    ensures more { IfOk result (λ f. f.more ≡ nat_lt 1 (length (property_defs.answers (so_far growing.now) property.now object))) }
+    ensures first { IfOk result (λ f. f.first
+        ≡ slice_get (property_defs.answers (so_far growing.now) property.now object) 0) }
+    ensures more { IfOk result (λ f. f.more
+        ≡ nat_lt 1 (length (property_defs.answers (so_far growing.now) property.now object))) }
 {
     let answers = answers(alloc, growing, property, object)?;
     Ok(First {
@@ -88,7 +91,9 @@ fn is_taken(
     property: &Property,
     object: Id,
 ) -> Result<bool, Memory>
-    ensures { IfOk result (λ taken. taken ≡ (property.now.unique && nat_lt 0 (length (property_defs.answers (so_far growing.now) property.now object)))) }
+    ensures { IfOk result (λ taken. taken
+        ≡ (property.now.unique && nat_lt 0
+        (length (property_defs.answers (so_far growing.now) property.now object)))) }
 {
     if !property.unique {
         return Ok(false);
@@ -97,11 +102,12 @@ fn is_taken(
     Ok(!answers.is_empty())
 }
 
-/// Puts a new object behind the others, and gives its place. `Memory`: an allocation was refused, or all places are taken;
-/// then all is as it was.
+/// Puts a new object behind the others, and gives its place. `Memory`: an allocation was refused,
+/// or all places are taken; then all is as it was.
 pub fn create(growing: &mut Growing<'_>, stamp: &Stamp) -> Result<Id, Memory>
     ensures place { IfOk result (λ place. place ≡ length (so_far growing.old)) }
-    ensures ok { OnOk result (so_far growing.new ≡ so_far growing.old ++ defined.new_object stamp.now ∷ []) }
+    ensures ok { OnOk result (so_far growing.new ≡ so_far growing.old ++ defined.new_object
+        stamp.now ∷ []) }
     ensures below { growing.new.batches ≡ growing.old.batches }
     ensures same { OnErr result (growing.new ≡ growing.old) }
 {
@@ -119,7 +125,8 @@ fn push_link(
     target: &Target,
     previous: Option<Id>,
 ) -> Result<(), Memory>
-    ensures ok { OnOk result (so_far growing.new ≡ so_far growing.old ++ defined.new_link stamp.now property.now object (target_view target.now) previous ∷ []) }
+    ensures ok { OnOk result (so_far growing.new ≡ so_far growing.old ++ defined.new_link stamp.now
+        property.now object (target_view target.now) previous ∷ []) }
     ensures below { growing.new.batches ≡ growing.old.batches }
     ensures same { OnErr result (growing.new ≡ growing.old) }
 {
@@ -130,7 +137,8 @@ fn push_link(
 
 /// The object that a key in a namespace leads to, if it is another one.
 fn other_holder(growing: &Growing<'_>, object: Id, namespace: Id, key: &Text) -> Option<Id>
-    ensures { result ≡ option_and_then (λ h. if h == object then None else Some h) (ids.key_leads (so_far growing.now) namespace key.now) }
+    ensures { result ≡ option_and_then (λ h. if h == object then None else Some h)
+        (ids.key_leads (so_far growing.now) namespace key.now) }
 {
     let holder = key_leads(growing, namespace, key)?;
     if holder == object { None } else { Some(holder) }
@@ -138,7 +146,8 @@ fn other_holder(growing: &Growing<'_>, object: Id, namespace: Id, key: &Text) ->
 
 /// Whether the key of a target, if it is one, leads to no other object.
 fn key_is_free(growing: &Growing<'_>, object: Id, target: &Target) -> Result<(), LinkFault>
-    ensures { IsFree (defined.other_holder (so_far growing.now) object (target_view target.now)) (target_view target.now) result }
+    ensures { IsFree (defined.other_holder (so_far growing.now) object (target_view target.now))
+        (target_view target.now) result }
 {
     let Target::Key { namespace, key } = target else {
         return Ok(());
@@ -152,9 +161,9 @@ fn key_is_free(growing: &Growing<'_>, object: Id, target: &Target) -> Result<(),
     }
 }
 
-/// Inserts a link from an object to a target. Where the fact holds nothing is made (`Present`), else the link
-/// (`Inserted`). `NotUnique`: the property is unique, and has another answer; `KeyTaken`: the key of the target leads to
-/// another object. After a refusal all is as it was.
+/// Inserts a link from an object to a target. Where the fact holds nothing is made (`Present`),
+/// else the link (`Inserted`). `NotUnique`: the property is unique, and has another answer;
+/// `KeyTaken`: the key of the target leads to another object. After a refusal all is as it was.
 pub fn inserted(
     alloc: Global,
     growing: &mut Growing<'_>,
@@ -163,7 +172,8 @@ pub fn inserted(
     object: Id,
     target: &Target,
 ) -> Result<Answer, LinkFault>
-    ensures links { Gives (λ path. defined.inserted stamp.now path (so_far growing.old) property.now object (target_view target.now)) (so_far growing.new) result }
+    ensures links { Gives (λ path. defined.inserted stamp.now path (so_far growing.old) property.now
+        object (target_view target.now)) (so_far growing.new) result }
     ensures below { growing.new.batches ≡ growing.old.batches }
     ensures same { OnErr result (growing.new ≡ growing.old) }
 {
@@ -185,7 +195,8 @@ fn deletions(
     stamp: &Stamp,
     links: &[Id],
 ) -> Result<Vec<Primitive>, Memory>
-    ensures { IfOk result (λ made. made.items ≡ map (defined.deletion stamp.now (so_far growing.now)) links.now) }
+    ensures { IfOk result (λ made. made.items
+        ≡ map (defined.deletion stamp.now (so_far growing.now)) links.now) }
 {
     let mut made = Vec::new(alloc);
     for link in links {
@@ -194,8 +205,9 @@ fn deletions(
     Ok(made)
 }
 
-/// Deletes each link from an object that leads to a target: a successor is made that is not live (`Deleted`). `Absent`:
-/// there is none. `Memory`: an allocation was refused, or places are wanting; then all is as it was.
+/// Deletes each link from an object that leads to a target: a successor is made that is not live
+/// (`Deleted`). `Absent`: there is none. `Memory`: an allocation was refused, or places are
+/// wanting; then all is as it was.
 pub fn deleted(
     alloc: Global,
     growing: &mut Growing<'_>,
@@ -204,7 +216,8 @@ pub fn deleted(
     object: Id,
     target: &Target,
 ) -> Result<Answer, LinkFault>
-    ensures links { Gives (λ path. defined.deleted stamp.now (so_far growing.old) property.now object (target_view target.now)) (so_far growing.new) result }
+    ensures links { Gives (λ path. defined.deleted stamp.now (so_far growing.old) property.now
+        object (target_view target.now)) (so_far growing.new) result }
     ensures below { growing.new.batches ≡ growing.old.batches }
     ensures same { OnErr result (growing.new ≡ growing.old) }
 {
@@ -225,16 +238,18 @@ fn ends(
     object: Id,
     target: &Target,
 ) -> Result<Vec<Primitive>, Memory>
-    ensures { IfOk result (λ made. made.items ≡ map (defined.deletion stamp.now (so_far growing.now)) (parts.equal_links (so_far growing.now) property.now object (target_view target.now))) }
+    ensures { IfOk result (λ made. made.items
+        ≡ map (defined.deletion stamp.now (so_far growing.now))
+        (parts.equal_links (so_far growing.now) property.now object (target_view target.now))) }
 {
     let links = equal_links(alloc, growing, property, object, target)?;
     deletions(alloc, growing, stamp, links.as_slice())
 }
 
-/// Updates the one answer of a unique property on an object. Where the fact holds nothing is made (`Present`); where there
-/// is one other answer, it gives way to a link to the target (`Updated`), and where there is none, the link is new
-/// (`Inserted`). `BadConnect`: the property is not unique; `NotUnique`: it has more than one answer. After a refusal all is
-/// as it was.
+/// Updates the one answer of a unique property on an object. Where the fact holds nothing is made
+/// (`Present`); where there is one other answer, it gives way to a link to the target (`Updated`),
+/// and where there is none, the link is new (`Inserted`). `BadConnect`: the property is not unique;
+/// `NotUnique`: it has more than one answer. After a refusal all is as it was.
 pub fn updated(
     alloc: Global,
     growing: &mut Growing<'_>,
@@ -243,7 +258,8 @@ pub fn updated(
     object: Id,
     target: &Target,
 ) -> Result<Answer, LinkFault>
-    ensures links { Gives (λ path. defined.updated stamp.now path (so_far growing.old) property.now object (target_view target.now)) (so_far growing.new) result }
+    ensures links { Gives (λ path. defined.updated stamp.now path (so_far growing.old) property.now
+        object (target_view target.now)) (so_far growing.new) result }
     ensures below { growing.new.batches ≡ growing.old.batches }
     ensures same { OnErr result (growing.new ≡ growing.old) }
 {
@@ -300,8 +316,8 @@ fn are_same(language: Option<Id>, other: Option<Id>) -> bool
     }
 }
 
-/// Whether a primitive is marked live and a link of the property, with the object at the end by which it is asked and in the
-/// language.
+/// Whether a primitive is marked live and a link of the property, with the object at the end by
+/// which it is asked and in the language.
 fn is_link(property: &Property, object: Id, language: Option<Id>, prim: &Primitive) -> bool
     ensures { result ≡ is_link property.now object language prim.now }
 {
@@ -311,7 +327,8 @@ fn is_link(property: &Property, object: Id, language: Option<Id>, prim: &Primiti
         && are_same(prim.language(), language)
 }
 
-/// The place, if a link of the property and the object in the language stands there that is marked live.
+/// The place, if a link of the property and the object in the language stands there that is marked
+/// live.
 fn link_at(
     growing: &Growing<'_>,
     property: &Property,
@@ -319,7 +336,8 @@ fn link_at(
     language: Option<Id>,
     place: u64,
 ) -> Option<Id>
-    ensures { result ≡ (if defined.is_link_of (so_far growing.now) property.now object language place then Some place else None) }
+    ensures { result ≡ (if defined.is_link_of (so_far growing.now) property.now object language
+        place then Some place else None) }
 {
     if place >= u64::from(growing.end().place()) {
         return None;
@@ -332,9 +350,10 @@ fn link_at(
     }
 }
 
-/// Updates the link at a place, which the request names as `previous`: it gives way to a link to the target (`Updated`),
-/// unless it leads there itself (`Present`). `BadPrevious`: no link of the object and the property in the language of
-/// the target that is marked live stands there; `StaleVersion`: it has a successor. After a refusal all is as it was.
+/// Updates the link at a place, which the request names as `previous`: it gives way to a link to
+/// the target (`Updated`), unless it leads there itself (`Present`). `BadPrevious`: no link of the
+/// object and the property in the language of the target that is marked live stands there;
+/// `StaleVersion`: it has a successor. After a refusal all is as it was.
 pub fn updated_from(
     growing: &mut Growing<'_>,
     stamp: &Stamp,
@@ -343,7 +362,8 @@ pub fn updated_from(
     target: &Target,
     previous: u64,
 ) -> Result<Answer, LinkFault>
-    ensures links { Gives (λ path. defined.updated_from stamp.now path (so_far growing.old) property.now object (target_view target.now) previous) (so_far growing.new) result }
+    ensures links { Gives (λ path. defined.updated_from stamp.now path (so_far growing.old)
+        property.now object (target_view target.now) previous) (so_far growing.new) result }
     ensures below { growing.new.batches ≡ growing.old.batches }
     ensures same { OnErr result (growing.new ≡ growing.old) }
 {
@@ -374,7 +394,8 @@ fn update_at(
     target: &Target,
     previous: Option<u64>,
 ) -> Result<Answer, LinkFault>
-    ensures links { Gives (λ path. update_at stamp.now path (so_far growing.old) property.now object (target_view target.now) previous) (so_far growing.new) result }
+    ensures links { Gives (λ path. update_at stamp.now path (so_far growing.old) property.now object
+        (target_view target.now) previous) (so_far growing.new) result }
     ensures below { growing.new.batches ≡ growing.old.batches }
     ensures same { OnErr result (growing.new ≡ growing.old) }
 {
@@ -384,9 +405,10 @@ fn update_at(
     }
 }
 
-/// Carries out a connect form on an object: `insert` as `inserted`, `delete` as `deleted`, and `update` as `updated_from`
-/// where the request names a link by `previous`, else as `updated`; what `previous` names is told by its place. Of the
-/// refusals are beside theirs `BadConnect`: a key in a namespace is to be updated. After a refusal all is as it was.
+/// Carries out a connect form on an object: `insert` as `inserted`, `delete` as `deleted`, and
+/// `update` as `updated_from` where the request names a link by `previous`, else as `updated`; what
+/// `previous` names is told by its place. Of the refusals are beside theirs `BadConnect`: a key in
+/// a namespace is to be updated. After a refusal all is as it was.
 pub fn connected(
     alloc: Global,
     growing: &mut Growing<'_>,
@@ -397,7 +419,9 @@ pub fn connected(
     target: &Target,
     previous: Option<u64>,
 ) -> Result<Answer, LinkFault>
-    ensures links { Gives (λ path. defined.connected stamp.now path (so_far growing.old) property.now object (connect_view word) (target_view target.now) previous) (so_far growing.new) result }
+    ensures links { Gives (λ path. defined.connected stamp.now path (so_far growing.old)
+        property.now object (connect_view word) (target_view target.now) previous)
+        (so_far growing.new) result }
     ensures below { growing.new.batches ≡ growing.old.batches }
     ensures same { OnErr result (growing.new ≡ growing.old) }
 {

@@ -13,8 +13,8 @@ use gd_prim::{ENGLISH, Primitive};
 use gd_resolve::property::Property;
 use std::marker::Model;
 
-/// What all primitives of a write have in common: the scope, and the moment in milliseconds since 1970-01-01 in UTC.
-/// Contracts see it as the definitions' stamp.
+/// What all primitives of a write have in common: the scope, and the moment in milliseconds since
+/// 1970-01-01 in UTC. Contracts see it as the definitions' stamp.
 #[derive(Clone, Copy, Debug, PartialEq, Eq)]
 pub struct Stamp {
     pub scope: Option<Id>,
@@ -95,8 +95,8 @@ fn between(property: &Property, near: Id, far: Option<Id>, link: Primitive) -> P
     }
 }
 
-/// A link of the property from an object to a target, as the successor of a previous one or as a new one. `Memory`: an
-/// allocation was refused.
+/// A link of the property from an object to a target, as the successor of a previous one or as a
+/// new one. `Memory`: an allocation was refused.
 pub fn new_link(
     stamp: &Stamp,
     property: &Property,
@@ -104,7 +104,8 @@ pub fn new_link(
     target: &Target,
     previous: Option<Id>,
 ) -> Result<Primitive, Memory>
-    ensures { IfOk result (λ link. link ≡ defined.new_link stamp.now property.now object (target_view target.now) previous) }
+    ensures { IfOk result (λ link. link ≡ defined.new_link stamp.now property.now object
+        (target_view target.now) previous) }
 {
     match target {
         Target::Object(other) => {
@@ -140,8 +141,8 @@ fn ended(stamp: &Stamp, place: Id, prim: &Primitive) -> Result<Primitive, Memory
     })
 }
 
-/// The successor by which the link at a place is deleted; where none stands there, a new object. `Memory`: an allocation
-/// was refused.
+/// The successor by which the link at a place is deleted; where none stands there, a new object.
+/// `Memory`: an allocation was refused.
 pub fn deletion(stamp: &Stamp, growing: &Growing<'_>, place: Id) -> Result<Primitive, Memory>
     ensures { IfOk result (λ made. made ≡ defined.deletion stamp.now (so_far growing.now) place) }
 {

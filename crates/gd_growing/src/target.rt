@@ -78,7 +78,8 @@ fn value_is(growing: &Growing<'_>, place: Id, datum: &Datum) -> bool
 /// Whether the answer that the link at a place gives is this datum.
 #[tactic(auto, using(crate::proofs::Targets::gives_value, crate::proofs::Targets::gives_object))]
 fn answer_is(growing: &Growing<'_>, property: &Property, place: Id, datum: &Datum) -> bool
-    ensures { result ≡ datum_eq (defined.answer_datum (so_far growing.now) property.now place) datum.now }
+    ensures { result ≡ datum_eq (defined.answer_datum (so_far growing.now) property.now place)
+        datum.now }
 {
     if gives_values(property) {
         value_is(growing, place, datum)
@@ -100,7 +101,8 @@ fn is_text(held: &Datum, text: &Text) -> bool
 /// Whether the answer that the link at a place gives is this text.
 #[tactic(auto, using(crate::proofs::Targets::gives_value, crate::proofs::Targets::gives_no_text))]
 fn answer_is_text(growing: &Growing<'_>, property: &Property, place: Id, text: &Text) -> bool
-    ensures { result ≡ datum_eq (defined.answer_datum (so_far growing.now) property.now place) (datum.Text text.now) }
+    ensures { result ≡ datum_eq (defined.answer_datum (so_far growing.now) property.now place)
+        (datum.Text text.now) }
 {
     gives_values(property) && value_is_text(growing, place, text)
 }
@@ -125,10 +127,11 @@ fn leads_right(growing: &Growing<'_>, place: Id, object: Id) -> bool
     }
 }
 
-/// Whether the link at a place, as an answer of the property, leads to the target: to the object, to the value, or to the
-/// key, with the namespace at its right end. It takes no memory.
+/// Whether the link at a place, as an answer of the property, leads to the target: to the object,
+/// to the value, or to the key, with the namespace at its right end. It takes no memory.
 pub fn is_target(growing: &Growing<'_>, property: &Property, target: &Target, place: Id) -> bool
-    ensures { result ≡ parts.is_target (so_far growing.now) property.now (target_view target.now) place }
+    ensures { result ≡ parts.is_target (so_far growing.now) property.now (target_view target.now)
+        place }
 {
     match target {
         Target::Object(object) => answer_is(growing, property, place, &Datum::Object(*object)),
@@ -139,8 +142,8 @@ pub fn is_target(growing: &Growing<'_>, property: &Property, target: &Target, pl
     }
 }
 
-/// Whether what stands at a place leads to the target, and is an answer of the property on the object. What costs more,
-/// whether it is a live answer, is asked last.
+/// Whether what stands at a place leads to the target, and is an answer of the property on the
+/// object. What costs more, whether it is a live answer, is asked last.
 pub(crate) fn leads_at(
     growing: &Growing<'_>,
     property: &Property,
@@ -148,15 +151,18 @@ pub(crate) fn leads_at(
     target: &Target,
     place: Id,
 ) -> bool
-    ensures { result ≡ (parts.is_target (so_far growing.now) property.now (target_view target.now) place && is_answer_at (so_far growing.now) property.now object place) }
+    ensures { result ≡ (parts.is_target (so_far growing.now) property.now (target_view target.now)
+        place && is_answer_at (so_far growing.now) property.now object place) }
 {
     is_target(growing, property, target, place) && is_answer_at(growing, property, object, place)
 }
 
 /// Whether an answer below the dateline leads to the target.
 fn some_below(growing: &Growing<'_>, property: &Property, object: Id, target: &Target) -> bool
-    ensures { result ≡ list_any (parts.is_target (so_far growing.now) property.now (target_view target.now))
-        (filter (is_answer_at (so_far growing.now) property.now object) (places_with (plan.asked_end property.now) object (prims_of growing.now.batches))) }
+    ensures { result ≡ list_any (parts.is_target (so_far growing.now) property.now
+        (target_view target.now))
+        (filter (is_answer_at (so_far growing.now) property.now object)
+        (places_with (plan.asked_end property.now) object (prims_of growing.now.batches))) }
 {
     let mut steps: Steps<()> = Steps::new();
     let end = asked_end(property);
@@ -172,8 +178,10 @@ fn some_below(growing: &Growing<'_>, property: &Property, object: Id, target: &T
 
 /// Whether an answer that the write has made leads to the target.
 fn some_made(growing: &Growing<'_>, property: &Property, object: Id, target: &Target) -> bool
-    ensures { result ≡ list_any (parts.is_target (so_far growing.now) property.now (target_view target.now))
-        (filter (is_answer_at (so_far growing.now) property.now object) (range_with_len (length (prims_of growing.now.batches)) (length growing.now.made))) }
+    ensures { result ≡ list_any (parts.is_target (so_far growing.now) property.now
+        (target_view target.now))
+        (filter (is_answer_at (so_far growing.now) property.now object)
+        (range_with_len (length (prims_of growing.now.batches)) (length growing.now.made))) }
 {
     for place in growing.first_made()..growing.end().place() {
         if leads_at(growing, property, object, target, Id(place)) {
@@ -183,9 +191,11 @@ fn some_made(growing: &Growing<'_>, property: &Property, object: Id, target: &Ta
     false
 }
 
-/// Whether the fact holds: some answer of the property on the object leads to the target. It takes no memory.
+/// Whether the fact holds: some answer of the property on the object leads to the target. It takes
+/// no memory.
 pub fn has_fact(growing: &Growing<'_>, property: &Property, object: Id, target: &Target) -> bool
-    ensures { result ≡ parts.has_fact (so_far growing.now) property.now object (target_view target.now) }
+    ensures { result ≡ parts.has_fact (so_far growing.now) property.now object
+        (target_view target.now) }
 {
     some_below(growing, property, object, target) || some_made(growing, property, object, target)
 }

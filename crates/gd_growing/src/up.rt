@@ -1,5 +1,6 @@
 //! The ids of objects.
-ghost use Rattle.std.specs.Prelude.{◌≡◌, ◌+◌, ◌^◌, ◌<◌, ◌≤◌, ◌++◌, Some, None, option_map, find, take, length, codes, string_bytes, IfOk};
+ghost use Rattle.std.specs.Prelude.{◌≡◌, ◌+◌, ◌^◌, ◌<◌, ◌≤◌, ◌++◌, Some, None, option_map, find};
+ghost use Rattle.std.specs.Prelude.{take, length, codes, string_bytes, IfOk};
 ghost use Rattle.gd_prim.specs.Keys.{is_key_of as is_key_link_of};
 ghost use Rattle.gd_prim.specs.History.{prims_of};
 ghost use Rattle.gd_prim.specs.Live as live;
@@ -43,9 +44,12 @@ fn names(growing: &Growing<'_>, link: Id) -> bool
     growing.is_live(link) && right_at(growing, link).is_some()
 }
 
-/// Of the first so many key links of an object that the write has made, the first one that is live and has a namespace.
+/// Of the first so many key links of an object that the write has made, the first one that is live
+/// and has a namespace.
 fn naming_made(growing: &Growing<'_>, object: Id, links: u32) -> Option<Id>
-    ensures { result ≡ find (names (so_far growing.now)) (take links (places_from (is_key_link_of object) (length (prims_of growing.now.batches)) growing.now.made)) }
+    ensures { result ≡ find (names (so_far growing.now))
+        (take links (places_from (is_key_link_of object) (length (prims_of growing.now.batches))
+        growing.now.made)) }
 {
     let first = growing.first_made();
     let mut left = links;
@@ -64,7 +68,8 @@ fn naming_made(growing: &Growing<'_>, object: Id, links: u32) -> Option<Id>
     None
 }
 
-/// The key link by which an object is named: of its first eight the first one that is live and has a namespace.
+/// The key link by which an object is named: of its first eight the first one that is live and has
+/// a namespace.
 fn naming_link(growing: &Growing<'_>, object: Id) -> Option<Id>
     ensures { result ≡ defined.naming_link (so_far growing.now) object }
 {
@@ -83,7 +88,8 @@ fn naming_link(growing: &Growing<'_>, object: Id) -> Option<Id>
 
 /// The key and the namespace of a key link, where its value is a text.
 fn key_of<'a>(growing: &'a Growing<'_>, link: Id) -> Option<(&'a Text, Id)>
-    ensures { option_map (λ named. (named.0.now, named.1)) result ≡ key_from (so_far growing.now) link }
+    ensures { option_map (λ named. (named.0.now, named.1)) result ≡ key_from (so_far growing.now)
+        link }
 {
     let prim = growing.primitive(link)?;
     match &prim.value {
@@ -102,7 +108,8 @@ fn led_by(alloc: Global, key: &Text, text: &str) -> Result<String, Memory>
     Ok(path)
 }
 
-/// The keys from the root down to an object, in front of a text, if at most so many steps lead up to the root.
+/// The keys from the root down to an object, in front of a text, if at most so many steps lead up
+/// to the root.
 fn path_up(
     alloc: Global,
     growing: &Growing<'_>,
@@ -110,7 +117,8 @@ fn path_up(
     object: Id,
     text: String,
 ) -> Result<Option<String>, Memory>
-    ensures { IfOk result (λ path. option_map (λ p. string_bytes p) path ≡ defined.path_up (so_far growing.now) levels object (string_bytes text)) }
+    ensures { IfOk result (λ path. option_map (λ p. string_bytes p) path
+        ≡ defined.path_up (so_far growing.now) levels object (string_bytes text)) }
 {
     if object == ROOT {
         return Ok(Some(text));
@@ -128,10 +136,10 @@ fn path_up(
     path_up(alloc, growing, levels - 1, namespace, path)
 }
 
-/// The id of an object as it is among all primitives so far: `/` for the root, else the path of its keys from the root
-/// down, else its guid. Of an object's first eight key links the first one counts that is live and has a namespace; a path
-/// has at most 16 keys, and each of them is a text. Any place has an id, also one where no object stands. `Memory`: an
-/// allocation was refused.
+/// The id of an object as it is among all primitives so far: `/` for the root, else the path of its
+/// keys from the root down, else its guid. Of an object's first eight key links the first one
+/// counts that is live and has a namespace; a path has at most 16 keys, and each of them is a text.
+/// Any place has an id, also one where no object stands. `Memory`: an allocation was refused.
 pub fn id_text(alloc: Global, growing: &Growing<'_>, object: Id) -> Result<JsonText, Memory>
     ensures { IfOk result (λ text. text ≡ defined.id_text (so_far growing.now) object) }
 {

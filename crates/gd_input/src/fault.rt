@@ -1,6 +1,7 @@
 //! Why no round is read.
 ghost use Rattle.std.specs.Prelude.{◌≡◌};
-ghost use Rattle.gd_input.specs.declared.fault.InputFault.TheVariants.{Failed as input_failed, Memory as no_memory};
+ghost use Rattle.gd_input.specs.declared.fault.InputFault.TheVariants.{Failed as input_failed};
+ghost use Rattle.gd_input.specs.declared.fault.InputFault.TheVariants.{Memory as no_memory};
 
 use gd_outside::Failed;
 use std::alloc::{AllocError, AllocFailed};

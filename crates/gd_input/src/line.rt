@@ -1,5 +1,6 @@
 //! Lines of bounded length.
-ghost use Rattle.std.specs.Prelude.{◌≡◌, ◌++◌, ◌-◌, ℕ, List, [], length, nat_eq, slice_get, Some, IfOk, bytes_eq, if◌then◌else◌};
+ghost use Rattle.std.specs.Prelude.{◌≡◌, ◌++◌, ◌-◌, ℕ, List, [], length, nat_eq, slice_get, Some};
+ghost use Rattle.std.specs.Prelude.{IfOk, bytes_eq, if◌then◌else◌};
 ghost use Rattle.std.specs.Option.{option_eq};
 ghost use Rattle.gd_runs.specs.Explained.{without_return as line_of};
 ghost use Rattle.gd_input.specs.Line.{IsKept, IsShort};
@@ -32,7 +33,8 @@ impl RoundLine {
 
     /// Whether the line has no bytes.
     pub fn is_blank(&self) -> bool
-        ensures { (limit : ℕ) (line : List ℕ) → IsKept limit self.now line → result ≡ bytes_eq line [] }
+        ensures { (limit : ℕ) (line : List ℕ) → IsKept limit self.now line
+            → result ≡ bytes_eq line [] }
     {
         match self {
             RoundLine::Bytes(bytes) => bytes.is_empty(),

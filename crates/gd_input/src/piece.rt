@@ -1,5 +1,6 @@
 //! Pieces of the input, which end at a newline or at the input's end.
-ghost use Rattle.std.specs.Prelude.{◌≡◌, ◌≢◌, ◌<◌, ◌≤◌, ◌+◌, ◌^◌, ◌⊎◌, ℕ, List, [], length, false, true, MatchOption, IfOk, IfSome, OnErr};
+ghost use Rattle.std.specs.Prelude.{◌≡◌, ◌≢◌, ◌<◌, ◌≤◌, ◌+◌, ◌^◌, ◌⊎◌, ℕ, List, [], length, false};
+ghost use Rattle.std.specs.Prelude.{true, MatchOption, IfOk, IfSome, OnErr};
 ghost use Rattle.std.specs.Io.KnownBytes.{prepend_known, IsAtEnd};
 ghost use Rattle.gd_base.specs.Counts.{Rose};
 ghost use Rattle.gd_input.specs.Line.{IsShort};
@@ -62,20 +63,24 @@ impl Reader {
     /// Reads the next line of the input: the bytes up to a newline or to the input's end, without a
     /// carriage return before the newline.
     pub fn read_line<S: Source>(&mut self, source: &mut S) -> Result<Piece, InputFault>
-        ensures line { IfOk result (λ piece. Known (prepend_known self.old.bytes (S.left source.old))
+        ensures line { IfOk result (λ piece. Known
+            (prepend_known self.old.bytes (S.left source.old))
             (prepend_known self.new.bytes (S.left source.new)) (TakesPiece piece)) }
         ensures short { IfOk result (λ piece. IsShort piece.line) }
         ensures advances { Advances (prepend_known self.old.bytes (S.left source.old))
             (prepend_known self.new.bytes (S.left source.new)) self.old.consumed self.new.consumed }
         ensures bounded { IsBounded self.new }
-        ensures forward { IfOk result (λ piece. piece.by_newline ≡ true → self.old.consumed < self.new.consumed) }
+        ensures forward { IfOk result (λ piece. piece.by_newline ≡ true
+            → self.old.consumed < self.new.consumed) }
         ensures at_end { IfOk result (λ piece. piece.by_newline ≡ false
             → (self.new.bytes ≡ []) × IsAtEnd (S.left source.new)) }
         ensures counted { CountsOn self.old (S.given source.old) self.new (S.given source.new) }
         ensures stopped { OnErr result (Known (prepend_known self.old.bytes (S.left source.old))
             (prepend_known self.new.bytes (S.left source.new)) StopsInLine) }
-        ensures none { (result ≡ Err InputFault.Failed) ⊎ (result ≡ Err InputFault.TooMuch) → self.new.bytes ≡ [] }
-        ensures failed { result ≡ Err InputFault.Failed → Rose (S.faults source.old) (S.faults source.new) }
+        ensures none { (result ≡ Err InputFault.Failed) ⊎ (result ≡ Err InputFault.TooMuch)
+            → self.new.bytes ≡ [] }
+        ensures failed { result ≡ Err InputFault.Failed
+            → Rose (S.faults source.old) (S.faults source.new) }
         ensures too_much { result ≡ Err InputFault.TooMuch → 2 ^ 40 ≤ self.new.consumed }
         ensures later { S.faults source.old ≤ S.faults source.new }
     {

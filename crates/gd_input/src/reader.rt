@@ -1,5 +1,6 @@
 //! A buffer between a source and its lines.
-ghost use Rattle.std.specs.Prelude.{◌≡◌, ◌≢◌, ◌<◌, ◌≤◌, ◌+◌, ◌^◌, ℕ, [], drop, length, IfOk, OnErr, true, false};
+ghost use Rattle.std.specs.Prelude.{◌≡◌, ◌≢◌, ◌<◌, ◌≤◌, ◌+◌, ◌^◌, ℕ, [], drop, length, IfOk, OnErr};
+ghost use Rattle.std.specs.Prelude.{true, false};
 ghost use Rattle.std.specs.Io.KnownBytes.{prepend_known, Keeps, IsAtEnd};
 ghost use Rattle.gd_base.specs.Counts.{Rose};
 
@@ -71,7 +72,10 @@ impl Reader {
     /// Lets go of so many bytes.
     pub fn consume(&mut self, count: usize)
         requires { count ≤ length self.old.bytes }
-        ensures { self.new ≡ record { bytes = drop count self.old.bytes; consumed = self.old.consumed + count } }
+        ensures { self.new ≡ record {
+          bytes = drop count self.old.bytes;
+          consumed = self.old.consumed + count;
+        } }
     {
         self.start += count;
         self.consumed += count as u64;
@@ -81,13 +85,16 @@ impl Reader {
     /// ended. `Failed`: the source did, and its count rose. `TooMuch`: 2^40 bytes of the input were
     /// taken, and more was asked for. At both none are held.
     pub fn fill<S: Source>(&mut self, source: &mut S) -> Result<bool, InputFault>
-        ensures kept { Keeps (prepend_known self.old.bytes (S.left source.old)) (prepend_known self.new.bytes (S.left source.new)) }
+        ensures kept { Keeps (prepend_known self.old.bytes (S.left source.old))
+            (prepend_known self.new.bytes (S.left source.new)) }
         ensures same { self.new.consumed ≡ self.old.consumed }
         ensures counted { CountsOn self.old (S.given source.old) self.new (S.given source.new) }
         ensures some { IfOk result (λ some. some ≡ true → self.new.bytes ≢ []) }
-        ensures at_end { IfOk result (λ some. some ≡ false → (self.new.bytes ≡ []) × IsAtEnd (S.left source.new)) }
+        ensures at_end { IfOk result (λ some. some ≡ false → (self.new.bytes ≡ [])
+            × IsAtEnd (S.left source.new)) }
         ensures none { OnErr result (self.new.bytes ≡ []) }
-        ensures failed { result ≡ Err InputFault.Failed → Rose (S.faults source.old) (S.faults source.new) }
+        ensures failed { result ≡ Err InputFault.Failed
+            → Rose (S.faults source.old) (S.faults source.new) }
         ensures too_much { result ≡ Err InputFault.TooMuch → 2 ^ 40 ≤ self.new.consumed }
         ensures later { S.faults source.old ≤ S.faults source.new }
         ensures bounded { IsBounded self.new }

@@ -1,5 +1,6 @@
 //! Rounds of the input.
-ghost use Rattle.std.specs.Prelude.{◌≡◌, ◌<◌, ◌≤◌, ◌^◌, ◌⊎◌, ℕ, List, Option, [], IfOk, true, false, vec_len};
+ghost use Rattle.std.specs.Prelude.{◌≡◌, ◌<◌, ◌≤◌, ◌^◌, ◌⊎◌, ℕ, List, Option, [], IfOk, true};
+ghost use Rattle.std.specs.Prelude.{false, vec_len};
 ghost use Rattle.std.specs.Io.KnownBytes.{prepend_known, IsAtEnd};
 ghost use Rattle.std.specs.List.{All};
 ghost use Rattle.gd_base.specs.Counts.{Rose};
@@ -34,21 +35,25 @@ impl Reader {
     pub fn read_round<S: Source>(&mut self, source: &mut S) -> Result<Round, InputFault>
         // What is left begins with the lines of this round, and goes on with the rounds of what is
         // left now.
-        ensures round { IfOk result (λ round. Known (prepend_known self.old.bytes (S.left source.old))
+        ensures round { IfOk result (λ round. Known
+            (prepend_known self.old.bytes (S.left source.old))
             (prepend_known self.new.bytes (S.left source.new)) (TakesRound round)) }
         ensures short { IfOk result (λ round. All IsShort round.lines.items) }
         ensures few { IfOk result (λ round. vec_len round.lines ≤ ROUND_LIMIT) }
         ensures at_end { IfOk result (λ round. round.ended ≡ true
             → (self.new.bytes ≡ []) × IsAtEnd (S.left source.new)) }
-        ensures forward { IfOk result (λ round. round.ended ≡ false → self.old.consumed < self.new.consumed) }
+        ensures forward { IfOk result (λ round. round.ended ≡ false
+            → self.old.consumed < self.new.consumed) }
 
         // At any outcome bytes are only taken off the front of what is left, and are counted.
         ensures advances { Advances (prepend_known self.old.bytes (S.left source.old))
             (prepend_known self.new.bytes (S.left source.new)) self.old.consumed self.new.consumed }
         // So it is with all that was taken since an earlier moment.
         ensures since { (first : Option (List ℕ)) (before : ℕ)
-            → Advances first (prepend_known self.old.bytes (S.left source.old)) before self.old.consumed
-            → Advances first (prepend_known self.new.bytes (S.left source.new)) before self.new.consumed }
+            → Advances first (prepend_known self.old.bytes (S.left source.old)) before
+            self.old.consumed
+            → Advances first (prepend_known self.new.bytes (S.left source.new)) before
+            self.new.consumed }
         // What was taken is counted by the source.
         ensures counted { CountsOn self.old (S.given source.old) self.new (S.given source.new) }
         ensures bounded { IsBounded self.new }
@@ -60,7 +65,8 @@ impl Reader {
             (prepend_known self.new.bytes (S.left source.new)) StopsInRound }
 
         // Each fault has its cause.
-        ensures failed { result ≡ Err InputFault.Failed → Rose (S.faults source.old) (S.faults source.new) }
+        ensures failed { result ≡ Err InputFault.Failed
+            → Rose (S.faults source.old) (S.faults source.new) }
         ensures too_much { result ≡ Err InputFault.TooMuch → 2 ^ 40 ≤ self.new.consumed }
         ensures later { S.faults source.old ≤ S.faults source.new }
     {

@@ -34,7 +34,8 @@ use std::alloc::Global;
 /// Whether a fact holds at the view's dateline.
 #[tactic(auto, using(crate::proofs::Before::all_before))]
 fn holds(alloc: Global, view: &View<'_>, property: &Property, object: Id, target: &Target) -> bool
-    ensures { result ≡ parts.has_fact (prims_of view.now) property.now object (target_view target.now) }
+    ensures { result ≡ parts.has_fact (prims_of view.now) property.now object
+        (target_view target.now) }
 {
     let before = Growing::new(alloc, view.earlier(view.dateline()));
     has_fact(&before, property, object, target)
@@ -49,7 +50,8 @@ fn new_fact<'a, L>(
     json: &'a Json,
     steps: &mut Steps<L>,
 ) -> Result<Item<'a>, Unknown>
-    ensures item { Finds item_view (parts.fact_item (prims_of view.now) (map (λ name. name.now) path.now) None property.now (json_of json.entry.now)) result }
+    ensures item { Finds item_view (parts.fact_item (prims_of view.now)
+        (map (λ name. name.now) path.now) None property.now (json_of json.entry.now)) result }
     ensures later { steps.old ≤ steps.new }
 {
     let expects = expects_of(property.expected);
@@ -71,7 +73,9 @@ fn held_fact<'a, L>(
     json: &'a Json,
     steps: &mut Steps<L>,
 ) -> Result<Item<'a>, Unknown>
-    ensures item { Finds item_view (parts.fact_item (prims_of view.now) (map (λ name. name.now) path.now) (Some object) property.now (json_of json.entry.now)) result }
+    ensures item { Finds item_view (parts.fact_item (prims_of view.now)
+        (map (λ name. name.now) path.now) (Some object) property.now (json_of json.entry.now))
+        result }
     ensures later { steps.old ≤ steps.new }
 {
     let expects = expects_of(property.expected);
@@ -83,9 +87,10 @@ fn held_fact<'a, L>(
     }
 }
 
-/// What a literal does: in a create it is a fact to be made, on an existing object `on` one that must hold at the view's
-/// dateline. The refusals are those of `new_target` and of `literal_target`, and on an existing object `BadQuery` with
-/// `NotMet` and the path where the fact does not hold. `Memory`: an allocation was refused.
+/// What a literal does: in a create it is a fact to be made, on an existing object `on` one that
+/// must hold at the view's dateline. The refusals are those of `new_target` and of
+/// `literal_target`, and on an existing object `BadQuery` with `NotMet` and the path where the fact
+/// does not hold. `Memory`: an allocation was refused.
 pub fn fact_item<'a, L>(
     alloc: Global,
     view: &View<'_>,
@@ -95,7 +100,8 @@ pub fn fact_item<'a, L>(
     json: &'a Json,
     steps: &mut Steps<L>,
 ) -> Result<Item<'a>, Unknown>
-    ensures item { Finds item_view (parts.fact_item (prims_of view.now) (map (λ name. name.now) path.now) on property.now (json_of json.entry.now)) result }
+    ensures item { Finds item_view (parts.fact_item (prims_of view.now)
+        (map (λ name. name.now) path.now) on property.now (json_of json.entry.now)) result }
     ensures later { steps.old ≤ steps.new }
 {
     match on {
@@ -113,7 +119,9 @@ fn in_language<'a, L>(
     lang: &str,
     steps: &mut Steps<L>,
 ) -> Result<Property, Unknown>
-    ensures property { Finds (λ p. p) (language_named (prims_of view.now) (map (λ name. name.now) path.entry.now) property.now lang.now) result }
+    ensures property { Finds (λ p. p)
+        (language_named (prims_of view.now) (map (λ name. name.now) path.entry.now) property.now
+        lang.now) result }
     ensures later { steps.old ≤ steps.new }
 {
     let language = place_named(alloc, view, lang, steps)?;
@@ -127,9 +135,10 @@ fn in_language<'a, L>(
     }
 }
 
-/// The property in the language that a target names, if it names one, which texts alone have. `BadQuery` with the path of
-/// the member `lang`: with `BadValue` the property holds no texts, with `BadLang` the object is no language. `NoSuchId`: the
-/// id names no object. `Memory`: an allocation was refused.
+/// The property in the language that a target names, if it names one, which texts alone have.
+/// `BadQuery` with the path of the member `lang`: with `BadValue` the property holds no texts, with
+/// `BadLang` the object is no language. `NoSuchId`: the id names no object. `Memory`: an allocation
+/// was refused.
 fn spoken<'a, L>(
     alloc: Global,
     view: &View<'_>,
@@ -138,7 +147,9 @@ fn spoken<'a, L>(
     target: &SpelledTarget<'a>,
     steps: &mut Steps<L>,
 ) -> Result<Property, Unknown>
-    ensures property { Finds (λ p. p) (parts.in_language_of (prims_of view.now) (map (λ name. name.now) path.entry.now) property.now (target_spelled target.entry.now)) result }
+    ensures property { Finds (λ p. p)
+        (parts.in_language_of (prims_of view.now) (map (λ name. name.now) path.entry.now)
+        property.now (target_spelled target.entry.now)) result }
     ensures later { steps.old ≤ steps.new }
 {
     match target {
@@ -164,7 +175,9 @@ pub(crate) fn form_fact<'a, L>(
     members: &'a [(JsonText, Json)],
     steps: &mut Steps<L>,
 ) -> Result<Item<'a>, Unknown>
-    ensures item { Finds item_view (parts.resolved_item (prims_of view.now) on (map (λ name. name.now) path.entry.now) property.now (change.fact (target_spelled target.entry) (json_members members.entry.now))) result }
+    ensures item { Finds item_view (parts.resolved_item (prims_of view.now) on
+        (map (λ name. name.now) path.entry.now) property.now
+        (change.fact (target_spelled target.entry) (json_members members.entry.now))) result }
     ensures later { steps.old ≤ steps.new }
 {
     let expects = expects_of(property.expected);
@@ -187,8 +200,11 @@ pub(crate) fn connect_item<'a, L>(
     connect: &SpelledConnect<'a>,
     steps: &mut Steps<L>,
 ) -> Result<Item<'a>, Unknown>
-    ensures item { Finds item_view (parts.resolved_item (prims_of view.now) on (map (λ name. name.now) path.entry.now) property.now
-        (change.connect (connect_view connect.entry.now.word) (target_spelled connect.entry.now.target) connect.entry.now.previous (json_members connect.entry.now.members.now))) result }
+    ensures item { Finds item_view (parts.resolved_item (prims_of view.now) on
+        (map (λ name. name.now) path.entry.now) property.now
+        (change.connect (connect_view connect.entry.now.word)
+        (target_spelled connect.entry.now.target) connect.entry.now.previous
+        (json_members connect.entry.now.members.now))) result }
     ensures later { steps.old ≤ steps.new }
 {
     let expects = expects_of(property.expected);
@@ -215,7 +231,8 @@ fn is_timestamp(word: &str) -> bool
     word == "timestamp" || word == "/type/object/timestamp"
 }
 
-/// Whether a word asks for no property: `id`, `guid` and `timestamp`, also as paths below `/type/object`.
+/// Whether a word asks for no property: `id`, `guid` and `timestamp`, also as paths below
+/// `/type/object`.
 pub(crate) fn is_computed(word: &str) -> bool
     ensures { result ≡ query.is_computed word.now }
 {
@@ -224,7 +241,8 @@ pub(crate) fn is_computed(word: &str) -> bool
 
 /// What `id` and `guid` do: null asks for it, a text prints as it was spelled. It takes no memory.
 pub fn identity_item<'a>(name: &Name<'_>, item: &SpelledItem<'a>) -> Item<'a>
-    ensures { item_view result ≡ parts.identity_item (name_view name.now) (item_spelled item.entry.now) }
+    ensures { item_view result ≡ parts.identity_item (name_view name.now)
+        (item_spelled item.entry.now) }
 {
     match item {
         SpelledItem::Plain(json) => Item::Spelled(Spelled::Value(json)),

@@ -28,7 +28,8 @@ pub struct Connect<'a> {
     pub members: &'a [(JsonText, Json)],
 }
 
-/// A member of a clause, by its name as it is spelled, with what it does; or `create` at its place among the members.
+/// A member of a clause, by its name as it is spelled, with what it does; or `create` at its place
+/// among the members.
 #[derive(Drop)]
 pub enum Entry<'a, I> {
     Member(&'a str, I),

@@ -9,11 +9,13 @@ ghost use Rattle.gd_defs.specs.Write.Parts as parts;
 ghost use Rattle.gd_json.specs.View.{view as json_of};
 ghost use Rattle.gd_mql.specs.Changes.{create_view};
 ghost use Rattle.gd_mql.specs.Names.{name_view};
-ghost use Rattle.gd_mql.specs.Entries.{change_view, root_view, entries_left, items_left, item_view as item_spelled, with_entry as with_spelled};
+ghost use Rattle.gd_mql.specs.Entries.{change_view, root_view, entries_left, items_left};
+ghost use Rattle.gd_mql.specs.Entries.{item_view as item_spelled, with_entry as with_spelled};
 ghost use Rattle.gd_mql.specs.Requests.{write_view};
 ghost use Rattle.gd_compile.specs.Fault.{Finds};
 ghost use Rattle.gd_intent.specs.Seen.{intent_view, item_view, many_view, members_view};
-ghost use Rattle.gd_intent.specs.Walk.{Leads, clause_resolved, intent_of, member_item, property_item, root_in, root_object};
+ghost use Rattle.gd_intent.specs.Walk.{Leads, clause_resolved, intent_of, member_item};
+ghost use Rattle.gd_intent.specs.Walk.{property_item, root_in, root_object};
 
 use crate::facts::{connect_item, fact_item, form_fact, identity_item, is_computed};
 use crate::intent::{Entry, Intent, Item, Spelled};
@@ -59,7 +61,8 @@ fn text_of(json: &Json) -> Option<&str>
 
 /// The text of an entry that is the plain member `type` with a text.
 fn entry_type<'a>(spelled: &SpelledEntry<'a>) -> Option<&'a str>
-    ensures { (ms : change.Members) → parts.type_text (with_spelled spelled.entry.now ms) ≡ option_or (option_map (λ text. text.now) result) (parts.type_text ms) }
+    ensures { (ms : change.Members) → parts.type_text (with_spelled spelled.entry.now ms)
+        ≡ option_or (option_map (λ text. text.now) result) (parts.type_text ms) }
 {
     match spelled {
         SpelledEntry::Member(name, SpelledItem::Plain(json)) => {
@@ -75,7 +78,8 @@ fn entry_type<'a>(spelled: &SpelledEntry<'a>) -> Option<&'a str>
 
 /// The text of the plain member `type`, if the members have it.
 fn type_text<'a>(members: &SpelledMembers<'a>) -> Option<&'a str>
-    ensures { option_map (λ text. text.now) result ≡ parts.type_text (entries_left members.entry.now) }
+    ensures { option_map (λ text. text.now) result
+        ≡ parts.type_text (entries_left members.entry.now) }
 {
     let mut rest = *members;
     while let Some((entry, others)) = rest.split() {
@@ -104,7 +108,8 @@ fn push_item<'a>(items: &mut Vec<Item<'a>>, item: Item<'a>) -> Result<(), Memory
     Ok(())
 }
 
-/// What the members of a clause do, in order, on an existing object `on` or in a create, in a context type.
+/// What the members of a clause do, in order, on an existing object `on` or in a create, in a
+/// context type.
 #[cycle(resolved)]
 fn resolved<'a, L>(
     alloc: Global,
@@ -115,7 +120,9 @@ fn resolved<'a, L>(
     members: &SpelledMembers<'a>,
     steps: &mut Steps<L>,
 ) -> Result<Vec<Entry<'a, Item<'a>>>, Unknown>
-    ensures members { Finds (λ entries. members_view entries.items) (parts.resolved (prims_of view.now) on context (map (λ name. name.now) path.entry.now) (entries_left members.entry.now)) result }
+    ensures members { Finds (λ entries. members_view entries.items)
+        (parts.resolved (prims_of view.now) on context (map (λ name. name.now) path.entry.now)
+        (entries_left members.entry.now)) result }
     ensures later { steps.old ≤ steps.new }
 {
     let mut entries = Vec::new(alloc);
@@ -147,7 +154,8 @@ fn resolved_entry<'a, L>(
     spelled: &SpelledEntry<'a>,
     steps: &mut Steps<L>,
 ) -> Result<Entry<'a, Item<'a>>, Unknown>
-    ensures entry { Leads (parts.resolved (prims_of view.now) on context (map (λ name. name.now) path.entry.now)) spelled.entry.now result }
+    ensures entry { Leads (parts.resolved (prims_of view.now) on context
+        (map (λ name. name.now) path.entry.now)) spelled.entry.now result }
     ensures later { steps.old ≤ steps.new }
 {
     match spelled {
@@ -171,7 +179,9 @@ fn resolved_member<'a, L>(
     item: &SpelledItem<'a>,
     steps: &mut Steps<L>,
 ) -> Result<Item<'a>, Unknown>
-    ensures item { Finds item_view (member_item (prims_of view.now) on context (map (λ name. name.now) path.entry.now) (name_view name.entry.now) (item_spelled item.entry.now)) result }
+    ensures item { Finds item_view (member_item (prims_of view.now) on context
+        (map (λ name. name.now) path.entry.now) (name_view name.entry.now)
+        (item_spelled item.entry.now)) result }
     ensures later { steps.old ≤ steps.new }
 {
     if is_computed(name.word) {
@@ -193,7 +203,9 @@ fn property_item<'a, L>(
     item: &SpelledItem<'a>,
     steps: &mut Steps<L>,
 ) -> Result<Item<'a>, Unknown>
-    ensures item { Finds item_view (property_item (prims_of view.now) on context (map (λ name. name.now) path.entry.now) (name_view name.entry.now) (item_spelled item.entry.now)) result }
+    ensures item { Finds item_view (property_item (prims_of view.now) on context
+        (map (λ name. name.now) path.entry.now) (name_view name.entry.now)
+        (item_spelled item.entry.now)) result }
     ensures later { steps.old ≤ steps.new }
 {
     let property = member_property(alloc, view, context, path, name, steps)?;
@@ -211,7 +223,8 @@ fn resolved_item<'a, L>(
     item: &SpelledItem<'a>,
     steps: &mut Steps<L>,
 ) -> Result<Item<'a>, Unknown>
-    ensures item { Finds item_view (parts.resolved_item (prims_of view.now) on (map (λ name. name.now) path.entry.now) property.now (item_spelled item.entry.now)) result }
+    ensures item { Finds item_view (parts.resolved_item (prims_of view.now) on
+        (map (λ name. name.now) path.entry.now) property.now (item_spelled item.entry.now)) result }
     ensures later { steps.old ≤ steps.new }
 {
     match item {
@@ -244,7 +257,9 @@ fn resolved_nested<'a, L>(
     members: &SpelledMembers<'a>,
     steps: &mut Steps<L>,
 ) -> Result<Item<'a>, Unknown>
-    ensures item { Finds item_view (parts.resolved_item (prims_of view.now) on (map (λ name. name.now) path.entry.now) property.now (change.nested (create_view word) (entries_left members.entry.now))) result }
+    ensures item { Finds item_view (parts.resolved_item (prims_of view.now) on
+        (map (λ name. name.now) path.entry.now) property.now
+        (change.nested (create_view word) (entries_left members.entry.now))) result }
     ensures later { steps.old ≤ steps.new }
 {
     if holds_values(expects_of(property.expected)) {
@@ -269,7 +284,9 @@ fn resolved_several<'a, L>(
     items: &SpelledItems<'a>,
     steps: &mut Steps<L>,
 ) -> Result<Item<'a>, Unknown>
-    ensures item { Finds item_view (parts.resolved_item (prims_of view.now) on (map (λ name. name.now) path.entry.now) property.now (change.several (items_left items.entry.now))) result }
+    ensures item { Finds item_view (parts.resolved_item (prims_of view.now) on
+        (map (λ name. name.now) path.entry.now) property.now
+        (change.several (items_left items.entry.now))) result }
     ensures later { steps.old ≤ steps.new }
 {
     let items = resolved_items(alloc, view, on, path, property, items, steps)?;
@@ -287,7 +304,9 @@ fn resolved_items<'a, L>(
     items: &SpelledItems<'a>,
     steps: &mut Steps<L>,
 ) -> Result<Vec<Item<'a>>, Unknown>
-    ensures items { Finds (λ items. many_view items.items) (parts.resolved_items (prims_of view.now) on (map (λ name. name.now) path.entry.now) property.now (items_left items.entry.now)) result }
+    ensures items { Finds (λ items. many_view items.items)
+        (parts.resolved_items (prims_of view.now) on (map (λ name. name.now) path.entry.now)
+        property.now (items_left items.entry.now)) result }
     ensures later { steps.old ≤ steps.new }
 {
     let mut done = Vec::new(alloc);
@@ -300,7 +319,8 @@ fn resolved_items<'a, L>(
     Ok(done)
 }
 
-/// What a clause does in its context type: what the text of its member `type` names, else the type that is passed.
+/// What a clause does in its context type: what the text of its member `type` names, else the type
+/// that is passed.
 #[cycle(resolved)]
 fn resolved_clause<'a, L>(
     alloc: Global,
@@ -311,15 +331,17 @@ fn resolved_clause<'a, L>(
     members: &SpelledMembers<'a>,
     steps: &mut Steps<L>,
 ) -> Result<Vec<Entry<'a, Item<'a>>>, Unknown>
-    ensures members { Finds (λ entries. members_view entries.items) (clause_resolved (prims_of view.now) on above (map (λ name. name.now) path.entry.now) (entries_left members.entry.now)) result }
+    ensures members { Finds (λ entries. members_view entries.items)
+        (clause_resolved (prims_of view.now) on above (map (λ name. name.now) path.entry.now)
+        (entries_left members.entry.now)) result }
     ensures later { steps.old ≤ steps.new }
 {
     let context = context_of(alloc, view, above, type_text(members), steps)?;
     resolved(alloc, view, on, context, path, members, steps)
 }
 
-/// The object that the id of a scope names below the view's dateline, if a scope is given. `NoSuchId`: the text is no id or
-/// names no object. `Memory`: an allocation was refused.
+/// The object that the id of a scope names below the view's dateline, if a scope is given.
+/// `NoSuchId`: the text is no id or names no object. `Memory`: an allocation was refused.
 pub fn scope_of<L>(
     alloc: Global,
     view: &View<'_>,
@@ -342,7 +364,8 @@ fn root_object<L>(
     root: Root<'_>,
     steps: &mut Steps<L>,
 ) -> Result<Option<Id>, Unknown>
-    ensures object { Finds (λ object. object) (root_object (prims_of view.now) (root_view root.entry)) result }
+    ensures object { Finds (λ object. object)
+        (root_object (prims_of view.now) (root_view root.entry)) result }
     ensures later { steps.old ≤ steps.new }
 {
     match root {
@@ -351,8 +374,8 @@ fn root_object<L>(
     }
 }
 
-/// What a write does at the view's dateline, in a scope that was found: the existing object of its root, if it names one,
-/// and what its members do.
+/// What a write does at the view's dateline, in a scope that was found: the existing object of its
+/// root, if it names one, and what its members do.
 pub fn resolved_root<'a, L>(
     alloc: Global,
     view: &View<'_>,
@@ -360,7 +383,8 @@ pub fn resolved_root<'a, L>(
     change: &Change<'a>,
     steps: &mut Steps<L>,
 ) -> Result<Intent<'a>, Unknown>
-    ensures root { Finds intent_view (root_in scope (prims_of view.now) (change_view change.entry.now)) result }
+    ensures root { Finds intent_view
+        (root_in scope (prims_of view.now) (change_view change.entry.now)) result }
     ensures later { steps.old ≤ steps.new }
 {
     let on = root_object(alloc, view, change.root, steps)?;
@@ -368,18 +392,21 @@ pub fn resolved_root<'a, L>(
     Ok(Intent { scope, on, members })
 }
 
-/// A write with its words looked up at the view's dateline: the object of its scope, the existing object of its root, and
-/// what its members do. It has no meaning where an id or a property is not there, where a target does not go with what its
-/// property holds, or where an existing object does not have a value that is stated of it. The first refusal decides: the
-/// scope first, then the object of the root, then clause by clause and member by member, each clause's context type before
-/// its members, with the path of the member from the root down. `Memory`: an allocation was refused.
+/// A write with its words looked up at the view's dateline: the object of its scope, the existing
+/// object of its root, and what its members do. It has no meaning where an id or a property is not
+/// there, where a target does not go with what its property holds, or where an existing object does
+/// not have a value that is stated of it. The first refusal decides: the scope first, then the
+/// object of the root, then clause by clause and member by member, each clause's context type
+/// before its members, with the path of the member from the root down. `Memory`: an allocation was
+/// refused.
 pub fn resolved_write<'a, L>(
     alloc: Global,
     view: &View<'_>,
     request: &'a WriteRequest,
     steps: &mut Steps<L>,
 ) -> Result<Intent<'a>, Unknown>
-    ensures intent { Finds intent_view (intent_of (prims_of view.now) (write_view request.entry.now)) result }
+    ensures intent { Finds intent_view
+        (intent_of (prims_of view.now) (write_view request.entry.now)) result }
     ensures later { steps.old ≤ steps.new }
 {
     let scope = scope_of(alloc, view, &request.scope, steps)?;

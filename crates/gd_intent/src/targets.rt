@@ -1,5 +1,6 @@
 //! Where the links of a write lead, looked up.
-ghost use Rattle.std.specs.Prelude.{◌≡◌, ◌≢◌, ◌≤◌, ◌++◌, ◌∷◌, [], Ok, codes, map, option_map, if◌then◌else◌};
+ghost use Rattle.std.specs.Prelude.{◌≡◌, ◌≢◌, ◌≤◌, ◌++◌, ◌∷◌, [], Ok, codes, map, option_map};
+ghost use Rattle.std.specs.Prelude.{if◌then◌else◌};
 ghost use Rattle.std.specs.Option.{ok_or};
 ghost use Rattle.gd_tree.specs.Json.{text as json_text};
 ghost use Rattle.gd_prim.specs.History.{prims_of};
@@ -44,7 +45,8 @@ fn datum_target(datum: Datum) -> Target
 
 /// The refusal of a code at the member of this name below a path.
 pub(crate) fn bad_below<'a>(alloc: Global, code: Code, path: &[&'a str], name: &'a str) -> Unknown
-    ensures { result ≢ fault.Memory → unknown_of result ≡ asked.bad_query (code_view code) (map (λ name. name.now) path.entry.now ++ name.now ∷ []) }
+    ensures { result ≢ fault.Memory → unknown_of result ≡ asked.bad_query (code_view code)
+        (map (λ name. name.now) path.entry.now ++ name.now ∷ []) }
 {
     match longer(alloc, path, name) {
         Ok(below) => bad(alloc, code, &below),
@@ -61,7 +63,9 @@ fn operand_target<L>(
     json: &Json,
     steps: &mut Steps<L>,
 ) -> Result<Target, Unknown>
-    ensures target { Finds target_view (operand_target (prims_of view.now) (expects_view expects) (map (λ name. name.now) path.now) (json_of json.now)) result }
+    ensures target { Finds target_view
+        (operand_target (prims_of view.now) (expects_view expects) (map (λ name. name.now) path.now)
+        (json_of json.now)) result }
     ensures later { steps.old ≤ steps.new }
 {
     let datum = operand_datum(alloc, view, expects, path, json, steps)?;
@@ -76,7 +80,9 @@ fn named_target<L>(
     id: &str,
     steps: &mut Steps<L>,
 ) -> Result<Target, Unknown>
-    ensures target { Finds target_view (parts.literal_target (prims_of view.now) (map (λ name. name.now) path.now) property.an_object_of_system (json_text id.now)) result }
+    ensures target { Finds target_view
+        (parts.literal_target (prims_of view.now) (map (λ name. name.now) path.now)
+        property.an_object_of_system (json_text id.now)) result }
     ensures later { steps.old ≤ steps.new }
 {
     if is_id(id) {
@@ -94,7 +100,9 @@ fn system_target<L>(
     json: &Json,
     steps: &mut Steps<L>,
 ) -> Result<Target, Unknown>
-    ensures target { Finds target_view (parts.literal_target (prims_of view.now) (map (λ name. name.now) path.now) property.an_object_of_system (json_of json.now)) result }
+    ensures target { Finds target_view
+        (parts.literal_target (prims_of view.now) (map (λ name. name.now) path.now)
+        property.an_object_of_system (json_of json.now)) result }
     ensures later { steps.old ≤ steps.new }
 {
     match json {
@@ -103,10 +111,11 @@ fn system_target<L>(
     }
 }
 
-/// The target of a literal where answers are of this sort: a value of the kind, a key without a namespace, or the object of
-/// the system that an id names below the dateline. `path` has the names that lead to the literal from the root down.
-/// `NoSuchId`: an object of the system is wanted, and the id names none. `BadQuery` with `BadValue` and the path: the
-/// literal is none of these, or other objects are wanted, which no literal names. `Memory`: an allocation was refused.
+/// The target of a literal where answers are of this sort: a value of the kind, a key without a
+/// namespace, or the object of the system that an id names below the dateline. `path` has the names
+/// that lead to the literal from the root down. `NoSuchId`: an object of the system is wanted, and
+/// the id names none. `BadQuery` with `BadValue` and the path: the literal is none of these, or
+/// other objects are wanted, which no literal names. `Memory`: an allocation was refused.
 pub fn literal_target<L>(
     alloc: Global,
     view: &View<'_>,
@@ -115,7 +124,9 @@ pub fn literal_target<L>(
     json: &Json,
     steps: &mut Steps<L>,
 ) -> Result<Target, Unknown>
-    ensures target { Finds target_view (parts.literal_target (prims_of view.now) (map (λ name. name.now) path.now) (expects_view expects) (json_of json.now)) result }
+    ensures target { Finds target_view
+        (parts.literal_target (prims_of view.now) (map (λ name. name.now) path.now)
+        (expects_view expects) (json_of json.now)) result }
     ensures later { steps.old ≤ steps.new }
 {
     match expects {
@@ -125,8 +136,8 @@ pub fn literal_target<L>(
     }
 }
 
-/// The target of a literal of which a link is to be made. It is that of `literal_target`, but a key by itself, which has no
-/// namespace, is refused: `BadQuery` with `BadValue` and the path.
+/// The target of a literal of which a link is to be made. It is that of `literal_target`, but a key
+/// by itself, which has no namespace, is refused: `BadQuery` with `BadValue` and the path.
 pub fn new_target<L>(
     alloc: Global,
     view: &View<'_>,
@@ -135,7 +146,9 @@ pub fn new_target<L>(
     json: &Json,
     steps: &mut Steps<L>,
 ) -> Result<Target, Unknown>
-    ensures target { Finds target_view (parts.new_target (prims_of view.now) (map (λ name. name.now) path.now) (expects_view expects) (json_of json.now)) result }
+    ensures target { Finds target_view
+        (parts.new_target (prims_of view.now) (map (λ name. name.now) path.now)
+        (expects_view expects) (json_of json.now)) result }
     ensures later { steps.old ≤ steps.new }
 {
     match expects {
@@ -146,7 +159,9 @@ pub fn new_target<L>(
 
 /// The text that is a key.
 fn text_key<'a>(alloc: Global, path: &[&'a str], key: &str) -> Result<Text, Unknown>
-    ensures { Finds (λ key. key) (ok_or (data_kinds.key_from (json_text key.now)) (asked.bad_query bad_value (map (λ name. name.now) path.entry.now ++ codes "value" ∷ []))) result }
+    ensures { Finds (λ key. key) (ok_or (data_kinds.key_from (json_text key.now))
+        (asked.bad_query bad_value (map (λ name. name.now) path.entry.now ++ codes "value" ∷ [])))
+        result }
 {
     if is_key(key) {
         Ok(Text::of(alloc, key)?)
@@ -157,7 +172,9 @@ fn text_key<'a>(alloc: Global, path: &[&'a str], key: &str) -> Result<Text, Unkn
 
 /// The key that the member `value` of a form spells.
 fn form_key<'a>(alloc: Global, path: &[&'a str], json: &Json) -> Result<Text, Unknown>
-    ensures { Finds (λ key. key) (ok_or (data_kinds.key_from (json_of json.now)) (asked.bad_query bad_value (map (λ name. name.now) path.entry.now ++ codes "value" ∷ []))) result }
+    ensures { Finds (λ key. key) (ok_or (data_kinds.key_from (json_of json.now))
+        (asked.bad_query bad_value (map (λ name. name.now) path.entry.now ++ codes "value" ∷ [])))
+        result }
 {
     match json {
         Json::Text(key) => text_key(alloc, path, key.as_str()),
@@ -174,7 +191,9 @@ fn key_target<'a, L>(
     json: &Json,
     steps: &mut Steps<L>,
 ) -> Result<Target, Unknown>
-    ensures target { Finds target_view (parts.target_of (prims_of view.now) (map (λ name. name.now) path.entry.now) property.a_key (change.to_key namespace.now (json_of json.now))) result }
+    ensures target { Finds target_view
+        (parts.target_of (prims_of view.now) (map (λ name. name.now) path.entry.now) property.a_key
+        (change.to_key namespace.now (json_of json.now))) result }
     ensures later { steps.old ≤ steps.new }
 {
     let namespace = place_named(alloc, view, namespace, steps)?;
@@ -192,7 +211,9 @@ fn spaced_target<'a, L>(
     json: &Json,
     steps: &mut Steps<L>,
 ) -> Result<Target, Unknown>
-    ensures target { Finds target_view (parts.target_of (prims_of view.now) (map (λ name. name.now) path.entry.now) (expects_view expects) (change.to_key namespace.now (json_of json.now))) result }
+    ensures target { Finds target_view
+        (parts.target_of (prims_of view.now) (map (λ name. name.now) path.entry.now)
+        (expects_view expects) (change.to_key namespace.now (json_of json.now))) result }
     ensures later { steps.old ≤ steps.new }
 {
     match expects {
@@ -210,7 +231,9 @@ fn valued_target<'a, L>(
     json: &Json,
     steps: &mut Steps<L>,
 ) -> Result<Target, Unknown>
-    ensures target { Finds target_view (parts.target_of (prims_of view.now) (map (λ name. name.now) path.entry.now) (expects_view expects) (change.to_literal (json_of json.now))) result }
+    ensures target { Finds target_view
+        (parts.target_of (prims_of view.now) (map (λ name. name.now) path.entry.now)
+        (expects_view expects) (change.to_literal (json_of json.now))) result }
     ensures later { steps.old ≤ steps.new }
 {
     let below = longer(alloc, path, "value")?;
@@ -226,7 +249,9 @@ fn object_target<'a, L>(
     id: &str,
     steps: &mut Steps<L>,
 ) -> Result<Target, Unknown>
-    ensures target { Finds target_view (parts.target_of (prims_of view.now) (map (λ name. name.now) path.entry.now) (expects_view expects) (change.to_id id.now)) result }
+    ensures target { Finds target_view
+        (parts.target_of (prims_of view.now) (map (λ name. name.now) path.entry.now)
+        (expects_view expects) (change.to_id id.now)) result }
     ensures later { steps.old ≤ steps.new }
 {
     if holds_values(expects) {
@@ -236,10 +261,11 @@ fn object_target<'a, L>(
     }
 }
 
-/// What a form `{..}` leads to where answers are of this sort: the object that `id` names, the literal `value`, or the key
-/// `value` in the namespace that `namespace` names. `path` has the names that lead to the form from the root down.
-/// `NoSuchId`: the id of an object or a namespace names none. `BadQuery` with `BadValue` and the path of the member: `id`
-/// does not go with values and keys, `namespace` only with keys, and `value` is to be a value, or beside `namespace` a key.
+/// What a form `{..}` leads to where answers are of this sort: the object that `id` names, the
+/// literal `value`, or the key `value` in the namespace that `namespace` names. `path` has the
+/// names that lead to the form from the root down. `NoSuchId`: the id of an object or a namespace
+/// names none. `BadQuery` with `BadValue` and the path of the member: `id` does not go with values
+/// and keys, `namespace` only with keys, and `value` is to be a value, or beside `namespace` a key.
 /// `Memory`: an allocation was refused.
 pub fn target_of<'a, L>(
     alloc: Global,
@@ -249,7 +275,9 @@ pub fn target_of<'a, L>(
     target: SpelledTarget<'a>,
     steps: &mut Steps<L>,
 ) -> Result<Target, Unknown>
-    ensures target { Finds target_view (parts.target_of (prims_of view.now) (map (λ name. name.now) path.entry.now) (expects_view expects) (target_spelled target.entry)) result }
+    ensures target { Finds target_view
+        (parts.target_of (prims_of view.now) (map (λ name. name.now) path.entry.now)
+        (expects_view expects) (target_spelled target.entry)) result }
     ensures later { steps.old ≤ steps.new }
 {
     match target {

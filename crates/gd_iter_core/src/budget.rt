@@ -3,7 +3,8 @@ ghost use Rattle.std.specs.Prelude.{◌≡◌, ◌+◌, ◌<◌, ◌≤◌, ◌�
 
 use gd_base::steps::Steps;
 
-/// How many steps a call may take, and what the count was when it began. It is spent once the count has risen by so many.
+/// How many steps a call may take, and what the count was when it began. It is spent once the count
+/// has risen by so many.
 #[derive(Clone, Copy, Debug)]
 pub struct Budget {
     pub before: u64,

@@ -127,7 +127,8 @@ impl<D: Disk> Journal<D> {
         ensures same { (self.new.gate ≡ self.old.gate) × (self.new.doubt ≡ self.old.doubt) }
         ensures version { self.new.version ≡ self.old.version }
         ensures left { OnErr result (self.new.damaged ≡ self.old.damaged) }
-        ensures untouched { IsUntouched D.content D.moment D.images D.images_since self.old.disk self.new.disk }
+        ensures untouched { IsUntouched D.content D.moment D.images D.images_since self.old.disk
+            self.new.disk }
         ensures later { D.faults self.old.disk ≤ D.faults self.new.disk }
         ensures cause { IfErr result (HasReason (D.faults self.old.disk) (D.faults self.new.disk)) }
     {

@@ -427,7 +427,8 @@ impl<D: Disk> Opening<D> {
         ensures version { self.new.version ≡ self.old.version }
         ensures left { OnErr result ((self.new.damaged ≡ self.old.damaged)
             × (self.new.next ≡ self.old.next)) }
-        ensures untouched { IsUntouched D.content D.moment D.images D.images_since self.old.disk self.new.disk }
+        ensures untouched { IsUntouched D.content D.moment D.images D.images_since self.old.disk
+            self.new.disk }
         ensures later { D.faults self.old.disk ≤ D.faults self.new.disk }
         ensures cause { IfErr result (HasReason (D.faults self.old.disk) (D.faults self.new.disk)) }
     {

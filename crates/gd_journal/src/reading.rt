@@ -62,7 +62,8 @@ impl Records {
         ensures moves { IfOk result (λ next. Moves self.old.at self.new.at next) }
         ensures comes { IfOk result (λ next. ForSome (D.content disk.old) (λ file.
             ComesNext self.old.at self.new.at file next)) }
-        ensures untouched { IsUntouched D.content D.moment D.images D.images_since disk.old disk.new }
+        ensures untouched { IsUntouched D.content D.moment D.images D.images_since disk.old
+            disk.new }
         ensures later { D.faults disk.old ≤ D.faults disk.new }
         ensures cause { IfErr result (HasReason (D.faults disk.old) (D.faults disk.new)) }
     {

@@ -5,8 +5,10 @@ ghost use Rattle.json.specs.Value.{value_view, items_view as values_view, member
 ghost use Rattle.serde_json.specs.Data.{no_members};
 ghost use Rattle.serde_json.specs.Read.{of_json};
 ghost use Rattle.gd_json.specs.View.{view};
-ghost use Rattle.gd_json.specs.Text.{as_data, items_data, members_data, plain_members, entries_data, object_at, reading_of, text_reading};
-ghost use Rattle.gd_json.specs.Reading.{value_at, items_at, members_at, list_of, object_of, json_from as json_of};
+ghost use Rattle.gd_json.specs.Text.{as_data, items_data, members_data, plain_members};
+ghost use Rattle.gd_json.specs.Text.{entries_data, object_at, reading_of, text_reading};
+ghost use Rattle.gd_json.specs.Reading.{value_at, items_at, members_at, list_of, object_of};
+ghost use Rattle.gd_json.specs.Reading.{json_from as json_of};
 ghost use Rattle.gd_json.specs.Bounded.{IsBounded};
 ghost use Rattle.gd_json.specs.declared.from.JsonFault.TheVariants.{Memory as no_memory};
 
@@ -63,10 +65,11 @@ impl From<Memory> for JsonFault {
     }
 }
 
-/// The value that the bytes spell. `BadJson`: they have no reading by the rules of the crate serde_json. Else the value is
-/// walked, each value before its parts and members in byte order of their names, and the first fault decides; at one value
-/// `TooDeep` is tested before `TooWide` and `FloatValue`. Of two members of one name the last counts, and the members of an
-/// object stand in byte order of their names.
+/// The value that the bytes spell. `BadJson`: they have no reading by the rules of the crate
+/// serde_json. Else the value is walked, each value before its parts and members in byte order of
+/// their names, and the first fault decides; at one value `TooDeep` is tested before `TooWide` and
+/// `FloatValue`. Of two members of one name the last counts, and the members of an object stand in
+/// byte order of their names.
 pub fn json_from(alloc: Global, bytes: &[u8]) -> Result<Json, JsonFault>
     ensures read { Gives view JsonFault.Memory (json_of bytes.now) result }
     ensures bounded { IfOk result (λ json. IsBounded (view json)) }
@@ -143,7 +146,8 @@ fn convert_object<'a>(
     level: u32,
 ) -> Result<Json, JsonFault>
     requires { level ≤ 17 }
-    ensures { Gives view JsonFault.Memory (object_at level (members_data (map_view members.now.items) no_members)) result }
+    ensures { Gives view JsonFault.Memory
+        (object_at level (members_data (map_view members.now.items) no_members)) result }
 {
     if are_rising(members) {
         if members.len() > WIDEST {
@@ -166,7 +170,8 @@ fn convert_members<'a>(
     level: u32,
 ) -> Result<Json, JsonFault>
     requires { level ≤ 17 }
-    ensures { Gives view JsonFault.Memory (object_of (members_at level (plain_members (map_view members.now.items)))) result }
+    ensures { Gives view JsonFault.Memory
+        (object_of (members_at level (plain_members (map_view members.now.items)))) result }
 {
     let mut object = Vec::with_capacity(alloc, members.len())?;
     for member in members {
@@ -184,7 +189,8 @@ fn convert_found<'v, 'a>(
     level: u32,
 ) -> Result<Json, JsonFault>
     requires { level ≤ 17 }
-    ensures { Gives view JsonFault.Memory (object_of (members_at level (entries_data found.now.entries))) result }
+    ensures { Gives view JsonFault.Memory
+        (object_of (members_at level (entries_data found.now.entries))) result }
 {
     let mut object = Vec::with_capacity(alloc, found.len())?;
     for (name, tree) in found {

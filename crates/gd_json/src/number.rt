@@ -1,5 +1,6 @@
 //! The numbers of JSON, by the rules of the crate serde_json.
-ghost use Rattle.std.specs.Prelude.{◌≡◌, ◌==◌, is_some, option_and_then, true, false, slice_index, drop, MatchOption};
+ghost use Rattle.std.specs.Prelude.{◌≡◌, ◌==◌, is_some, option_and_then, true, false, slice_index};
+ghost use Rattle.std.specs.Prelude.{drop, MatchOption};
 ghost use Rattle.fast_float.specs.Text.{minus, scan};
 ghost use Rattle.serde_json.specs.Find.{as_i64};
 ghost use Rattle.serde_json.specs.Read.{number_of, number_from};
@@ -13,7 +14,8 @@ fn whole(digits: &[u8]) -> Option<i64>
     i64::try_from(Numeral::scan(digits).to_u64()?).ok()
 }
 
-/// The number of these digits behind a minus, if it is whole, below 0 and has at most 64 bits with a sign.
+/// The number of these digits behind a minus, if it is whole, below 0 and has at most 64 bits with
+/// a sign.
 fn whole_below_zero(digits: &[u8]) -> Option<i64>
     ensures { result ≡ option_and_then as_i64 (number_from true (scan digits.now)) }
 {
@@ -42,7 +44,8 @@ fn fits_below_zero(digits: &[u8]) -> bool
 /// The digits behind a minus.
 fn behind_minus(number: &[u8]) -> Option<&[u8]>
     ensures { MatchOption result ((slice_index number.now 0 == minus) ≡ false)
-        (λ digits. ((slice_index number.now 0 == minus) ≡ true) × (digits.now ≡ drop 1 number.now)) }
+        (λ digits. ((slice_index number.now 0 == minus) ≡ true)
+        × (digits.now ≡ drop 1 number.now)) }
 {
     match number.split_first() {
         Some((first, digits)) => { if *first == b'-' { Some(digits) } else { None } }

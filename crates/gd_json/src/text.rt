@@ -12,8 +12,8 @@ use std::alloc::Global;
 /// Room for a short text.
 const SHORT: usize = 128;
 
-/// The compact text of a value: no blanks, the members of an object in their order, and of the escapes only those
-/// that JSON asks for.
+/// The compact text of a value: no blanks, the members of an object in their order, and of the
+/// escapes only those that JSON asks for.
 pub fn json_text(alloc: Global, value: &Json) -> Result<Vec<u8>, Memory>
     ensures { IfOk result (λ text. text.items ≡ compact (view value.now)) }
 {

@@ -5,7 +5,8 @@ ghost use Rattle.gd_base.specs.Answers.{Gives};
 ghost use Rattle.json.specs.Value.{value_view, items_view as values_view, members_view as map_view};
 ghost use Rattle.serde_json.specs.Data.{no_members};
 ghost use Rattle.serde_json.specs.Read.{of_json};
-ghost use Rattle.gd_json.specs.Text.{tree_of, rises, rises_behind, items_read, members_read, members_data, entries_data};
+ghost use Rattle.gd_json.specs.Text.{tree_of, rises, rises_behind, items_read, members_read};
+ghost use Rattle.gd_json.specs.Text.{members_data, entries_data};
 
 use crate::from::JsonFault;
 use crate::number::is_in_range;
@@ -23,7 +24,8 @@ pub(crate) fn tree_from<'a>(
     text: &'a str,
     scratch: &'a mut Scratch,
 ) -> Result<Value<'a>, JsonFault>
-    ensures { Gives value_view JsonFault.Memory (ok_or (tree_of text.now) JsonFault.BadJson) result }
+    ensures { Gives value_view JsonFault.Memory (ok_or (tree_of text.now) JsonFault.BadJson)
+        result }
 {
     let mut reader = Reader::new(text, scratch)?;
     match Value::read(alloc, &mut reader, NESTING) {
@@ -104,7 +106,8 @@ pub(crate) fn by_name<'v, 'a>(
     alloc: Global,
     members: &'v Vec<(&'a str, Value<'a>)>,
 ) -> Result<BTreeMap<&'v str, &'v Value<'a>>, Memory>
-    ensures { IfOk result (λ found. entries_data found.entries ≡ members_data (map_view members.now.items) no_members) }
+    ensures { IfOk result (λ found. entries_data found.entries
+        ≡ members_data (map_view members.now.items) no_members) }
 {
     let mut found = BTreeMap::new(alloc);
     for member in members {

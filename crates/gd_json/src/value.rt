@@ -24,8 +24,8 @@ impl Model for JsonText {
     ghost view = { λ text. string_bytes text.string };
 }
 
-/// A JSON value whose numbers are whole. The members of an object that was read stand in byte order of their names,
-/// each name once; who builds one keeps that order.
+/// A JSON value whose numbers are whole. The members of an object that was read stand in byte order
+/// of their names, each name once; who builds one keeps that order.
 #[derive(Debug, PartialEq, Eq, Drop)]
 pub enum Json {
     Null,
@@ -152,7 +152,8 @@ impl Json {
 
     /// The items of a list, in order.
     pub fn as_list(&self) -> Option<&[Json]>
-        ensures { option_map (λ items. items_view items.now) result ≡ look.items_in (view self.now) }
+        ensures { option_map (λ items. items_view items.now) result
+            ≡ look.items_in (view self.now) }
     {
         match self {
             Json::List(items) => Some(items.as_slice()),
@@ -216,7 +217,8 @@ impl Json {
 
     /// The value of an object's member of this name.
     pub fn member(&self, name: &str) -> Option<&Json>
-        ensures { option_map (λ part. view part.now) result ≡ look.member_of name.now (view self.now) }
+        ensures { option_map (λ part. view part.now) result ≡ look.member_of name.now
+            (view self.now) }
     {
         match self {
             Json::Object(members) => find(members, name),

@@ -2,7 +2,8 @@
 ghost use Rattle.std.specs.Prelude.{◌≡◌, ℕ, ◌<◌, List, [], Some, length, OnOk, OnErr};
 ghost use Rattle.std.specs.Option.{ForSome, option_copied};
 ghost use Rattle.gd_postings.specs.Postings.{IsAbove};
-ghost use Rattle.gd_keys.specs.Keys.{key_list, object_list, is_under, is_of, with_entry, without_entry, last_of, SameIds};
+ghost use Rattle.gd_keys.specs.Keys.{key_list, object_list, is_under, is_of, with_entry};
+ghost use Rattle.gd_keys.specs.Keys.{without_entry, last_of, SameIds};
 
 use gd_base::id::Id;
 use gd_base::memory::Memory;
@@ -13,8 +14,9 @@ use gd_postings::postings::Postings;
 use std::alloc::Global;
 use std::marker::Model;
 
-/// The places of key links: a rising list for each namespace and key, and one for each object. Contracts see the
-/// lists through `key_list` and `object_list`. A list that was never made is as an empty one.
+/// The places of key links: a rising list for each namespace and key, and one for each object.
+/// Contracts see the lists through `key_list` and `object_list`. A list that was never made is as
+/// an empty one.
 #[derive(Drop)]
 pub struct Keys {
     by_key: PairLists,
@@ -66,8 +68,9 @@ impl Keys {
         }
     }
 
-    /// Enters a key link at the end of the list of its namespace and key, if it has both, and of the list of its
-    /// object, if it has one. Every other list stays. `Memory` leaves the identities of every list as they were.
+    /// Enters a key link at the end of the list of its namespace and key, if it has both, and of
+    /// the list of its object, if it has one. Every other list stays. `Memory` leaves the
+    /// identities of every list as they were.
     pub fn add(
         &mut self,
         namespace: Option<Id>,
@@ -76,10 +79,14 @@ impl Keys {
         id: Id,
     ) -> Result<(), Memory>
         requires small { id < 2_097_151 }
-        requires above_keys { ForSome namespace (λ n. ForSome (option_copied key) (λ k. IsAbove (key_list self.old n k).ids id)) }
+        requires above_keys { ForSome namespace
+            (λ n. ForSome (option_copied key) (λ k. IsAbove (key_list self.old n k).ids id)) }
         requires above_objects { ForSome object (λ o. IsAbove (object_list self.old o).ids id) }
-        ensures by_key { OnOk result ((n : ℕ) (k : List ℕ) → (key_list self.new n k).ids ≡ with_entry (is_under namespace (option_copied key.entry) n k) id (key_list self.old n k).ids) }
-        ensures by_object { OnOk result ((o : ℕ) → (object_list self.new o).ids ≡ with_entry (is_of object o) id (object_list self.old o).ids) }
+        ensures by_key { OnOk result ((n : ℕ) (k : List ℕ) → (key_list self.new n k).ids
+            ≡ with_entry (is_under namespace (option_copied key.entry) n k) id
+            (key_list self.old n k).ids) }
+        ensures by_object { OnOk result ((o : ℕ) → (object_list self.new o).ids
+            ≡ with_entry (is_of object o) id (object_list self.old o).ids) }
         ensures err { OnErr result (SameIds self.old self.new) }
     {
         match key {
@@ -88,14 +95,22 @@ impl Keys {
         }
     }
 
-    /// Takes the key link that was entered last away again, from the list of its namespace and key, if it has both,
-    /// and from the list of its object, if it has one. Every other list stays. It takes no memory.
+    /// Takes the key link that was entered last away again, from the list of its namespace and key,
+    /// if it has both, and from the list of its object, if it has one. Every other list stays. It
+    /// takes no memory.
     pub fn retract(&mut self, namespace: Option<Id>, key: Option<&Text>, object: Option<Id>)
-        requires some_keys { ForSome namespace (λ n. ForSome (option_copied key) (λ k. 0 < length (key_list self.old n k).ids)) }
+        requires some_keys { ForSome namespace
+            (λ n. ForSome (option_copied key) (λ k. 0 < length (key_list self.old n k).ids)) }
         requires some_objects { ForSome object (λ o. 0 < length (object_list self.old o).ids) }
-        requires same_last { ForSome namespace (λ n. ForSome (option_copied key) (λ k. ForSome object (λ o. last_of (key_list self.old n k).ids ≡ last_of (object_list self.old o).ids))) }
-        ensures by_key { (n : ℕ) (k : List ℕ) → (key_list self.new n k).ids ≡ without_entry (is_under namespace (option_copied key.entry) n k) (key_list self.old n k).ids }
-        ensures by_object { (o : ℕ) → (object_list self.new o).ids ≡ without_entry (is_of object o) (object_list self.old o).ids }
+        requires same_last { ForSome namespace
+            (λ n. ForSome (option_copied key)
+            (λ k. ForSome object (λ o. last_of (key_list self.old n k).ids
+            ≡ last_of (object_list self.old o).ids))) }
+        ensures by_key { (n : ℕ) (k : List ℕ) → (key_list self.new n k).ids
+            ≡ without_entry (is_under namespace (option_copied key.entry) n k)
+            (key_list self.old n k).ids }
+        ensures by_object { (o : ℕ) → (object_list self.new o).ids ≡ without_entry (is_of object o)
+            (object_list self.old o).ids }
     {
         self.by_object.take_back(object);
         if let Some(key) = key {
@@ -107,9 +122,12 @@ impl Keys {
     fn add_to_object(&mut self, object: Option<Id>, id: Id) -> Result<(), Memory>
         requires small { id < 2_097_151 }
         requires above { ForSome object (λ o. IsAbove (object_list self.old o).ids id) }
-        ensures by_key { (n : ℕ) (k : List ℕ) → (key_list self.new n k).ids ≡ (key_list self.old n k).ids }
-        ensures by_object { OnOk result ((o : ℕ) → (object_list self.new o).ids ≡ with_entry (is_of object o) id (object_list self.old o).ids) }
-        ensures err { OnErr result ((o : ℕ) → (object_list self.new o).ids ≡ (object_list self.old o).ids) }
+        ensures by_key { (n : ℕ) (k : List ℕ) → (key_list self.new n k).ids
+            ≡ (key_list self.old n k).ids }
+        ensures by_object { OnOk result ((o : ℕ) → (object_list self.new o).ids
+            ≡ with_entry (is_of object o) id (object_list self.old o).ids) }
+        ensures err { OnErr result ((o : ℕ) → (object_list self.new o).ids
+            ≡ (object_list self.old o).ids) }
     {
         let entered = object;
         self.by_object.make_room(object)?;
@@ -126,10 +144,13 @@ impl Keys {
         id: Id,
     ) -> Result<(), Memory>
         requires small { id < 2_097_151 }
-        requires above_keys { ForSome namespace (λ n. IsAbove (key_list self.old n key.now).ids id) }
+        requires above_keys { ForSome namespace
+            (λ n. IsAbove (key_list self.old n key.now).ids id) }
         requires above_objects { ForSome object (λ o. IsAbove (object_list self.old o).ids id) }
-        ensures by_key { OnOk result ((n : ℕ) (k : List ℕ) → (key_list self.new n k).ids ≡ with_entry (is_under namespace (Some key.now) n k) id (key_list self.old n k).ids) }
-        ensures by_object { OnOk result ((o : ℕ) → (object_list self.new o).ids ≡ with_entry (is_of object o) id (object_list self.old o).ids) }
+        ensures by_key { OnOk result ((n : ℕ) (k : List ℕ) → (key_list self.new n k).ids
+            ≡ with_entry (is_under namespace (Some key.now) n k) id (key_list self.old n k).ids) }
+        ensures by_object { OnOk result ((o : ℕ) → (object_list self.new o).ids
+            ≡ with_entry (is_of object o) id (object_list self.old o).ids) }
         ensures err { OnErr result (SameIds self.old self.new) }
     {
         let (entered_namespace, entered_object) = (namespace, object);

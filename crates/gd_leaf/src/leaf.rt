@@ -1,5 +1,6 @@
 //! Leaves.
-ghost use Rattle.std.specs.Prelude.{◌≡◌, ◌+◌, ◌-◌, ◌^◌, ◌<◌, ◌≤◌, length, true, false, max, IfSome, IfOk, refl, List, ℕ, ◌&&◌, nat_lt};
+ghost use Rattle.std.specs.Prelude.{◌≡◌, ◌+◌, ◌-◌, ◌^◌, ◌<◌, ◌≤◌, length, true, false, max, IfSome};
+ghost use Rattle.std.specs.Prelude.{IfOk, refl, List, ℕ, ◌&&◌, nat_lt};
 ghost use Rattle.gd_prim.specs.declared.Batch.{Batch};
 ghost use Rattle.gd_prim.specs.End.{places_with};
 ghost use Rattle.gd_prim.specs.History.{prims_of};
@@ -22,7 +23,8 @@ use gd_prim::End;
 use gd_store::view::View;
 use std::alloc::Global;
 
-/// The places below a view's end that are of some kind, in rising order. It owes those from its place on.
+/// The places below a view's end that are of some kind, in rising order. It owes those from its
+/// place on.
 #[derive(Drop)]
 pub struct Leaf {
     kind: Kind,
@@ -32,8 +34,10 @@ pub struct Leaf {
 impl Leaf {
     /// All places. At first all of them are owed.
     pub fn all() -> Leaf
-        ensures set { (batches : List Batch) → (⟦<Leaf as Iter<View<'static>>>⟧.walk result).set batches ≡ all_places batches }
-        ensures owed { (batches : List Batch) → ⟦<Leaf as Iter<View<'static>>>⟧.owed result batches ≡ all_places batches }
+        ensures set { (batches : List Batch) → (⟦<Leaf as Iter<View<'static>>>⟧.walk result).set
+            batches ≡ all_places batches }
+        ensures owed { (batches : List Batch) → ⟦<Leaf as Iter<View<'static>>>⟧.owed result batches
+            ≡ all_places batches }
     {
         Leaf {
             kind: Kind::All,
@@ -43,8 +47,10 @@ impl Leaf {
 
     /// The places whose primitives have a node at an end. At first all of them are owed.
     pub fn linkage(end: End, node: Id) -> Leaf
-        ensures set { (batches : List Batch) → (⟦<Leaf as Iter<View<'static>>>⟧.walk result).set batches ≡ places_with end node (prims_of batches) }
-        ensures owed { (batches : List Batch) → ⟦<Leaf as Iter<View<'static>>>⟧.owed result batches ≡ places_with end node (prims_of batches) }
+        ensures set { (batches : List Batch) → (⟦<Leaf as Iter<View<'static>>>⟧.walk result).set
+            batches ≡ places_with end node (prims_of batches) }
+        ensures owed { (batches : List Batch) → ⟦<Leaf as Iter<View<'static>>>⟧.owed result batches
+            ≡ places_with end node (prims_of batches) }
     {
         Leaf {
             kind: Kind::Linkage(end, node),
@@ -52,11 +58,13 @@ impl Leaf {
         }
     }
 
-    /// The places whose primitives have the value with a number: none where the number was not given. At first all of them
-    /// are owed.
+    /// The places whose primitives have the value with a number: none where the number was not
+    /// given. At first all of them are owed.
     pub fn value(number: u32) -> Leaf
-        ensures set { (batches : List Batch) → (⟦<Leaf as Iter<View<'static>>>⟧.walk result).set batches ≡ places_of_number number (prims_of batches) }
-        ensures owed { (batches : List Batch) → ⟦<Leaf as Iter<View<'static>>>⟧.owed result batches ≡ places_of_number number (prims_of batches) }
+        ensures set { (batches : List Batch) → (⟦<Leaf as Iter<View<'static>>>⟧.walk result).set
+            batches ≡ places_of_number number (prims_of batches) }
+        ensures owed { (batches : List Batch) → ⟦<Leaf as Iter<View<'static>>>⟧.owed result batches
+            ≡ places_of_number number (prims_of batches) }
     {
         Leaf {
             kind: Kind::Value(number),
@@ -64,12 +72,16 @@ impl Leaf {
         }
     }
 
-    /// The places of a list, in any order, that are below the view's end. At first all of them are owed. `Memory`: there is
-    /// no room for them.
+    /// The places of a list, in any order, that are below the view's end. At first all of them are
+    /// owed. `Memory`: there is no room for them.
     pub fn fixed(alloc: Global, ids: &[Id]) -> Result<Leaf, Memory>
-        ensures members { IfOk result (λ leaf. (batches : List Batch) → length (prims_of batches) ≤ 2_097_151 → (id : ℕ)
-            → has_id ((⟦<Leaf as Iter<View<'static>>>⟧.walk leaf).set batches) id ≡ (has_id ids.now id && nat_lt id (length (prims_of batches)))) }
-        ensures owed { IfOk result (λ leaf. (batches : List Batch) → ⟦<Leaf as Iter<View<'static>>>⟧.owed leaf batches ≡ (⟦<Leaf as Iter<View<'static>>>⟧.walk leaf).set batches) }
+        ensures members { IfOk result (λ leaf. (batches : List Batch) → length (prims_of batches)
+            ≤ 2_097_151 → (id : ℕ)
+            → has_id ((⟦<Leaf as Iter<View<'static>>>⟧.walk leaf).set batches) id
+            ≡ (has_id ids.now id && nat_lt id (length (prims_of batches)))) }
+        ensures owed { IfOk result (λ leaf. (batches : List Batch)
+            → ⟦<Leaf as Iter<View<'static>>>⟧.owed leaf batches
+            ≡ (⟦<Leaf as Iter<View<'static>>>⟧.walk leaf).set batches) }
     {
         let list = Listed::new(alloc, ids)?;
         Ok(Leaf {
@@ -95,7 +107,8 @@ impl Leaf {
 
     /// Gives the next member that is owed.
     fn go_on<L>(&mut self, view: &View<'_>, steps: &mut Steps<L>) -> Turn
-        ensures gives { NextGives (ids_from self.old.place (leaf_set self.old.kind view.now)) result (ids_from self.new.place (leaf_set self.new.kind view.now)) }
+        ensures gives { NextGives (ids_from self.old.place (leaf_set self.old.kind view.now)) result
+            (ids_from self.new.place (leaf_set self.new.kind view.now)) }
         ensures kind { self.new.kind ≡ self.old.kind }
         ensures low { IsLow result }
         ensures known { (before budget now : ℕ) → Reaches before budget result now }
@@ -146,12 +159,15 @@ impl<'a> Iter<View<'a>> for Leaf {
 
     /// Gives the next member. It always knows.
     fn next<L>(&mut self, world: &View<'a>, budget: u64, steps: &mut Steps<L>) -> Turn
-        ensures gives { NextGives (ids_from self.old.place (leaf_set self.old.kind world.now)) result (ids_from self.new.place (leaf_set self.new.kind world.now)) }
+        ensures gives { NextGives (ids_from self.old.place (leaf_set self.old.kind world.now))
+            result (ids_from self.new.place (leaf_set self.new.kind world.now)) }
         ensures known { IsKnown result }
         ensures low { IsLow result }
         ensures same { leaf_walk self.new.kind ≡ leaf_walk self.old.kind }
-        ensures at { IsAt (leaf_walk self.old.kind) world.now (at_place self.old.place) (ids_from self.old.place (leaf_set self.old.kind world.now))
-            → IsAt (leaf_walk self.new.kind) world.now (at_place self.new.place) (ids_from self.new.place (leaf_set self.new.kind world.now)) }
+        ensures at { IsAt (leaf_walk self.old.kind) world.now (at_place self.old.place)
+            (ids_from self.old.place (leaf_set self.old.kind world.now))
+            → IsAt (leaf_walk self.new.kind) world.now (at_place self.new.place)
+            (ids_from self.new.place (leaf_set self.new.kind world.now)) }
         ensures reached { Reaches steps.old budget result steps.new }
         ensures work { steps.new ≤ steps.old + budget + 24 }
         ensures later { steps.old ≤ steps.new }

@@ -38,7 +38,8 @@ fn sorted(alloc: Global, ids: &[Id]) -> Result<Vec<u32>, Memory>
 /// The places of a list that does not fall, each once, as far as a store may have them.
 fn distinct(alloc: Global, places: &[u32]) -> Result<Postings, Memory>
     requires { SortedFrom 0 places.now }
-    ensures { IfOk result (λ list. (id : ℕ) → id < 2_097_151 → has_id list.ids id ≡ has_id places.now id) }
+    ensures { IfOk result (λ list. (id : ℕ) → id < 2_097_151
+        → has_id list.ids id ≡ has_id places.now id) }
 {
     let mut list = Postings::new(alloc);
     let mut next = 0;
@@ -57,9 +58,11 @@ fn distinct(alloc: Global, places: &[u32]) -> Result<Postings, Memory>
 }
 
 impl Listed {
-    /// The places of a list, in any order. Those that no store has are left out. `Memory`: there is no room for them.
+    /// The places of a list, in any order. Those that no store has are left out. `Memory`: there is
+    /// no room for them.
     pub(crate) fn new(alloc: Global, ids: &[Id]) -> Result<Listed, Memory>
-        ensures { IfOk result (λ list. (id : ℕ) → id < 2_097_151 → has_id list.ids.ids id ≡ has_id ids.now id) }
+        ensures { IfOk result (λ list. (id : ℕ) → id < 2_097_151
+            → has_id list.ids.ids id ≡ has_id ids.now id) }
     {
         let places = sorted(alloc, ids)?;
         let list = distinct(alloc, places.as_slice())?;
@@ -69,7 +72,8 @@ impl Listed {
 
     /// The first place below the view's end that is `from` or greater.
     pub(crate) fn first<L>(&self, view: &View<'_>, from: Id, steps: &mut Steps<L>) -> Option<Id>
-        ensures first { result ≡ first_from from (ids_below (length (prims_of view.now)) self.now.ids.ids) }
+        ensures first { result ≡ first_from from
+            (ids_below (length (prims_of view.now)) self.now.ids.ids) }
         ensures below { IfSome result (λ id. id < length (prims_of view.now)) }
         ensures work { steps.new ≤ steps.old + 22 }
         ensures later { steps.old ≤ steps.new }

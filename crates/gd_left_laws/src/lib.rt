@@ -1,15 +1,19 @@
-//! What is left of a reading. Each law is the contract of a function that does nothing: whoever calls it may use the law, and
-//! code above cites its statement from `specs/Laws.antt`.
+//! What is left of a reading. Each law is the contract of a function that does nothing: whoever
+//! calls it may use the law, and code above cites its statement from `specs/Laws.antt`.
 #![tactic(auto)]
 
-ghost use Rattle.gd_left_laws.specs.Laws.{IdsLower, LinkOrdersPay, OrdersPay, PagesAreBuilt, PagesAreLight, RowOrdersPay, RunsLower, ScansGivePages, StartsArePaid};
+ghost use Rattle.gd_left_laws.specs.Laws.{IdsLower, LinkOrdersPay, OrdersPay, PagesAreBuilt};
+ghost use Rattle.gd_left_laws.specs.Laws.{PagesAreLight, RowOrdersPay, RunsLower, ScansGivePages};
+ghost use Rattle.gd_left_laws.specs.Laws.{StartsArePaid};
 
-/// Where a scan has ended, the window keeps the page of the query, and no candidate weighs too much.
+/// Where a scan has ended, the window keeps the page of the query, and no candidate weighs too
+/// much.
 pub fn scans_give_pages()
     ensures { ScansGivePages }
 {}
 
-/// Where the rows of the page do not weigh too much together, the page is not too wide, and its trees are those of its rows.
+/// Where the rows of the page do not weigh too much together, the page is not too wide, and its
+/// trees are those of its rows.
 pub fn pages_are_light()
     ensures { PagesAreLight }
 {}

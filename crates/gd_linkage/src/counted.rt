@@ -12,7 +12,8 @@ use gd_postings::postings::Postings;
 use std::alloc::Global;
 use std::marker::Model;
 
-/// A list for each node, and a number that no list is longer than. Contracts see the lists, in the order of the nodes.
+/// A list for each node, and a number that no list is longer than. Contracts see the lists, in the
+/// order of the nodes.
 #[derive(Drop)]
 pub struct CountedLists {
     lists: NodeLists,
@@ -80,20 +81,25 @@ impl CountedLists {
         requires room { 0 < (id_list self.old node).spare }
         requires small { id < 2_097_151 }
         requires above { IsAbove (id_list self.old node).ids id }
-        ensures ids { (n : ℕ) → (id_list self.new n).ids ≡ with_entry (is_of (Some node) n) id (id_list self.old n).ids }
-        ensures spare { (n : ℕ) → (id_list self.new n).spare ≡ spare_less (is_of (Some node) n) (id_list self.old n).spare }
+        ensures ids { (n : ℕ) → (id_list self.new n).ids ≡ with_entry (is_of (Some node) n) id
+            (id_list self.old n).ids }
+        ensures spare { (n : ℕ) → (id_list self.new n).spare ≡ spare_less (is_of (Some node) n)
+            (id_list self.old n).spare }
     {
         self.lists.push(node, id);
         self.most = self.most.max(len_of(&self.lists, node));
     }
 
-    /// Adds an identity at the end of the list of a node, if there is a node, where room was made. It takes no memory.
+    /// Adds an identity at the end of the list of a node, if there is a node, where room was made.
+    /// It takes no memory.
     pub fn enter(&mut self, node: Option<Id>, id: Id)
         requires room { ForSome node (λ n. 0 < (id_list self.old n).spare) }
         requires small { id < 2_097_151 }
         requires above { ForSome node (λ n. IsAbove (id_list self.old n).ids id) }
-        ensures ids { (n : ℕ) → (id_list self.new n).ids ≡ with_entry (is_of node n) id (id_list self.old n).ids }
-        ensures spare { (n : ℕ) → (id_list self.new n).spare ≡ spare_less (is_of node n) (id_list self.old n).spare }
+        ensures ids { (n : ℕ) → (id_list self.new n).ids ≡ with_entry (is_of node n) id
+            (id_list self.old n).ids }
+        ensures spare { (n : ℕ) → (id_list self.new n).spare ≡ spare_less (is_of node n)
+            (id_list self.old n).spare }
     {
         if let Some(node) = node {
             self.push(node, id);
@@ -103,7 +109,8 @@ impl CountedLists {
     /// Takes the last identity of the list of a node away, where it is there.
     pub fn take_back(&mut self, node: Option<Id>)
         requires { ForSome node (λ n. 0 < length (id_list self.old n).ids) }
-        ensures { (n : ℕ) → (id_list self.new n).ids ≡ without_entry (is_of node n) (id_list self.old n).ids }
+        ensures { (n : ℕ) → (id_list self.new n).ids ≡ without_entry (is_of node n)
+            (id_list self.old n).ids }
     {
         self.lists.take_back(node);
     }

@@ -1,11 +1,13 @@
 //! Which places name a node, by the end at which they name it.
-ghost use Rattle.std.specs.Prelude.{◌≡◌, ℕ, ◌+◌, ◌-◌, ◌<◌, ◌≤◌, ◌^◌, [], Some, length, min, slice_get, OnOk};
+ghost use Rattle.std.specs.Prelude.{◌≡◌, ℕ, ◌+◌, ◌-◌, ◌<◌, ◌≤◌, ◌^◌, [], Some, length, min};
+ghost use Rattle.std.specs.Prelude.{slice_get, OnOk};
 ghost use Rattle.gd_prim.specs.End.{end_of};
 ghost use Rattle.gd_prim.specs.declared.End as prims;
 ghost use Rattle.gd_postings.specs.Postings.{ids_below};
 ghost use Rattle.gd_lists.specs.Lists.{id_list};
 ghost use Rattle.gd_lists.specs.Entries.{is_of, with_entry, without_entry, spare_less};
-ghost use Rattle.gd_linkage.specs.Linkage.{list_of, HasRoom, HasNoLess, SamePlaces, IsBehind, HasEntries};
+ghost use Rattle.gd_linkage.specs.Linkage.{list_of, HasRoom, HasNoLess, SamePlaces, IsBehind};
+ghost use Rattle.gd_linkage.specs.Linkage.{HasEntries};
 
 use crate::counted::CountedLists;
 use gd_base::id::Id;
@@ -16,8 +18,8 @@ use gd_prim::{End, Primitive};
 use std::alloc::Global;
 use std::marker::Model;
 
-/// The places of primitives by the nodes that they name: for each end a rising list for each node. Contracts see the
-/// lists through `list_of`. A list that was never made is as an empty one.
+/// The places of primitives by the nodes that they name: for each end a rising list for each node.
+/// Contracts see the lists through `list_of`. A list that was never made is as an empty one.
 #[derive(Drop)]
 pub struct Linkage {
     left: CountedLists,
@@ -33,7 +35,12 @@ impl Model for Linkage {
 
     ghost Value = { LinkageValue };
 
-    ghost view = { λ linkage. record { left = linkage.left; right = linkage.right; typ = linkage.typ; scope = linkage.scope } };
+    ghost view = { λ linkage. record {
+      left = linkage.left;
+      right = linkage.right;
+      typ = linkage.typ;
+      scope = linkage.scope;
+    } };
 
     ghost invariant = { λ linkage. linkage.empty.ids ≡ [] };
 }
@@ -74,15 +81,16 @@ impl Linkage {
         }
     }
 
-    /// A number that no list of this end is longer than. It does not fall where places are taken away.
+    /// A number that no list of this end is longer than. It does not fall where places are taken
+    /// away.
     pub fn most(&self, end: End) -> u32
         ensures { (node : ℕ) → length (list_of end node self.now).ids ≤ result }
     {
         self.lists(end).most()
     }
 
-    /// Makes room for a place more in the list of each node that the primitive names. It lowers the room of no list.
-    /// `Memory` leaves the places of every list as they were.
+    /// Makes room for a place more in the list of each node that the primitive names. It lowers the
+    /// room of no list. `Memory` leaves the places of every list as they were.
     pub fn reserve(&mut self, prim: &Primitive) -> Result<(), Memory>
         ensures room { OnOk result (HasRoom prim.now self.new) }
         ensures kept { HasNoLess self.old self.new }
@@ -95,14 +103,16 @@ impl Linkage {
         Ok(())
     }
 
-    /// Enters the place of a primitive at the end of the list of each node that it names, where room was made. Every
-    /// other list stays. It takes no memory.
+    /// Enters the place of a primitive at the end of the list of each node that it names, where
+    /// room was made. Every other list stays. It takes no memory.
     pub fn add(&mut self, prim: &Primitive, id: Id)
         requires room { HasRoom prim.now self.old }
         requires small { id < 2_097_151 }
         requires above { IsBehind prim.now id self.old }
-        ensures ids { (end : prims.End) (node : ℕ) → (list_of end node self.new).ids ≡ with_entry (is_of (end_of end prim.now) node) id (list_of end node self.old).ids }
-        ensures spare { (end : prims.End) (node : ℕ) → (list_of end node self.new).spare ≡ spare_less (is_of (end_of end prim.now) node) (list_of end node self.old).spare }
+        ensures ids { (end : prims.End) (node : ℕ) → (list_of end node self.new).ids
+            ≡ with_entry (is_of (end_of end prim.now) node) id (list_of end node self.old).ids }
+        ensures spare { (end : prims.End) (node : ℕ) → (list_of end node self.new).spare
+            ≡ spare_less (is_of (end_of end prim.now) node) (list_of end node self.old).spare }
     {
         self.left.enter(prim.left, id);
         self.right.enter(prim.right, id);
@@ -110,11 +120,12 @@ impl Linkage {
         self.scope.enter(prim.scope, id);
     }
 
-    /// Takes the last place of the list of each node that the primitive names away again. Every other list stays. It
-    /// takes no memory.
+    /// Takes the last place of the list of each node that the primitive names away again. Every
+    /// other list stays. It takes no memory.
     pub fn retract(&mut self, prim: &Primitive)
         requires { HasEntries prim.now self.old }
-        ensures { (end : prims.End) (node : ℕ) → (list_of end node self.new).ids ≡ without_entry (is_of (end_of end prim.now) node) (list_of end node self.old).ids }
+        ensures { (end : prims.End) (node : ℕ) → (list_of end node self.new).ids
+            ≡ without_entry (is_of (end_of end prim.now) node) (list_of end node self.old).ids }
     {
         self.left.take_back(prim.left);
         self.right.take_back(prim.right);

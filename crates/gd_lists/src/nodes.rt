@@ -1,5 +1,6 @@
 //! Lists under nodes.
-ghost use Rattle.std.specs.Prelude.{◌≡◌, ℕ, ◌+◌, ◌<◌, ◌≤◌, ◌==◌, [], ◌∷◌, ◌++◌, unwrap_or, length, OnOk, OnErr, IfOk};
+ghost use Rattle.std.specs.Prelude.{◌≡◌, ℕ, ◌+◌, ◌<◌, ◌≤◌, ◌==◌, [], ◌∷◌, ◌++◌, unwrap_or, length};
+ghost use Rattle.std.specs.Prelude.{OnOk, OnErr, IfOk};
 ghost use Rattle.std.specs.Option.{ForSome, option_copied};
 ghost use Rattle.gd_postings.specs.Postings.{IsAbove};
 ghost use Rattle.gd_lists.specs.Lists.{id_list, nothing};
@@ -12,8 +13,9 @@ use gd_postings::postings::Postings;
 use std::alloc::Global;
 use std::marker::Model;
 
-/// A list for each node up to one: a table by node of the numbers of the lists, and the lists, so that a look-up is two
-/// steps, and a node without a list takes four bytes. Contracts see the lists, in the order of the nodes.
+/// A list for each node up to one: a table by node of the numbers of the lists, and the lists, so
+/// that a look-up is two steps, and a node without a list takes four bytes. Contracts see the
+/// lists, in the order of the nodes.
 #[derive(Drop)]
 pub struct NodeLists {
     numbers: Vec<u32>,
@@ -66,8 +68,10 @@ fn give_list(
     requires table { IsTable numbers.old.items (length lists.old.items) }
     ensures given { OnOk result (0 < number_at numbers.new.items node) }
     ensures table { IsTable numbers.new.items (length lists.new.items) }
-    ensures same { (n : ℕ) → (id_list (by_node lists.new.items numbers.new.items) n).ids ≡ (id_list (by_node lists.old.items numbers.old.items) n).ids }
-    ensures kept { (n : ℕ) → (id_list (by_node lists.old.items numbers.old.items) n).spare ≤ (id_list (by_node lists.new.items numbers.new.items) n).spare }
+    ensures same { (n : ℕ) → (id_list (by_node lists.new.items numbers.new.items) n).ids
+        ≡ (id_list (by_node lists.old.items numbers.old.items) n).ids }
+    ensures kept { (n : ℕ) → (id_list (by_node lists.old.items numbers.old.items) n).spare
+        ≤ (id_list (by_node lists.new.items numbers.new.items) n).spare }
 {
     if numbers[node] > 0 {
         return Ok(());
@@ -126,8 +130,10 @@ impl NodeLists {
         requires room { 0 < (id_list self.old node).spare }
         requires small { id < 2_097_151 }
         requires above { IsAbove (id_list self.old node).ids id }
-        ensures ids { (n : ℕ) → (id_list self.new n).ids ≡ with_entry (node == n) id (id_list self.old n).ids }
-        ensures spare { (n : ℕ) → (id_list self.new n).spare ≡ spare_less (node == n) (id_list self.old n).spare }
+        ensures ids { (n : ℕ) → (id_list self.new n).ids ≡ with_entry (node == n) id
+            (id_list self.old n).ids }
+        ensures spare { (n : ℕ) → (id_list self.new n).spare
+            ≡ spare_less (node == n) (id_list self.old n).spare }
     {
         let index = index_of(self.numbers.as_slice(), node.place() as usize);
         self.lists[index].push(id);
@@ -136,7 +142,8 @@ impl NodeLists {
     /// Takes the last identity of the list of a node away. It takes no memory.
     pub fn pop(&mut self, node: Id)
         requires { 0 < length (id_list self.old node).ids }
-        ensures { (n : ℕ) → (id_list self.new n).ids ≡ without_entry (node == n) (id_list self.old n).ids }
+        ensures { (n : ℕ) → (id_list self.new n).ids ≡ without_entry (node == n)
+            (id_list self.old n).ids }
     {
         let index = index_of(self.numbers.as_slice(), node.place() as usize);
         let _last = self.lists[index].pop_last();
@@ -159,8 +166,10 @@ impl NodeLists {
         requires room { ForSome node (λ n. 0 < (id_list self.old n).spare) }
         requires small { id < 2_097_151 }
         requires above { ForSome node (λ n. IsAbove (id_list self.old n).ids id) }
-        ensures ids { (n : ℕ) → (id_list self.new n).ids ≡ with_entry (is_of node n) id (id_list self.old n).ids }
-        ensures spare { (n : ℕ) → (id_list self.new n).spare ≡ spare_less (is_of node n) (id_list self.old n).spare }
+        ensures ids { (n : ℕ) → (id_list self.new n).ids ≡ with_entry (is_of node n) id
+            (id_list self.old n).ids }
+        ensures spare { (n : ℕ) → (id_list self.new n).spare ≡ spare_less (is_of node n)
+            (id_list self.old n).spare }
     {
         if let Some(node) = node {
             self.push(node, id);
@@ -170,7 +179,8 @@ impl NodeLists {
     /// Takes the last identity of the list of a node away, where it is there.
     pub fn take_back(&mut self, node: Option<Id>)
         requires { ForSome node (λ n. 0 < length (id_list self.old n).ids) }
-        ensures { (n : ℕ) → (id_list self.new n).ids ≡ without_entry (is_of node n) (id_list self.old n).ids }
+        ensures { (n : ℕ) → (id_list self.new n).ids ≡ without_entry (is_of node n)
+            (id_list self.old n).ids }
     {
         if let Some(node) = node {
             self.pop(node);

@@ -1,5 +1,6 @@
 //! Lists under a namespace and a key.
-ghost use Rattle.std.specs.Prelude.{◌≡◌, ℕ, ◌<◌, ◌==◌, ◌&&◌, List, [], ◌∷◌, ◌++◌, unwrap_or, Some, length, OnOk};
+ghost use Rattle.std.specs.Prelude.{◌≡◌, ℕ, ◌<◌, ◌==◌, ◌&&◌, List, [], ◌∷◌, ◌++◌, unwrap_or, Some};
+ghost use Rattle.std.specs.Prelude.{length, OnOk};
 ghost use Rattle.std.specs.Option.{ForSome, option_copied};
 ghost use Rattle.std.specs.Str.{bytes_eq};
 ghost use Rattle.gd_postings.specs.Postings.{IsAbove};
@@ -55,7 +56,8 @@ impl PairLists {
     /// Makes room for one identity more in the list of a namespace and a key.
     pub fn reserve(&mut self, namespace: Id, key: &Text) -> Result<(), Memory>
         ensures room { OnOk result (0 < (pair_list self.new namespace key.now).spare) }
-        ensures same { (n : ℕ) (k : List ℕ) → (pair_list self.new n k).ids ≡ (pair_list self.old n k).ids }
+        ensures same { (n : ℕ) (k : List ℕ) → (pair_list self.new n k).ids
+            ≡ (pair_list self.old n k).ids }
     {
         match self.texts.get_mut(&namespace) {
             Some(texts) => texts.reserve(key),
@@ -68,12 +70,14 @@ impl PairLists {
         }
     }
 
-    /// Adds an identity at the end of the list of a namespace and a key, where room was made. It takes no memory.
+    /// Adds an identity at the end of the list of a namespace and a key, where room was made. It
+    /// takes no memory.
     pub fn push(&mut self, namespace: Id, key: &Text, id: Id)
         requires room { 0 < (pair_list self.old namespace key.now).spare }
         requires small { id < 2_097_151 }
         requires above { IsAbove (pair_list self.old namespace key.now).ids id }
-        ensures { (n : ℕ) (k : List ℕ) → (pair_list self.new n k).ids ≡ with_entry (namespace == n && bytes_eq k key.now) id (pair_list self.old n k).ids }
+        ensures { (n : ℕ) (k : List ℕ) → (pair_list self.new n k).ids
+            ≡ with_entry (namespace == n && bytes_eq k key.now) id (pair_list self.old n k).ids }
     {
         match self.texts.get_mut(&namespace) {
             Some(texts) => texts.push(key, id),
@@ -84,7 +88,8 @@ impl PairLists {
     /// Takes the last identity of the list of a namespace and a key away. It takes no memory.
     pub fn pop(&mut self, namespace: Id, key: &Text)
         requires { 0 < length (pair_list self.old namespace key.now).ids }
-        ensures { (n : ℕ) (k : List ℕ) → (pair_list self.new n k).ids ≡ without_entry (namespace == n && bytes_eq k key.now) (pair_list self.old n k).ids }
+        ensures { (n : ℕ) (k : List ℕ) → (pair_list self.new n k).ids
+            ≡ without_entry (namespace == n && bytes_eq k key.now) (pair_list self.old n k).ids }
     {
         match self.texts.get_mut(&namespace) {
             Some(texts) => texts.pop(key),
@@ -94,8 +99,10 @@ impl PairLists {
 
     /// Makes room in the list of a namespace and a key, where there is a namespace.
     pub fn make_room(&mut self, namespace: Option<Id>, key: &Text) -> Result<(), Memory>
-        ensures room { OnOk result (ForSome namespace (λ n. 0 < (pair_list self.new n key.now).spare)) }
-        ensures same { (n : ℕ) (k : List ℕ) → (pair_list self.new n k).ids ≡ (pair_list self.old n k).ids }
+        ensures room { OnOk result (ForSome namespace
+            (λ n. 0 < (pair_list self.new n key.now).spare)) }
+        ensures same { (n : ℕ) (k : List ℕ) → (pair_list self.new n k).ids
+            ≡ (pair_list self.old n k).ids }
     {
         match namespace {
             Some(namespace) => self.reserve(namespace, key),
@@ -103,22 +110,26 @@ impl PairLists {
         }
     }
 
-    /// Adds an identity at the end of the list of a namespace and a key, where there is a namespace.
+    /// Adds an identity at the end of the list of a namespace and a key, where there is a
+    /// namespace.
     pub fn enter(&mut self, namespace: Option<Id>, key: &Text, id: Id)
         requires room { ForSome namespace (λ n. 0 < (pair_list self.old n key.now).spare) }
         requires small { id < 2_097_151 }
         requires above { ForSome namespace (λ n. IsAbove (pair_list self.old n key.now).ids id) }
-        ensures { (n : ℕ) (k : List ℕ) → (pair_list self.new n k).ids ≡ with_entry (is_under namespace (Some key.now) n k) id (pair_list self.old n k).ids }
+        ensures { (n : ℕ) (k : List ℕ) → (pair_list self.new n k).ids
+            ≡ with_entry (is_under namespace (Some key.now) n k) id (pair_list self.old n k).ids }
     {
         if let Some(namespace) = namespace {
             self.push(namespace, key, id);
         }
     }
 
-    /// Takes the last identity of the list of a namespace and a key away, where there is a namespace.
+    /// Takes the last identity of the list of a namespace and a key away, where there is a
+    /// namespace.
     pub fn take_back(&mut self, namespace: Option<Id>, key: &Text)
         requires { ForSome namespace (λ n. 0 < length (pair_list self.old n key.now).ids) }
-        ensures { (n : ℕ) (k : List ℕ) → (pair_list self.new n k).ids ≡ without_entry (is_under namespace (Some key.now) n k) (pair_list self.old n k).ids }
+        ensures { (n : ℕ) (k : List ℕ) → (pair_list self.new n k).ids
+            ≡ without_entry (is_under namespace (Some key.now) n k) (pair_list self.old n k).ids }
     {
         if let Some(namespace) = namespace {
             self.pop(namespace, key);

@@ -64,12 +64,14 @@ impl TextLists {
         }
     }
 
-    /// Adds an identity at the end of the list under a text, where room was made. It takes no memory.
+    /// Adds an identity at the end of the list under a text, where room was made. It takes no
+    /// memory.
     pub fn push(&mut self, text: &Text, id: Id)
         requires room { 0 < (text_list self.old text.now).spare }
         requires small { id < 2_097_151 }
         requires above { IsAbove (text_list self.old text.now).ids id }
-        ensures { (t : List ℕ) → (text_list self.new t).ids ≡ with_entry (bytes_eq t text.now) id (text_list self.old t).ids }
+        ensures { (t : List ℕ) → (text_list self.new t).ids ≡ with_entry (bytes_eq t text.now) id
+            (text_list self.old t).ids }
     {
         match self.lists.get_mut(text) {
             Some(list) => list.push(id),
@@ -80,7 +82,8 @@ impl TextLists {
     /// Takes the last identity of the list under a text away. It takes no memory.
     pub fn pop(&mut self, text: &Text)
         requires { 0 < length (text_list self.old text.now).ids }
-        ensures { (t : List ℕ) → (text_list self.new t).ids ≡ without_entry (bytes_eq t text.now) (text_list self.old t).ids }
+        ensures { (t : List ℕ) → (text_list self.new t).ids ≡ without_entry (bytes_eq t text.now)
+            (text_list self.old t).ids }
     {
         match self.lists.get_mut(text) {
             Some(list) => {

@@ -32,7 +32,8 @@ fn load<D: Disk>(alloc: Global, opening: &mut Opening<D>) -> Result<Store, Journ
     ensures refused { IfErr result (λ fault. ForSome (D.content opening.old.disk) (λ file.
         Refuses fault (meaning file))) }
     ensures not_store { IfErr result (λ fault. fault ≢ JournalFault.NotStore) }
-    ensures untouched { IsUntouched D.content D.moment D.images D.images_since opening.old.disk opening.new.disk }
+    ensures untouched { IsUntouched D.content D.moment D.images D.images_since opening.old.disk
+        opening.new.disk }
     ensures later { D.faults opening.old.disk ≤ D.faults opening.new.disk }
     ensures cause { IfErr result (λ fault. fault ≡ JournalFault.DiskFault
         → Rose (D.faults opening.old.disk) (D.faults opening.new.disk)) }

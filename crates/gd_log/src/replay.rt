@@ -138,7 +138,8 @@ fn absorb_records<D: Disk>(
     ensures undamaged { IfOk result (λ first. first ≡ None → opening.new.damaged ≡ None) }
     ensures version { opening.new.version ≡ opening.old.version }
     ensures early { IfOk result (λ first. first ≡ None → AllByRecursion IsEarly store.new) }
-    ensures untouched { IsUntouched D.content D.moment D.images D.images_since opening.old.disk opening.new.disk }
+    ensures untouched { IsUntouched D.content D.moment D.images D.images_since opening.old.disk
+        opening.new.disk }
     ensures later { D.faults opening.old.disk ≤ D.faults opening.new.disk }
     ensures cause { IfErr result (HasReason (D.faults opening.old.disk)
         (D.faults opening.new.disk)) }
@@ -176,7 +177,8 @@ pub(crate) fn replay<D: Disk>(
     ensures refused { IfErr result (λ fault. ForSome (D.content opening.old.disk) (λ file.
         Refuses fault (meaning file))) }
     ensures not_store { IfErr result (λ fault. fault ≢ JournalFault.NotStore) }
-    ensures untouched { IsUntouched D.content D.moment D.images D.images_since opening.old.disk opening.new.disk }
+    ensures untouched { IsUntouched D.content D.moment D.images D.images_since opening.old.disk
+        opening.new.disk }
     ensures later { D.faults opening.old.disk ≤ D.faults opening.new.disk }
     ensures cause { IfErr result (λ fault. fault ≡ JournalFault.DiskFault
         → Rose (D.faults opening.old.disk) (D.faults opening.new.disk)) }

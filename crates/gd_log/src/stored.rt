@@ -1,5 +1,8 @@
 //! A log, and the store of its batches.
-ghost use Rattle.std.specs.Prelude.{◌≡◌, ◌+◌, ◌-◌, ◌≤◌, ◌++◌, ◌↔◌, ◌⊎◌, List, ℕ, None, true, length, take, IsSome, IsErr, IsErrOf, OnOk, OnErr, IfOk, IfErr, MatchResult, MatchOption, Some, slice_get, false, if◌then◌else◌};
+ghost use Rattle.std.specs.Prelude.{◌≡◌, ◌+◌, ◌-◌, ◌≤◌, ◌++◌, ◌↔◌, ◌⊎◌, List, ℕ, None, true};
+ghost use Rattle.std.specs.Prelude.{length, take, IsSome, IsErr, IsErrOf, OnOk, OnErr, IfOk, IfErr};
+ghost use Rattle.std.specs.Prelude.{MatchResult, MatchOption, Some, slice_get, false};
+ghost use Rattle.std.specs.Prelude.{if◌then◌else◌};
 ghost use Rattle.std.specs.Option.{is_some};
 ghost use Rattle.gd_prim.specs.declared.Batch.{Batch};
 ghost use Rattle.gd_prim.specs.History.{prims_of};
@@ -29,7 +32,8 @@ fn withdraw(store: &mut Store, count: usize)
     }
 }
 
-/// Stores batches that may follow those of the store. `Memory`: an allocation was refused, and the store is as it was.
+/// Stores batches that may follow those of the store. `Memory`: an allocation was refused, and the
+/// store is as it was.
 fn absorb_group(store: &mut Store, batches: &[Batch]) -> Result<(), Memory>
     requires { all_follow (prims_of store.old) (length store.old) batches.now ≡ true }
     ensures taken { OnOk result (store.new ≡ store.old ++ batches.now) }
@@ -48,12 +52,13 @@ fn absorb_group(store: &mut Store, batches: &[Batch]) -> Result<(), Memory>
     Ok(())
 }
 
-/// Stores batches one by one, up to the first that may not follow, and says how many these are, and whether memory was
-/// wanting for the next one.
+/// Stores batches one by one, up to the first that may not follow, and says how many these are, and
+/// whether memory was wanting for the next one.
 fn absorb_front(store: &mut Store, batches: &[Batch]) -> (usize, bool)
     ensures taken { store.new ≡ store.old ++ take result.0 batches.now }
     ensures few { result.0 ≤ length batches.now }
-    ensures follow { all_follow (prims_of store.old) (length store.old) (take result.0 batches.now) ≡ true }
+    ensures follow { all_follow (prims_of store.old) (length store.old) (take result.0 batches.now)
+        ≡ true }
     ensures next { result.1 ≡ false → (b : Batch) → slice_get batches.now result.0 ≡ Some b
         → may_follow (prims_of store.new) (length store.new) b ≡ false }
 {
@@ -68,9 +73,9 @@ fn absorb_front(store: &mut Store, batches: &[Batch]) -> (usize, bool)
     (taken, false)
 }
 
-/// A log, and the store of its batches: what is appended to the log is in the store, and only that. Contracts see the
-/// log as its journal, and the batches of the store. A group in doubt is not among them; who appended it keeps it for
-/// `settle`.
+/// A log, and the store of its batches: what is appended to the log is in the store, and only that.
+/// Contracts see the log as its journal, and the batches of the store. A group in doubt is not
+/// among them; who appended it keeps it for `settle`.
 #[derive(Drop)]
 pub struct StoredLog<D: Disk> {
     log: Log<D>,
@@ -100,7 +105,8 @@ impl<D: Disk> StoredLog<D> {
         &self.store
     }
 
-    /// Whether a group is in doubt: a call of `append` answered `DiskFault`, and `settle` has not ended it since.
+    /// Whether a group is in doubt: a call of `append` answered `DiskFault`, and `settle` has not
+    /// ended it since.
     pub fn in_doubt(&self) -> bool
         ensures { result ≡ is_some self.now.log.doubt }
     {
@@ -116,8 +122,8 @@ impl<D: Disk> StoredLog<D> {
         log.into_disk()
     }
 
-    /// The first of these batches that may not follow those of the store and those before it. It changes nothing.
-    /// `Memory`: an allocation was refused.
+    /// The first of these batches that may not follow those of the store and those before it. It
+    /// changes nothing. `Memory`: an allocation was refused.
     pub fn first_unfit(&mut self, batches: &[Batch]) -> Result<Option<usize>, Memory>
         ensures same { self.new ≡ self.old }
         ensures first { IfOk result (λ first. MatchOption first
@@ -135,27 +141,35 @@ impl<D: Disk> StoredLog<D> {
         Ok(None)
     }
 
-    /// Adds a group of 1 to 256 batches, each of which may follow those of the store and those before it, to the store
-    /// and to the log. An error leaves the store as it was. `Memory`: an allocation was refused, or there is no room on
-    /// the disk; nothing was changed. `DiskFault`: the disk failed, and the group is in doubt until `settle` tells.
+    /// Adds a group of 1 to 256 batches, each of which may follow those of the store and those
+    /// before it, to the store and to the log. An error leaves the store as it was. `Memory`: an
+    /// allocation was refused, or there is no room on the disk; nothing was changed. `DiskFault`:
+    /// the disk failed, and the group is in doubt until `settle` tells.
     ///
-    /// At every moment of the call a stop leaves what stands for the batches of before, or for those of after, followed
-    /// by all or none of a group in doubt.
+    /// At every moment of the call a stop leaves what stands for the batches of before, or for
+    /// those of after, followed by all or none of a group in doubt.
     pub fn append(&mut self, alloc: Global, batches: &[Batch]) -> Result<(), JournalFault>
         requires may { MayAppend self.old.batches batches.now }
         requires no_doubt { self.old.log.doubt ≡ None }
-        ensures batches { MatchResult result (λ _. self.new.batches ≡ self.old.batches ++ batches.now)
+        ensures batches { MatchResult result
+            (λ _. self.new.batches ≡ self.old.batches ++ batches.now)
             (λ _. self.new.batches ≡ self.old.batches) }
         ensures doubt { IsSome self.new.log.doubt ↔ IsErrOf result JournalFault.DiskFault }
-        ensures holds { Holds (D.content self.old.log.disk) (D.images self.old.log.disk) self.old.log.gate self.old.log.doubt self.old.batches None
-            → Holds (D.content self.new.log.disk) (D.images self.new.log.disk) self.new.log.gate self.new.log.doubt self.new.batches (doubt_after result batches.now) }
-        ensures moments { Holds (D.content self.old.log.disk) (D.images self.old.log.disk) self.old.log.gate self.old.log.doubt self.old.batches None
+        ensures holds { Holds (D.content self.old.log.disk) (D.images self.old.log.disk)
+            self.old.log.gate self.old.log.doubt self.old.batches None
+            → Holds (D.content self.new.log.disk) (D.images self.new.log.disk) self.new.log.gate
+            self.new.log.doubt self.new.batches (doubt_after result batches.now) }
+        ensures moments { Holds (D.content self.old.log.disk) (D.images self.old.log.disk)
+            self.old.log.gate self.old.log.doubt self.old.batches None
             → LeavesOnly D.moment D.images D.images_since self.old.log.disk self.new.log.disk
             (λ file. StandsFor file self.old.batches
-            ⊎ MayStandFor self.new.batches (groups_in_doubt (doubt_after result batches.now)) file) }
-        ensures told { is_some (D.content self.new.log.disk) ≡ is_some (D.content self.old.log.disk) }
+            ⊎ MayStandFor self.new.batches (groups_in_doubt (doubt_after result batches.now))
+            file) }
+        ensures told { is_some (D.content self.new.log.disk)
+            ≡ is_some (D.content self.old.log.disk) }
         ensures later { D.faults self.old.log.disk ≤ D.faults self.new.log.disk }
-        ensures cause { IfErr result (HasReason (D.faults self.old.log.disk) (D.faults self.new.log.disk)) }
+        ensures cause { IfErr result (HasReason (D.faults self.old.log.disk)
+            (D.faults self.new.log.disk)) }
     {
         absorb_group(&mut self.store, batches)?;
         match self.log.append(alloc, batches) {
@@ -167,30 +181,37 @@ impl<D: Disk> StoredLog<D> {
         }
     }
 
-    /// Ends a doubt, in which this group is: says whether it counts, and then the store has it. An error leaves the
-    /// doubt, and the store as it was. `Memory`: an allocation was refused, or there is no room on the disk.
-    /// `DiskFault`: the disk failed.
+    /// Ends a doubt, in which this group is: says whether it counts, and then the store has it. An
+    /// error leaves the doubt, and the store as it was. `Memory`: an allocation was refused, or
+    /// there is no room on the disk. `DiskFault`: the disk failed.
     ///
-    /// At every moment of the call a stop leaves what stands for the batches of before, followed by all or none of the
-    /// group.
+    /// At every moment of the call a stop leaves what stands for the batches of before, followed by
+    /// all or none of the group.
     pub fn settle(&mut self, batches: &[Batch]) -> Result<bool, JournalFault>
         requires may { MayAppend self.old.batches batches.now }
         requires doubt { IsSome self.old.log.doubt }
         ensures batches { MatchResult result
-            (λ counts. self.new.batches ≡ (if counts then self.old.batches ++ batches.now else self.old.batches))
+            (λ counts. self.new.batches ≡ (if counts then self.old.batches ++ batches.now
+            else self.old.batches))
             (λ _. self.new.batches ≡ self.old.batches) }
         ensures ended { OnOk result (self.new.log.doubt ≡ None) }
         ensures left { IsErr result → self.new.log.doubt ≡ self.old.log.doubt }
-        ensures holds { Holds (D.content self.old.log.disk) (D.images self.old.log.disk) self.old.log.gate self.old.log.doubt self.old.batches (Some batches.now)
+        ensures holds { Holds (D.content self.old.log.disk) (D.images self.old.log.disk)
+            self.old.log.gate self.old.log.doubt self.old.batches (Some batches.now)
             → MatchResult result
-            (λ _. Holds (D.content self.new.log.disk) (D.images self.new.log.disk) self.new.log.gate self.new.log.doubt self.new.batches None)
-            (λ _. Holds (D.content self.new.log.disk) (D.images self.new.log.disk) self.new.log.gate self.new.log.doubt self.new.batches (Some batches.now)) }
-        ensures moments { Holds (D.content self.old.log.disk) (D.images self.old.log.disk) self.old.log.gate self.old.log.doubt self.old.batches (Some batches.now)
+            (λ _. Holds (D.content self.new.log.disk) (D.images self.new.log.disk) self.new.log.gate
+            self.new.log.doubt self.new.batches None)
+            (λ _. Holds (D.content self.new.log.disk) (D.images self.new.log.disk) self.new.log.gate
+            self.new.log.doubt self.new.batches (Some batches.now)) }
+        ensures moments { Holds (D.content self.old.log.disk) (D.images self.old.log.disk)
+            self.old.log.gate self.old.log.doubt self.old.batches (Some batches.now)
             → LeavesOnly D.moment D.images D.images_since self.old.log.disk self.new.log.disk
             (MayStandFor self.old.batches (groups_in_doubt (Some batches.now))) }
-        ensures told { is_some (D.content self.new.log.disk) ≡ is_some (D.content self.old.log.disk) }
+        ensures told { is_some (D.content self.new.log.disk)
+            ≡ is_some (D.content self.old.log.disk) }
         ensures later { D.faults self.old.log.disk ≤ D.faults self.new.log.disk }
-        ensures cause { IfErr result (HasReason (D.faults self.old.log.disk) (D.faults self.new.log.disk)) }
+        ensures cause { IfErr result (HasReason (D.faults self.old.log.disk)
+            (D.faults self.new.log.disk)) }
     {
         absorb_group(&mut self.store, batches)?;
         match self.log.settle() {

@@ -1,8 +1,11 @@
-//! A suspendable matcher: what it owes stays the same from move to move. Each law is the contract of a function that does
-//! nothing: whoever calls it may use the law, and code above cites its statement from `specs/Laws.antt`.
+//! A suspendable matcher: what it owes stays the same from move to move. Each law is the contract
+//! of a function that does nothing: whoever calls it may use the law, and code above cites its
+//! statement from `specs/Laws.antt`.
 #![tactic(auto)]
 
-ghost use Rattle.gd_match_laws.specs.Laws.{BuildingRefuses, CountsPrint, CurrentMoves, HeavyStays, LastMoves, ReadingsPrint, RunsEnd, RunsGive, RunsKeep, ScansRefuse, ScansStay, WalksTell};
+ghost use Rattle.gd_match_laws.specs.Laws.{BuildingRefuses, CountsPrint, CurrentMoves, HeavyStays};
+ghost use Rattle.gd_match_laws.specs.Laws.{LastMoves, ReadingsPrint, RunsEnd, RunsGive, RunsKeep};
+ghost use Rattle.gd_match_laws.specs.Laws.{ScansRefuse, ScansStay, WalksTell};
 
 /// A move of the last of frames is one of all of them.
 pub fn last_moves()
@@ -34,7 +37,8 @@ pub fn heavy_stays()
     ensures { HeavyStays }
 {}
 
-/// Wherever the scan of a reading stands, the reading owes what it did at its start, if it keeps the best rows.
+/// Wherever the scan of a reading stands, the reading owes what it did at its start, if it keeps
+/// the best rows.
 pub fn scans_stay()
     ensures { ScansStay }
 {}
@@ -44,7 +48,8 @@ pub fn scans_refuse()
     ensures { ScansRefuse }
 {}
 
-/// A reading that scans to its end, builds its trees and prints them prints what it owed at its start.
+/// A reading that scans to its end, builds its trees and prints them prints what it owed at its
+/// start.
 pub fn readings_print()
     ensures { ReadingsPrint }
 {}

@@ -1,5 +1,7 @@
-//! The first fault of form of a write: a clause itself, then its members in byte order of their names.
-ghost use Rattle.std.specs.Prelude.{◌≡◌, ◌||◌, ◌&&◌, ◌∷◌, [], Ok, not, is_some, option_map, if◌then◌else◌, Some, None, codes, bytes_eq, false};
+//! The first fault of form of a write: a clause itself, then its members in byte order of their
+//! names.
+ghost use Rattle.std.specs.Prelude.{◌≡◌, ◌||◌, ◌&&◌, ◌∷◌, [], Ok, not, is_some, option_map};
+ghost use Rattle.std.specs.Prelude.{if◌then◌else◌, Some, None, codes, bytes_eq, false};
 ghost use Rattle.std.specs.Option.{option_or};
 ghost use Rattle.std.specs.Result.{result_err};
 ghost use Rattle.gd_tree.specs.Json.{list, object};
@@ -28,8 +30,8 @@ use gd_fault::fault::Code;
 use gd_json::value::{Json, JsonText};
 use std::alloc::Global;
 
-/// Whether the name may be that of a member of a write: it has no operator, and of the words that ask for no property it
-/// is `id` or `guid`.
+/// Whether the name may be that of a member of a write: it has no operator, and of the words that
+/// ask for no property it is `id` or `guid`.
 fn may_be_written(name: &Name<'_>) -> bool
     ensures { result ≡ faults.is_written (name_view name.now) }
 {
@@ -56,9 +58,11 @@ pub fn write_name(root: bool, spelled: &str) -> Result<Name<'_>, Code>
     }
 }
 
-/// Whether the word of a create may stand in the clause: `unless_exists` needs a fact of the clause's own.
+/// Whether the word of a create may stand in the clause: `unless_exists` needs a fact of the
+/// clause's own.
 fn create_fits(setting: Setting, value: &Json) -> bool
-    ensures { result ≡ faults.create_fits (setting_view setting) (defined.create_word (view value.now)) }
+    ensures { result ≡ faults.create_fits (setting_view setting)
+        (defined.create_word (view value.now)) }
 {
     match create_word(value) {
         None => false,
@@ -68,7 +72,8 @@ fn create_fits(setting: Setting, value: &Json) -> bool
 }
 
 fn check_create(alloc: Global, setting: Setting, value: &Json) -> Result<(), FormFault>
-    ensures { Checks (result_err (defined.create_in (setting_view setting) (view value.now))) result }
+    ensures { Checks (result_err (defined.create_in (setting_view setting) (view value.now)))
+        result }
 {
     if create_fits(setting, value) {
         Ok(())
@@ -85,14 +90,16 @@ fn is_guid_word(word: &str) -> bool
 
 /// Whether `id` or `guid` may be null: in a create, and `guid` beside `id` as a text.
 fn may_be_null(setting: Setting, name: &Name<'_>) -> bool
-    ensures { result ≡ (setting.creates || (setting.has_id && is_word (codes "guid") name.now.word.now)) }
+    ensures { result ≡ (setting.creates
+        || (setting.has_id && is_word (codes "guid") name.now.word.now)) }
 {
     setting.creates || setting.has_id && is_guid_word(name.word)
 }
 
 /// Whether the member names the object of its clause.
 fn names_object(setting: Setting, name: &Name<'_>) -> bool
-    ensures { result ≡ bytes_eq name.now.spelled.now (if setting.has_id then codes "id" else codes "guid") }
+    ensures { result ≡ bytes_eq name.now.spelled.now
+        (if setting.has_id then codes "id" else codes "guid") }
 {
     if setting.has_id {
         name.spelled == "id"
@@ -103,8 +110,13 @@ fn names_object(setting: Setting, name: &Name<'_>) -> bool
 
 /// The code of a member `id` or `guid` that has not what is its own.
 fn identity_code(setting: Setting, name: &Name<'_>, value: &Json) -> Option<Code>
-    ensures { option_map (λ code. record { code = code_view code; path = name.now.spelled.now ∷ [] }) result
-        ≡ result_err (defined.identity_item (setting_view setting) (name_view name.now) (view value.now)) }
+    ensures { option_map (λ code. record {
+      code = code_view code;
+      path = name.now.spelled.now
+          ∷ [];
+    }) result
+        ≡ result_err (defined.identity_item (setting_view setting) (name_view name.now)
+        (view value.now)) }
 {
     if value.is_null() {
         return if may_be_null(setting, name) {
@@ -132,7 +144,8 @@ fn check_identity(
     name: &Name<'_>,
     value: &Json,
 ) -> Result<(), FormFault>
-    ensures { Checks (result_err (defined.identity_item (setting_view setting) (name_view name.now) (view value.now))) result }
+    ensures { Checks (result_err (defined.identity_item (setting_view setting) (name_view name.now)
+        (view value.now))) result }
 {
     match identity_code(setting, name, value) {
         None => Ok(()),
@@ -162,7 +175,8 @@ fn check_connect(
     word: &Json,
 ) -> Result<(), FormFault>
     ensures { Checks (if defined.is_connect_form (members_view form.now)
-        then option_or (faults.target_fault name.now.spelled.now (members_view form.now)) (if is_some (defined.connect_word (view word.now)) then None
+        then option_or (faults.target_fault name.now.spelled.now (members_view form.now))
+        (if is_some (defined.connect_word (view word.now)) then None
         else Some (record { code = query.bad_connect; path = name.now.spelled.now ∷ [] }))
         else Some (record { code = query.bad_write; path = name.now.spelled.now ∷ [] })) result }
 {
@@ -184,7 +198,8 @@ fn check_fact(
     name: &Name<'_>,
     form: &[(JsonText, Json)],
 ) -> Result<(), FormFault>
-    ensures { Checks (if setting.creates && defined.is_fact_form (members_view form.now) then faults.target_fault name.now.spelled.now (members_view form.now)
+    ensures { Checks (if setting.creates && defined.is_fact_form (members_view form.now)
+        then faults.target_fault name.now.spelled.now (members_view form.now)
         else Some (record { code = query.bad_write; path = name.now.spelled.now ∷ [] })) result }
 {
     if setting.creates && is_fact_form(form) {
@@ -207,7 +222,8 @@ fn are_forms(items: &[Json]) -> bool
 
 /// The code of a list as such, which has to have forms alone, or in a create literals alone.
 fn list_code(setting: Setting, items: &[Json]) -> Option<Code>
-    ensures { option_map code_view result ≡ faults.list_code (setting_view setting) (items_view items.now) }
+    ensures { option_map code_view result ≡ faults.list_code (setting_view setting)
+        (items_view items.now) }
 {
     if items.is_empty() {
         return Some(Code::BadWrite);
@@ -232,7 +248,8 @@ pub fn check_entries(
     setting: Setting,
     members: &[(JsonText, Json)],
 ) -> Result<(), FormFault>
-    ensures { Checks (faults.entries_fault (setting_view setting) (members_view members.now)) result }
+    ensures { Checks (faults.entries_fault (setting_view setting) (members_view members.now))
+        result }
 {
     for member in members {
         check_entry(alloc, setting, &member.0, &member.1)?;
@@ -266,7 +283,8 @@ fn check_named(
     name: &Name<'_>,
     value: &Json,
 ) -> Result<(), FormFault>
-    ensures { Checks (faults.named_item_fault (setting_view setting) (name_view name.now) (view value.now)) result }
+    ensures { Checks (faults.named_item_fault (setting_view setting) (name_view name.now)
+        (view value.now)) result }
 {
     if is_identity(name.word) {
         check_identity(alloc, setting, name, value)
@@ -283,7 +301,8 @@ fn check_item(
     name: &Name<'_>,
     value: &Json,
 ) -> Result<(), FormFault>
-    ensures { Checks (faults.item_fault (setting_view setting) (name_view name.now) (view value.now)) result }
+    ensures { Checks (faults.item_fault (setting_view setting) (name_view name.now)
+        (view value.now)) result }
 {
     match value {
         Json::Null => Err(fault_at(alloc, Code::BadWrite, name.spelled)),
@@ -300,7 +319,8 @@ fn check_form(
     name: &Name<'_>,
     form: &[(JsonText, Json)],
 ) -> Result<(), FormFault>
-    ensures { Checks (faults.item_fault (setting_view setting) (name_view name.now) (object (members_view form.now))) result }
+    ensures { Checks (faults.item_fault (setting_view setting) (name_view name.now)
+        (object (members_view form.now))) result }
 {
     if let Some(word) = member(form, "connect") {
         return check_connect(alloc, name, form, word);
@@ -318,8 +338,11 @@ fn check_nested(
     form: &[(JsonText, Json)],
     word: &Json,
 ) -> Result<(), FormFault>
-    ensures { Checks (option_map (seen_below name.now.spelled.now) (option_or (faults.entries_fault (defined.setting_of false (members_view form.now)) (members_view form.now))
-        (if is_some (defined.create_word (view word.now)) then None else Some (record { code = query.bad_create; path = codes "create" ∷ [] })))) result }
+    ensures { Checks (option_map (seen_below name.now.spelled.now)
+        (option_or (faults.entries_fault (defined.setting_of false (members_view form.now))
+        (members_view form.now))
+        (if is_some (defined.create_word (view word.now)) then None else Some
+        (record { code = query.bad_create; path = codes "create" ∷ [] })))) result }
 {
     match check_created(alloc, false, form, word) {
         Ok(()) => Ok(()),
@@ -335,8 +358,11 @@ fn check_created(
     members: &[(JsonText, Json)],
     word: &Json,
 ) -> Result<(), FormFault>
-    ensures { Checks (option_or (faults.entries_fault (defined.setting_of root (members_view members.now)) (members_view members.now))
-        (if is_some (defined.create_word (view word.now)) then None else Some (record { code = query.bad_create; path = codes "create" ∷ [] }))) result }
+    ensures { Checks
+        (option_or (faults.entries_fault (defined.setting_of root (members_view members.now))
+        (members_view members.now))
+        (if is_some (defined.create_word (view word.now)) then None else Some
+        (record { code = query.bad_create; path = codes "create" ∷ [] }))) result }
 {
     check_entries(alloc, setting_of(root, members), members)?;
     if create_word(word).is_some() {
@@ -353,7 +379,8 @@ fn check_list(
     name: &Name<'_>,
     items: &[Json],
 ) -> Result<(), FormFault>
-    ensures { Checks (faults.item_fault (setting_view setting) (name_view name.now) (list (items_view items.now))) result }
+    ensures { Checks (faults.item_fault (setting_view setting) (name_view name.now)
+        (list (items_view items.now))) result }
 {
     match list_code(setting, items) {
         Some(code) => Err(fault_at(alloc, code, name.spelled)),
@@ -368,7 +395,8 @@ fn check_items(
     name: &Name<'_>,
     items: &[Json],
 ) -> Result<(), FormFault>
-    ensures { Checks (faults.items_fault (setting_view setting) (name_view name.now) (items_view items.now)) result }
+    ensures { Checks (faults.items_fault (setting_view setting) (name_view name.now)
+        (items_view items.now)) result }
 {
     for item in items {
         check_item(alloc, setting, name, item)?;
@@ -378,7 +406,9 @@ fn check_items(
 
 /// Whether the clause names an object, by the text of `id` or `guid`.
 fn has_object(members: &[(JsonText, Json)]) -> bool
-    ensures { result ≡ is_some (option_or (defined.text_member (codes "id") (members_view members.now)) (defined.text_member (codes "guid") (members_view members.now))) }
+    ensures { result ≡ is_some (option_or
+        (defined.text_member (codes "id") (members_view members.now))
+        (defined.text_member (codes "guid") (members_view members.now))) }
 {
     text_of(members, "id").is_some() || text_of(members, "guid").is_some()
 }

@@ -1,7 +1,10 @@
 //! A query that was read, walked clause by clause: it takes no memory, and nothing in it can fail.
-ghost use Rattle.std.specs.Prelude.{◌≡◌, ◌≢◌, ◌≤◌, ◌<◌, true, false, None, Ok, Option, MatchOption, is_none, is_some, option_map, option_and_then, if◌then◌else◌, codes, bytes_eq, not, ◌&&◌};
+ghost use Rattle.std.specs.Prelude.{◌≡◌, ◌≢◌, ◌≤◌, ◌<◌, true, false, None, Ok, Option, MatchOption};
+ghost use Rattle.std.specs.Prelude.{is_none, is_some, option_map, option_and_then, if◌then◌else◌};
+ghost use Rattle.std.specs.Prelude.{codes, bytes_eq, not, ◌&&◌};
 ghost use Rattle.gd_tree.specs.Look.{get};
-ghost use Rattle.gd_tree.specs.Json.{Members as JsonMembers, member as json_member, list, item, no_items};
+ghost use Rattle.gd_tree.specs.Json.{Members as JsonMembers, member as json_member, list, item};
+ghost use Rattle.gd_tree.specs.Json.{no_items};
 ghost use Rattle.gd_defs.specs.Query as query;
 ghost use Rattle.gd_json.specs.View.{view, items_view, members_view};
 ghost use Rattle.gd_form_laws.specs.Faults.{clause_fault, member_fault, value_fault, form_fault};
@@ -18,8 +21,8 @@ use crate::object::{has, member};
 use crate::query_form::{has_operator, member_name, wants_operand};
 use gd_json::value::{Json, JsonText};
 
-/// A clause of a query, which borrows the members of an object. Contracts see it by `clause_view`: its directives and its
-/// members.
+/// A clause of a query, which borrows the members of an object. Contracts see it by `clause_view`:
+/// its directives and its members.
 #[derive(Clone, Copy)]
 pub struct Clause<'a> {
     root: bool,
@@ -63,13 +66,15 @@ pub enum Part<'a> {
 }
 
 fn spelled_mode(members: &[(JsonText, Json)]) -> Option<Mode>
-    ensures { option_map mode_view result ≡ option_and_then query.mode_of (get (codes "optional") (members_view members.now)) }
+    ensures { option_map mode_view result ≡ option_and_then query.mode_of
+        (get (codes "optional") (members_view members.now)) }
 {
     mode_of(member(members, "optional")?)
 }
 
 fn spelled_limit(members: &[(JsonText, Json)]) -> Option<u32>
-    ensures { result ≡ option_and_then query.limit_of (get (codes "limit") (members_view members.now)) }
+    ensures { result ≡ option_and_then query.limit_of
+        (get (codes "limit") (members_view members.now)) }
 {
     limit_of(member(members, "limit")?)
 }
@@ -139,7 +144,8 @@ impl<'a> Members<'a> {
 
     /// The first part of the members and those behind it; nothing where none is left.
     pub fn split(&self) -> Option<(Part<'a>, Members<'a>)>
-        ensures { MatchOption result (left self.now ≡ query.no_members) (λ p. left self.now ≡ with_part p.0 (left p.1)) }
+        ensures { MatchOption result (left self.now ≡ query.no_members)
+            (λ p. left self.now ≡ with_part p.0 (left p.1)) }
     {
         if self.defaults > 0 {
             self.split_default()
@@ -150,7 +156,8 @@ impl<'a> Members<'a> {
 
     fn split_default(&self) -> Option<(Part<'a>, Members<'a>)>
         requires { self.now.defaults ≤ 3 }
-        ensures { MatchOption result (defaults_left self.now.defaults ≡ query.no_members) (λ p. defaults_left self.now.defaults ≡ with_part p.0 (left p.1)) }
+        ensures { MatchOption result (defaults_left self.now.defaults ≡ query.no_members)
+            (λ p. defaults_left self.now.defaults ≡ with_part p.0 (left p.1)) }
     {
         match self.defaults {
             3 => Some((Part::asks("id"), self.with_defaults(2))),
@@ -189,8 +196,10 @@ impl<'a> Members<'a> {
     }
 
     fn split_spelled(&self) -> Option<(Part<'a>, Members<'a>)>
-        ensures { MatchOption result (spelled_members self.now.root (members_view self.now.members.now) ≡ query.no_members)
-            (λ p. spelled_members self.now.root (members_view self.now.members.now) ≡ with_part p.0 (left p.1)) }
+        ensures { MatchOption result (spelled_members self.now.root
+            (members_view self.now.members.now) ≡ query.no_members)
+            (λ p. spelled_members self.now.root (members_view self.now.members.now)
+            ≡ with_part p.0 (left p.1)) }
     {
         let mut rest = self.members;
         while let Some((first, others)) = rest.split_first() {
@@ -209,7 +218,8 @@ impl<'a> Part<'a> {
     ghost use Rattle.gd_mql.specs.Clauses.{plain_name};
 
     fn asks(word: &'a str) -> Part<'a>
-        ensures { (ms : query.Members) → with_part result ms ≡ query.member (plain_name word.now) query.ask ms }
+        ensures { (ms : query.Members) → with_part result ms ≡ query.member (plain_name word.now)
+            query.ask ms }
     {
         Part::Member(
             Name {
@@ -223,7 +233,8 @@ impl<'a> Part<'a> {
     }
 
     fn asks_all(word: &'a str) -> Part<'a>
-        ensures { (ms : query.Members) → with_part result ms ≡ query.member (plain_name word.now) query.ask_all ms }
+        ensures { (ms : query.Members) → with_part result ms ≡ query.member (plain_name word.now)
+            query.ask_all ms }
     {
         Part::Member(
             Name {
@@ -238,10 +249,12 @@ impl<'a> Part<'a> {
 
     /// The part that a member is, which is `sort` or no directive and has no fault of form.
     fn of(root: bool, name: &'a JsonText, value: &'a Json) -> Part<'a>
-        requires part { (query.is_directive name.now && not (bytes_eq name.now (codes "sort"))) ≡ false }
+        requires part { (query.is_directive name.now && not (bytes_eq name.now (codes "sort")))
+            ≡ false }
         requires right { member_fault root name.now (view value.now) ≡ None }
         ensures { (ms : JsonMembers) → clause_fault root ms ≡ None
-            → spelled_members root (json_member name.now (view value.now) ms) ≡ with_part result (spelled_members root ms) }
+            → spelled_members root (json_member name.now (view value.now) ms)
+            ≡ with_part result (spelled_members root ms) }
     {
         let spelled = name.as_str();
         if spelled == "sort" {
@@ -260,7 +273,8 @@ impl<'a> Form<'a> {
     /// The form or the operand that a value is behind a name, where it has no fault of form.
     fn of(name: &Name<'_>, value: &'a Json) -> Form<'a>
         requires { value_fault (name_view name.now) (view value.now) ≡ None }
-        ensures { query.form_or_operand (name_view name.now) (view value.now) (query.form_of (name_view name.now) (view value.now)) ≡ Ok (form_view result) }
+        ensures { query.form_or_operand (name_view name.now) (view value.now)
+            (query.form_of (name_view name.now) (view value.now)) ≡ Ok (form_view result) }
     {
         if wants_operand(name, value) {
             return Form::operand(has_operator(name), value);
@@ -269,7 +283,8 @@ impl<'a> Form<'a> {
     }
 
     fn operand(has_operator: bool, value: &'a Json) -> Form<'a>
-        ensures { form_view result ≡ (if has_operator then query.operand (view value.now) else query.literal (view value.now)) }
+        ensures { form_view result ≡ (if has_operator then query.operand (view value.now)
+            else query.literal (view value.now)) }
     {
         if has_operator {
             Form::Operand(value)
@@ -300,7 +315,8 @@ impl<'a> Form<'a> {
 
     fn of_list(name: &Name<'_>, items: &'a [Json]) -> Form<'a>
         requires { form_fault (name_view name.now) (list (items_view items.now)) ≡ None }
-        ensures { query.form_of (name_view name.now) (list (items_view items.now)) ≡ Ok (form_view result) }
+        ensures { query.form_of (name_view name.now) (list (items_view items.now))
+            ≡ Ok (form_view result) }
     {
         match items {
             [] => Form::AskAll,
@@ -311,7 +327,8 @@ impl<'a> Form<'a> {
 
     fn of_sole(name: &Name<'_>, sole: &'a Json) -> Form<'a>
         requires { form_fault (name_view name.now) (list (item (view sole.now) no_items)) ≡ None }
-        ensures { query.form_of (name_view name.now) (list (item (view sole.now) no_items)) ≡ Ok (form_view result) }
+        ensures { query.form_of (name_view name.now) (list (item (view sole.now) no_items))
+            ≡ Ok (form_view result) }
     {
         match sole.as_object() {
             Some(members) => Form::Many(Clause {

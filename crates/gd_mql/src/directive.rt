@@ -1,5 +1,6 @@
 //! Directives of a clause: `optional`, `sort`, `limit` and `return`.
-ghost use Rattle.std.specs.Prelude.{◌≡◌, ◌&&◌, option_map, option_and_then, is_some, if◌then◌else◌, Some, None, false};
+ghost use Rattle.std.specs.Prelude.{◌≡◌, ◌&&◌, option_map, option_and_then, is_some, if◌then◌else◌};
+ghost use Rattle.std.specs.Prelude.{Some, None, false};
 ghost use Rattle.std.specs.Int.{is_in_range};
 ghost use Rattle.std.specs.Option.{option_map_or};
 ghost use Rattle.gd_tree.specs.Json.{text};
@@ -34,7 +35,8 @@ pub struct SortWord<'a> {
     pub word: &'a str,
 }
 
-/// The directives of a clause but for `sort`. The mode is absent where `optional` does not stand in it.
+/// The directives of a clause but for `sort`. The mode is absent where `optional` does not stand in
+/// it.
 #[derive(Clone, Copy)]
 pub struct Directives {
     pub mode: Option<Mode>,
@@ -103,7 +105,9 @@ fn may_sort(word: &str) -> bool
 }
 
 fn plain_sort_word(word: &str) -> Option<SortWord<'_>>
-    ensures { option_map sort_word_view result ≡ (if defined.may_sort word.now then Some (record { descending = false; word = word.now }) else None) }
+    ensures { option_map sort_word_view result
+        ≡ (if defined.may_sort word.now then Some (record { descending = false; word = word.now })
+        else None) }
 {
     if may_sort(word) {
         Some(SortWord {
@@ -132,13 +136,15 @@ pub fn sort_word(spelled: &str) -> Option<SortWord<'_>>
 
 /// The sort word that an item of a list spells.
 pub fn item_word(item: &Json) -> Option<SortWord<'_>>
-    ensures { option_map sort_word_view result ≡ option_and_then defined.sort_word (text_of (view item.now)) }
+    ensures { option_map sort_word_view result ≡ option_and_then defined.sort_word
+        (text_of (view item.now)) }
 {
     sort_word(item.as_text()?.as_str())
 }
 
 fn is_sort_word(value: &Json) -> bool
-    ensures { result ≡ option_map_or (λ word. is_some (defined.sort_word word)) (text_of (view value.now)) false }
+    ensures { result ≡ option_map_or (λ word. is_some (defined.sort_word word))
+        (text_of (view value.now)) false }
 {
     match value.as_text() {
         Some(word) => sort_word(word.as_str()).is_some(),
@@ -158,7 +164,8 @@ fn are_sort_words(items: &[Json]) -> bool
 }
 
 fn is_sort_list(words: &[Json]) -> bool
-    ensures { result ≡ (is_in_range 1 4 (items_len (items_view words.now)) && is_some (defined.sort_words (items_view words.now))) }
+    ensures { result ≡ (is_in_range 1 4 (items_len (items_view words.now))
+        && is_some (defined.sort_words (items_view words.now))) }
 {
     counts_to(words, MAX_SORT_WORDS) && are_sort_words(words)
 }
@@ -194,8 +201,8 @@ fn optional_fits(root: bool, value: &Json) -> bool
     }
 }
 
-/// Whether the directive of this name may have the value, at the root or elsewhere: the root has no `optional`, and it
-/// alone has `return`.
+/// Whether the directive of this name may have the value, at the root or elsewhere: the root has no
+/// `optional`, and it alone has `return`.
 pub fn directive_fits(root: bool, name: &str, value: &Json) -> bool
     ensures { result ≡ fits root name.now (view value.now) }
 {

@@ -15,9 +15,11 @@ use gd_fault::fault::Code;
 use gd_json::value::{Json, JsonText};
 use std::alloc::Global;
 
-/// Whether the member `cursor` of an envelope asks for a cursor; nothing where it has not the form of one.
+/// Whether the member `cursor` of an envelope asks for a cursor; nothing where it has not the form
+/// of one.
 fn asks_cursor(value: Option<&Json>) -> Option<bool>
-    ensures { result ≡ option_map defined.asks_page (defined.cursor_ask (option_map (λ part. view part.now) value.entry)) }
+    ensures { result ≡ option_map defined.asks_page
+        (defined.cursor_ask (option_map (λ part. view part.now) value.entry)) }
 {
     let Some(value) = value else {
         return Some(false);
@@ -84,7 +86,10 @@ fn check_read_members(alloc: Global, members: &[(JsonText, Json)]) -> Result<(),
 }
 
 fn check_read_query(alloc: Global, cursor: Option<&Json>, query: &Json) -> Result<(), FormFault>
-    ensures { Checks (paged_fault (option_map defined.asks_page (defined.cursor_ask (option_map (λ part. view part.now) cursor.entry))) (view query.now)) result }
+    ensures { Checks
+        (paged_fault (option_map defined.asks_page
+        (defined.cursor_ask (option_map (λ part. view part.now) cursor.entry))) (view query.now))
+        result }
 {
     let Some(asks) = asks_cursor(cursor) else {
         return Err(root_fault(alloc, Code::Envelope));
@@ -97,7 +102,8 @@ fn check_read_query(alloc: Global, cursor: Option<&Json>, query: &Json) -> Resul
 
 /// Whether the member `scope` of an envelope is absent, or the text of an id.
 fn scope_fits(value: Option<&Json>) -> bool
-    ensures { result ≡ is_some (defined.scope_ask (option_map (λ part. view part.now) value.entry)) }
+    ensures { result ≡ is_some (defined.scope_ask
+        (option_map (λ part. view part.now) value.entry)) }
 {
     match value {
         Some(value) => is_id_text(value),

@@ -1,11 +1,13 @@
 //! From the bytes of a line to the request that they spell.
-ghost use Rattle.std.specs.Prelude.{◌≡◌, ◌≢◌, ◌≤◌, true, length, None, Some, Err, Ok, IfOk, is_some, option_map, unwrap_or};
+ghost use Rattle.std.specs.Prelude.{◌≡◌, ◌≢◌, ◌≤◌, true, length, None, Some, Err, Ok, IfOk};
+ghost use Rattle.std.specs.Prelude.{is_some, option_map, unwrap_or};
 ghost use Rattle.gd_tree.specs.Bounds.{json_depth};
 ghost use Rattle.gd_runs.specs.Request.{cursor_ask, no_cursor, scope_ask, read_of, write_of};
 ghost use Rattle.gd_runs.specs.Request.{line_of};
 ghost use Rattle.gd_runs.specs.Input.{line_from, as_line};
 ghost use Rattle.gd_json.specs.View.{view, members_view};
-ghost use Rattle.gd_mql.specs.Envelopes.{read_fault, write_fault, read_request_of, write_request_of, read_line_of, write_line_of};
+ghost use Rattle.gd_mql.specs.Envelopes.{read_fault, write_fault, read_request_of};
+ghost use Rattle.gd_mql.specs.Envelopes.{write_request_of, read_line_of, write_line_of};
 ghost use Rattle.gd_mql.specs.Line.{line_session};
 ghost use Rattle.gd_mql.specs.Requests.{cursor_view, read_view, write_view, GivesAsked, GivesLine};
 
@@ -24,7 +26,9 @@ pub const LINE_LIMIT: usize = 262_144;
 
 /// The page that the member `cursor` of an envelope asks for.
 fn own_cursor(value: Option<&Json>) -> Result<CursorAsk, Memory>
-    ensures { IfOk result (λ cursor. unwrap_or (cursor_ask (option_map (λ part. view part.now) value.entry)) no_cursor ≡ cursor_view cursor) }
+    ensures { IfOk result (λ cursor. unwrap_or
+        (cursor_ask (option_map (λ part. view part.now) value.entry)) no_cursor
+        ≡ cursor_view cursor) }
 {
     let Some(value) = value else {
         return Ok(CursorAsk::Absent);
@@ -38,7 +42,8 @@ fn own_cursor(value: Option<&Json>) -> Result<CursorAsk, Memory>
 
 /// The id of the scope that the member `scope` of an envelope names.
 fn own_scope(value: Option<&Json>) -> Result<Option<JsonText>, Memory>
-    ensures { IfOk result (λ scope. is_some (scope_ask (option_map (λ part. view part.now) value.entry)) ≡ true
+    ensures { IfOk result (λ scope. is_some
+        (scope_ask (option_map (λ part. view part.now) value.entry)) ≡ true
         → scope_ask (option_map (λ part. view part.now) value.entry) ≡ Some scope) }
 {
     let Some(value) = value else {
@@ -76,9 +81,9 @@ fn own_write(envelope: Json) -> Result<WriteRequest, Memory>
     }
 }
 
-/// The read that an envelope spells: an object of `query` and, where a page with a cursor is asked for, of `cursor`.
-/// `BadQuery`: it has not this form, or its query has a fault of form; the first fault in the order of the walk is told.
-/// `Memory`: an allocation was refused.
+/// The read that an envelope spells: an object of `query` and, where a page with a cursor is asked
+/// for, of `cursor`. `BadQuery`: it has not this form, or its query has a fault of form; the first
+/// fault in the order of the walk is told. `Memory`: an allocation was refused.
 pub fn read_request(alloc: Global, envelope: Json) -> Result<ReadRequest, LineFault>
     requires { json_depth (view envelope) ≤ 15 }
     ensures { GivesAsked read_view (read_request_of (view envelope)) result }
@@ -87,9 +92,9 @@ pub fn read_request(alloc: Global, envelope: Json) -> Result<ReadRequest, LineFa
     Ok(own_read(envelope)?)
 }
 
-/// The write that an envelope spells: an object of `query` and, where all that is made has a scope, of `scope`, the text
-/// of an id. `BadQuery`: it has not this form, or its query has a fault of form; the first fault in the order of the walk
-/// is told. `Memory`: an allocation was refused.
+/// The write that an envelope spells: an object of `query` and, where all that is made has a scope,
+/// of `scope`, the text of an id. `BadQuery`: it has not this form, or its query has a fault of
+/// form; the first fault in the order of the walk is told. `Memory`: an allocation was refused.
 pub fn write_request(alloc: Global, envelope: Json) -> Result<WriteRequest, LineFault>
     requires { json_depth (view envelope) ≤ 15 }
     ensures { GivesAsked write_view (write_request_of (view envelope)) result }
@@ -135,10 +140,11 @@ fn line_of(alloc: Global, sid: u32, line: Json) -> Result<Line, LineFault>
     }
 }
 
-/// The line that the bytes spell. They are at most `LINE_LIMIT` bytes, without the newline that ended them. First
-/// comes `Json`: the bytes are no JSON of this profile; then `BadLine`: the value is no object of just `sid`, a
-/// number from 0 to 63, and of one of `read` and `write`; then `BadQuery` with the first code of form, in the order of
-/// the walk: a clause itself, then its members in byte order of their names. `Memory`: an allocation was refused.
+/// The line that the bytes spell. They are at most `LINE_LIMIT` bytes, without the newline that
+/// ended them. First comes `Json`: the bytes are no JSON of this profile; then `BadLine`: the value
+/// is no object of just `sid`, a number from 0 to 63, and of one of `read` and `write`; then
+/// `BadQuery` with the first code of form, in the order of the walk: a clause itself, then its
+/// members in byte order of their names. `Memory`: an allocation was refused.
 pub fn line_from(alloc: Global, bytes: &[u8]) -> Result<Line, LineFault>
     requires { length bytes.now ≤ LINE_LIMIT }
     ensures asked { GivesLine (line_from bytes.now) result }

@@ -1,5 +1,6 @@
 //! The names of members: an optional label, an optional `!`, a word, and an optional operator.
-ghost use Rattle.std.specs.Prelude.{◌≡◌, ◌≤◌, ◌&&◌, ◌||◌, ◌==◌, Some, None, length, drop, option_map, if◌then◌else◌};
+ghost use Rattle.std.specs.Prelude.{◌≡◌, ◌≤◌, ◌&&◌, ◌||◌, ◌==◌, Some, None, length, drop};
+ghost use Rattle.std.specs.Prelude.{option_map, if◌then◌else◌};
 ghost use Rattle.std.specs.Char.{is_ascii_digit, is_ascii_lowercase};
 ghost use Rattle.std.specs.List.{list_all};
 ghost use Rattle.gd_defs.specs.Ids.{is_key_byte};
@@ -21,7 +22,8 @@ pub enum Operator {
     Words,
 }
 
-/// The name of a member, taken apart: how it is spelled, whether `!` turns its property round, its word and its operator.
+/// The name of a member, taken apart: how it is spelled, whether `!` turns its property round, its
+/// word and its operator.
 #[derive(Clone, Copy)]
 pub struct Name<'a> {
     pub spelled: &'a str,
@@ -54,7 +56,8 @@ fn is_label_byte(byte: u8) -> bool
 }
 
 fn are_label_bytes(bytes: &[u8]) -> bool
-    ensures { result ≡ list_all (λ byte. is_ascii_lowercase byte || is_ascii_digit byte || byte == 95) bytes.now }
+    ensures { result ≡ list_all (λ byte. is_ascii_lowercase byte || is_ascii_digit byte || byte
+        == 95) bytes.now }
 {
     bytes.iter().all(|byte| is_label_byte(*byte))
 }
@@ -121,7 +124,8 @@ fn split_word(text: &str) -> (&str, &str)
     text.split_at(word_len(text.as_bytes()))
 }
 
-/// Whether the text may be a word: a key, a path, or the star that is left out; behind `!` a path alone.
+/// Whether the text may be a word: a key, a path, or the star that is left out; behind `!` a path
+/// alone.
 fn may_be_word(reversed: bool, word: &str) -> bool
     ensures { result ≡ defined.may_be_word reversed word.now }
 {

@@ -28,13 +28,16 @@ pub fn has(members: &[(JsonText, Json)], name: &str) -> bool
 
 /// The text that the member of this name has.
 pub fn text_of<'a>(members: &'a [(JsonText, Json)], name: &str) -> Option<&'a JsonText>
-    ensures { option_map (λ text. text.now) result ≡ text_member name.now (members_view members.now) }
+    ensures { option_map (λ text. text.now) result
+        ≡ text_member name.now (members_view members.now) }
 {
     member(members, name)?.as_text()
 }
 
 fn all_among(members: &[(JsonText, Json)], a: &str, b: &str, c: &str, d: &str) -> bool
-    ensures { result ≡ list_all (λ member. bytes_eq member.0 a.now || (bytes_eq member.0 b.now || (bytes_eq member.0 c.now || bytes_eq member.0 d.now))) members.now }
+    ensures { result ≡ list_all (λ member. bytes_eq member.0 a.now
+        || (bytes_eq member.0 b.now || (bytes_eq member.0 c.now || bytes_eq member.0 d.now)))
+        members.now }
 {
     members
         .iter()
@@ -49,7 +52,8 @@ pub fn is_either(name: &str, a: &str, b: &str) -> bool
 }
 
 fn is_among(name: &str, a: &str, b: &str, c: &str, d: &str) -> bool
-    ensures { result ≡ (bytes_eq name.now a.now || (bytes_eq name.now b.now || (bytes_eq name.now c.now || bytes_eq name.now d.now))) }
+    ensures { result ≡ (bytes_eq name.now a.now
+        || (bytes_eq name.now b.now || (bytes_eq name.now c.now || bytes_eq name.now d.now))) }
 {
     if is_either(name, a, b) {
         return true;
@@ -93,7 +97,8 @@ pub fn is_made_of_two_or_both(
     more: &str,
     other: &str,
 ) -> bool
-    ensures { result ≡ made_of (a.now ∷ b.now ∷ []) (more.now ∷ other.now ∷ []) (members_view members.now) }
+    ensures { result ≡ made_of (a.now ∷ b.now ∷ []) (more.now ∷ other.now ∷ [])
+        (members_view members.now) }
 {
     has(members, a) && has(members, b) && only_of(members, a, b, more, other)
 }
@@ -106,7 +111,8 @@ pub fn is_made_of_three_or(
     c: &str,
     more: &str,
 ) -> bool
-    ensures { result ≡ made_of (a.now ∷ b.now ∷ c.now ∷ []) (more.now ∷ []) (members_view members.now) }
+    ensures { result ≡ made_of (a.now ∷ b.now ∷ c.now ∷ []) (more.now ∷ [])
+        (members_view members.now) }
 {
     has(members, a) && has(members, b) && has(members, c) && only_of(members, a, b, c, more)
 }

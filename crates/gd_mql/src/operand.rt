@@ -143,13 +143,15 @@ pub fn counts_to(items: &[Json], most: usize) -> bool
 }
 
 fn is_choice_of_literals(items: &[Json]) -> bool
-    ensures { result ≡ (is_in_range 1 64 (items_len (items_view items.now)) && defined.all_items defined.is_literal (items_view items.now)) }
+    ensures { result ≡ (is_in_range 1 64 (items_len (items_view items.now))
+        && defined.all_items defined.is_literal (items_view items.now)) }
 {
     counts_to(items, MAX_ALTERNATIVES) && are_literals(items)
 }
 
 fn is_choice_of_ids(items: &[Json]) -> bool
-    ensures { result ≡ (is_in_range 1 64 (items_len (items_view items.now)) && defined.all_items defined.is_id_text (items_view items.now)) }
+    ensures { result ≡ (is_in_range 1 64 (items_len (items_view items.now))
+        && defined.all_items defined.is_id_text (items_view items.now)) }
 {
     counts_to(items, MAX_ALTERNATIVES) && are_id_texts(items)
 }
@@ -174,8 +176,8 @@ fn is_list_of_ids(value: &Json) -> bool
     }
 }
 
-/// Whether the value has the form that an operator asks of its operand on a property; without an operator that of a
-/// literal.
+/// Whether the value has the form that an operator asks of its operand on a property; without an
+/// operator that of a literal.
 fn property_fits(operator: Operator, value: &Json) -> bool
     ensures { result ≡ defined.property_fits (operator_view operator) (view value.now) }
 {
@@ -228,7 +230,8 @@ fn link_fits(operator: Operator, value: &Json) -> bool
     }
 }
 
-/// Whether the operand has the form that the word and the operator of its name ask. It takes no memory.
+/// Whether the operand has the form that the word and the operator of its name ask. It takes no
+/// memory.
 pub fn operand_fits(name: &Name<'_>, value: &Json) -> bool
     ensures { result ≡ defined.operand_fits (name_view name.now) (view value.now) }
 {

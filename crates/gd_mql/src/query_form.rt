@@ -1,11 +1,14 @@
-//! The first fault of form of a query: a clause itself, then its members in byte order of their names.
-ghost use Rattle.std.specs.Prelude.{◌≡◌, ◌||◌, ◌&&◌, ◌∷◌, [], Ok, not, option_map, if◌then◌else◌, Some, None, false, is_some};
+//! The first fault of form of a query: a clause itself, then its members in byte order of their
+//! names.
+ghost use Rattle.std.specs.Prelude.{◌≡◌, ◌||◌, ◌&&◌, ◌∷◌, [], Ok, not, option_map, if◌then◌else◌};
+ghost use Rattle.std.specs.Prelude.{Some, None, false, is_some};
 ghost use Rattle.std.specs.Result.{result_err};
 ghost use Rattle.gd_tree.specs.Json.{list, item, no_items};
 ghost use Rattle.gd_tree.specs.Look.{members_in};
 ghost use Rattle.gd_defs.specs.Query as defined;
 ghost use Rattle.gd_json.specs.View.{view, items_view, members_view};
-ghost use Rattle.gd_form_laws.specs.Faults.{clause_fault, member_fault, form_fault, value_fault, query_fault, below as seen_below};
+ghost use Rattle.gd_form_laws.specs.Faults.{clause_fault, member_fault, form_fault, value_fault};
+ghost use Rattle.gd_form_laws.specs.Faults.{query_fault, below as seen_below};
 ghost use Rattle.gd_mql.specs.FormFault.{Checks};
 ghost use Rattle.gd_mql.specs.Names.{name_view};
 ghost use Rattle.gd_mql.specs.QueryForm.{NameGives, takes_operand};
@@ -18,10 +21,11 @@ use gd_fault::fault::Code;
 use gd_json::value::{Json, JsonText};
 use std::alloc::Global;
 
-/// Whether the name may stand in a clause, at the root or elsewhere: `link` is no word at the root, and computed words
-/// take no `!`.
+/// Whether the name may stand in a clause, at the root or elsewhere: `link` is no word at the root,
+/// and computed words take no `!`.
 fn may_stand(root: bool, name: &Name<'_>) -> bool
-    ensures { result ≡ not ((name.now.reversed && defined.is_computed name.now.word.now) || (root && defined.is_link name.now.word.now)) }
+    ensures { result ≡ not ((name.now.reversed && defined.is_computed name.now.word.now)
+        || (root && defined.is_link name.now.word.now)) }
 {
     !(name.reversed && is_computed(name.word)) && !(root && is_link(name.word))
 }
@@ -85,8 +89,8 @@ fn is_plain_word(word: &str) -> bool
     !is_computed(word) && !is_link(word)
 }
 
-/// Whether the value stands for an operand: behind an operator, and at a computed word or `link`, unless it is null or a
-/// list that is none.
+/// Whether the value stands for an operand: behind an operator, and at a computed word or `link`,
+/// unless it is null or a list that is none.
 pub fn wants_operand(name: &Name<'_>, value: &Json) -> bool
     ensures { result ≡ takes_operand (name_view name.now) (view value.now) }
 {
@@ -101,7 +105,8 @@ pub fn wants_operand(name: &Name<'_>, value: &Json) -> bool
 
 fn check_operand(alloc: Global, name: &Name<'_>, value: &Json) -> Result<(), FormFault>
     ensures { Checks (if defined.operand_fits (name_view name.now) (view value.now) then None
-        else Some (record { code = defined.bad_operand; path = name.now.spelled.now ∷ [] })) result }
+        else Some (record { code = defined.bad_operand; path = name.now.spelled.now ∷ [] }))
+        result }
 {
     if operand_fits(name, value) {
         Ok(())
@@ -111,7 +116,8 @@ fn check_operand(alloc: Global, name: &Name<'_>, value: &Json) -> Result<(), For
 }
 
 fn check_directive(alloc: Global, root: bool, name: &str, value: &Json) -> Result<(), FormFault>
-    ensures { Checks (result_err (defined.with_directive root name.now (view value.now) (Ok (defined.no_directives, defined.no_members)))) result }
+    ensures { Checks (result_err (defined.with_directive root name.now (view value.now)
+        (Ok (defined.no_directives, defined.no_members)))) result }
 {
     if directive_fits(root, name, value) {
         Ok(())
@@ -186,7 +192,8 @@ fn check_list(alloc: Global, name: &Name<'_>, items: &[Json]) -> Result<(), Form
 #[cycle(check_clause)]
 #[tactic(auto, unfolding(gd_form_laws::specs::Faults::form_fault))]
 fn check_sole(alloc: Global, name: &Name<'_>, sole: &Json) -> Result<(), FormFault>
-    ensures { Checks (form_fault (name_view name.now) (list (item (view sole.now) no_items))) result }
+    ensures { Checks (form_fault (name_view name.now) (list (item (view sole.now) no_items)))
+        result }
 {
     match sole {
         Json::Object(members) => check_below(alloc, name, members),
@@ -200,7 +207,8 @@ fn check_below(
     name: &Name<'_>,
     members: &[(JsonText, Json)],
 ) -> Result<(), FormFault>
-    ensures { Checks (option_map (seen_below name.now.spelled.now) (clause_fault false (members_view members.now))) result }
+    ensures { Checks (option_map (seen_below name.now.spelled.now)
+        (clause_fault false (members_view members.now))) result }
 {
     match check_clause(alloc, false, members) {
         Ok(()) => Ok(()),

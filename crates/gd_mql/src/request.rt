@@ -11,7 +11,8 @@ use crate::clause::Clause;
 use gd_base::memory::Memory;
 use gd_json::value::{Json, JsonText};
 
-/// Which page a read asks for: the first without a cursor, the first with one, or the page after the text of a cursor.
+/// Which page a read asks for: the first without a cursor, the first with one, or the page after
+/// the text of a cursor.
 #[derive(Drop)]
 pub enum CursorAsk {
     Absent,
@@ -19,8 +20,8 @@ pub enum CursorAsk {
     After(JsonText),
 }
 
-/// A read: the page that it asks for, and its query, which has the form of one. At most 14 forms `{..}` lie one within
-/// another in it.
+/// A read: the page that it asks for, and its query, which has the form of one. At most 14 forms
+/// `{..}` lie one within another in it.
 #[derive(Drop)]
 pub struct ReadRequest {
     pub cursor: CursorAsk,
@@ -75,7 +76,10 @@ impl ReadRequest {
     pub fn new(cursor: CursorAsk, query: Json) -> ReadRequest
         requires right { query_fault (view query) ≡ None }
         requires shallow { json_depth (view query) ≤ 14 }
-        ensures { read_view result ≡ record { cursor = cursor_view cursor; query = spelled_query (view query) } }
+        ensures { read_view result ≡ record {
+          cursor = cursor_view cursor;
+          query = spelled_query (view query);
+        } }
     {
         ReadRequest { cursor, query }
     }
@@ -112,7 +116,11 @@ impl<'a> Query<'a> {
 
     fn of_root(listed: bool, members: &'a [(JsonText, Json)]) -> Query<'a>
         requires { clause_fault true (members_view members.now) ≡ None }
-        ensures { query_view result ≡ record { listed = listed; directives = (spelled_clause true (members_view members.entry.now)).0; members = (spelled_clause true (members_view members.entry.now)).1 } }
+        ensures { query_view result ≡ record {
+          listed = listed;
+          directives = (spelled_clause true (members_view members.entry.now)).0;
+          members = (spelled_clause true (members_view members.entry.now)).1;
+        } }
     {
         Query {
             listed,
@@ -157,11 +165,15 @@ impl WriteRequest {
     ghost use Rattle.gd_mql.specs.Requests.{write_view};
     ghost use Rattle.gd_mql.specs.Entries.{change_view};
 
-    /// The write of a clause in a scope; the clause has the form of one and nests at most 14 values.
+    /// The write of a clause in a scope; the clause has the form of one and nests at most 14
+    /// values.
     pub fn new(scope: Option<JsonText>, query: Json) -> WriteRequest
         requires right { change_fault (view query) ≡ None }
         requires shallow { json_depth (view query) ≤ 14 }
-        ensures { write_view result ≡ record { scope = scope; change = spelled_change (view query) } }
+        ensures { write_view result ≡ record {
+          scope = scope;
+          change = spelled_change (view query);
+        } }
     {
         WriteRequest { scope, query }
     }
@@ -177,7 +189,8 @@ impl WriteRequest {
         })
     }
 
-    /// The change. At most 14 forms `{..}` and lists lie one within another in it, the clause itself among them.
+    /// The change. At most 14 forms `{..}` and lists lie one within another in it, the clause
+    /// itself among them.
     pub fn change(&self) -> Change<'_>
         ensures shown { change_view result ≡ (write_view self.now).change }
         ensures depth { 1 + entries_depth (write_view self.now).change.members ≤ 14 }

@@ -15,7 +15,8 @@ pub const SESSIONS: u32 = 64;
 
 /// Whether the name of each member is one of these two.
 fn all_named(members: &[(JsonText, Json)], first: &str, second: &str) -> bool
-    ensures { result ≡ list_all (λ member. bytes_eq member.0 first.now || bytes_eq member.0 second.now) members.now }
+    ensures { result ≡ list_all (λ member. bytes_eq member.0 first.now
+        || bytes_eq member.0 second.now) members.now }
 {
     members
         .iter()
@@ -24,7 +25,8 @@ fn all_named(members: &[(JsonText, Json)], first: &str, second: &str) -> bool
 
 /// Whether the value is an object that has no members but of these two names.
 fn has_only(value: &Json, first: &str, second: &str) -> bool
-    ensures { result ≡ option_map_or (only (first.now ∷ second.now ∷ [])) (members_in (view value.now)) false }
+    ensures { result ≡ option_map_or (only (first.now ∷ second.now ∷ []))
+        (members_in (view value.now)) false }
 {
     match value.as_object() {
         Some(members) => all_named(members, first, second),
@@ -44,7 +46,8 @@ pub fn session_number(value: &Json) -> Option<u32>
     }
 }
 
-/// The session, where the value is an object of just `sid`, a number from 0 to 63, and of one of `read` and `write`.
+/// The session, where the value is an object of just `sid`, a number from 0 to 63, and of one of
+/// `read` and `write`.
 pub(crate) fn session(line: &Json) -> Option<u32>
     ensures { result ≡ line_session (view line.now) }
 {

@@ -1,5 +1,6 @@
 //! The parts of a write: its words, its forms {..}, and what is to be known of a clause.
-ghost use Rattle.std.specs.Prelude.{◌≡◌, ◌||◌, ◌&&◌, Some, None, is_some, not, option_map, option_and_then, if◌then◌else◌, codes, false};
+ghost use Rattle.std.specs.Prelude.{◌≡◌, ◌||◌, ◌&&◌, Some, None, is_some, not, option_map};
+ghost use Rattle.std.specs.Prelude.{option_and_then, if◌then◌else◌, codes, false};
 ghost use Rattle.std.specs.List.{list_all};
 ghost use Rattle.std.specs.Option.{option_map_or};
 ghost use Rattle.gd_tree.specs.Json.{null};
@@ -9,7 +10,8 @@ ghost use Rattle.gd_defs.specs.Change as defined;
 ghost use Rattle.gd_defs.specs.Query.Operands.{all_items, is_literal as spells_literal};
 ghost use Rattle.gd_json.specs.View.{view, items_view, members_view};
 ghost use Rattle.gd_fault.specs.Fault.{code_view};
-ghost use Rattle.gd_mql.specs.Changes.{connect_view, create_view, target_view, setting_view, fault_of};
+ghost use Rattle.gd_mql.specs.Changes.{connect_view, create_view, target_view, setting_view};
+ghost use Rattle.gd_mql.specs.Changes.{fault_of};
 
 use crate::directive::is_directive;
 use crate::name::name_from;
@@ -37,7 +39,8 @@ pub enum CreateWord {
     Unconditional,
 }
 
-/// What a link leads to, as it is spelled: an id, a literal, a literal as a text in a language, or as a key in a namespace.
+/// What a link leads to, as it is spelled: an id, a literal, a literal as a text in a language, or
+/// as a key in a namespace.
 #[derive(Clone, Copy)]
 pub enum Target<'a> {
     Id(&'a JsonText),
@@ -46,8 +49,8 @@ pub enum Target<'a> {
     Key(&'a JsonText, &'a Json),
 }
 
-/// What the members of a clause have to know of it: whether it is the root, creates, has `id` as a text, and has a fact
-/// of its own.
+/// What the members of a clause have to know of it: whether it is the root, creates, has `id` as a
+/// text, and has a fact of its own.
 #[derive(Clone, Copy)]
 pub struct Setting {
     pub at_root: bool,
@@ -79,7 +82,8 @@ pub fn connect_word(value: &Json) -> Option<ConnectWord>
     }
 }
 
-/// Whether the members have the names of a fact as a form: of an id, of a text in a language, or of a key in a namespace.
+/// Whether the members have the names of a fact as a form: of an id, of a text in a language, or of
+/// a key in a namespace.
 pub fn is_fact_form(form: &[(JsonText, Json)]) -> bool
     ensures { result ≡ defined.is_fact_form (members_view form.now) }
 {
@@ -88,8 +92,8 @@ pub fn is_fact_form(form: &[(JsonText, Json)]) -> bool
         || is_made_of_two(form, "namespace", "value")
 }
 
-/// Whether the members have the names of a connect form: with an id, a value that may have a language, or a key in a
-/// namespace; and maybe `previous`.
+/// Whether the members have the names of a connect form: with an id, a value that may have a
+/// language, or a key in a namespace; and maybe `previous`.
 pub fn is_connect_form(form: &[(JsonText, Json)]) -> bool
     ensures { result ≡ defined.is_connect_form (members_view form.now) }
 {
@@ -107,13 +111,15 @@ pub fn guid_of(form: &[(JsonText, Json)], name: &str) -> Option<u64>
 
 /// The word of a connect form.
 pub fn form_word(form: &[(JsonText, Json)]) -> Option<ConnectWord>
-    ensures { option_map connect_view result ≡ option_and_then defined.connect_word (get (codes "connect") (members_view form.now)) }
+    ensures { option_map connect_view result ≡ option_and_then defined.connect_word
+        (get (codes "connect") (members_view form.now)) }
 {
     connect_word(member(form, "connect")?)
 }
 
 fn updates(form: &[(JsonText, Json)]) -> bool
-    ensures { result ≡ defined.is_update (option_and_then defined.connect_word (get (codes "connect") (members_view form.now))) }
+    ensures { result ≡ defined.is_update
+        (option_and_then defined.connect_word (get (codes "connect") (members_view form.now))) }
 {
     match form_word(form) {
         Some(ConnectWord::Update) => true,
@@ -122,7 +128,8 @@ fn updates(form: &[(JsonText, Json)]) -> bool
 }
 
 fn previous_code(form: &[(JsonText, Json)]) -> Option<Code>
-    ensures { option_map code_view result ≡ defined.part_code (members_view form.now) (codes "previous") null }
+    ensures { option_map code_view result ≡ defined.part_code (members_view form.now)
+        (codes "previous") null }
 {
     if !updates(form) {
         return Some(Code::BadWrite);
@@ -143,7 +150,8 @@ fn unless(is_right: bool, code: Code) -> Option<Code>
 
 /// The code of a member of a form {..} that is not as its name asks.
 fn part_code(form: &[(JsonText, Json)], name: &str, value: &Json) -> Option<Code>
-    ensures { option_map code_view result ≡ defined.part_code (members_view form.now) name.now (view value.now) }
+    ensures { option_map code_view result ≡ defined.part_code (members_view form.now) name.now
+        (view value.now) }
 {
     if name == "connect" {
         unless(connect_word(value).is_some(), Code::BadConnect)
@@ -183,9 +191,12 @@ pub fn target_of(form: &[(JsonText, Json)]) -> Option<Target<'_>>
     }
 }
 
-/// The target that a literal is, with the language that the member `lang` of its form names, if it has one.
+/// The target that a literal is, with the language that the member `lang` of its form names, if it
+/// has one.
 fn value_target<'a>(form: &'a [(JsonText, Json)], value: &'a Json) -> Target<'a>
-    ensures { target_view result ≡ option_map_or (λ lang. defined.to_text lang (view value.now)) (defined.text_member (codes "lang") (members_view form.now)) (defined.to_literal (view value.now)) }
+    ensures { target_view result ≡ option_map_or (λ lang. defined.to_text lang (view value.now))
+        (defined.text_member (codes "lang") (members_view form.now))
+        (defined.to_literal (view value.now)) }
 {
     match text_of(form, "lang") {
         Some(lang) => Target::Text(lang, value),
@@ -194,7 +205,8 @@ fn value_target<'a>(form: &'a [(JsonText, Json)], value: &'a Json) -> Target<'a>
 }
 
 fn neither(members: &[(JsonText, Json)]) -> bool
-    ensures { result ≡ not (is_some (get (codes "connect") (members_view members.now)) || is_some (get (codes "create") (members_view members.now))) }
+    ensures { result ≡ not (is_some (get (codes "connect") (members_view members.now))
+        || is_some (get (codes "create") (members_view members.now))) }
 {
     !has(members, "connect") && !has(members, "create")
 }

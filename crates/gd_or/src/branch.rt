@@ -1,5 +1,6 @@
 //! The members of a union, each with the place that it gave.
-ghost use Rattle.std.specs.Prelude.{◌≡◌, ◌+◌, ◌-◌, ◌*◌, ◌^◌, ◌<◌, ◌≤◌, ℕ, length, map, sum_by, min, true, IfSome};
+ghost use Rattle.std.specs.Prelude.{◌≡◌, ◌+◌, ◌-◌, ◌*◌, ◌^◌, ◌<◌, ◌≤◌, ℕ, length, map, sum_by, min};
+ghost use Rattle.std.specs.Prelude.{true, IfSome};
 ghost use Rattle.std.specs.Bool.{OnTrue, OnFalse};
 ghost use Rattle.std.specs.List.{list_all};
 ghost use Rattle.gd_iter_core.specs.Owed.{ids_from, CheckReaches};
@@ -69,13 +70,15 @@ impl<I> Branch<I> {
         }
     }
 
-    /// Has the iterator give its first place from one on, where that is not known. False: the budget was spent first.
+    /// Has the iterator give its first place from one on, where that is not known. False: the
+    /// budget was spent first.
     fn settle<W, L>(&mut self, world: &W, place: Id, budget: Budget, steps: &mut Steps<L>) -> bool
     where
         I: Simple<W>,
         requires begun { budget.before ≤ steps.old }
         requires soon { steps.old ≤ budget.before + budget.size + 24 }
-        ensures owed { part place (I.owed self.new.iter world.now) self.new.head ≡ part place (I.owed self.old.iter world.now) self.old.head }
+        ensures owed { part place (I.owed self.new.iter world.now) self.new.head
+            ≡ part place (I.owed self.old.iter world.now) self.old.head }
         ensures walk { I.walk self.new.iter ≡ I.walk self.old.iter }
         ensures known { OnTrue result (is_known place self.new.head ≡ true) }
         ensures reached { OnFalse result (budget.before + budget.size ≤ steps.new) }
@@ -109,7 +112,8 @@ impl<I> Branch<I> {
     where
         I: Simple<W>,
         requires { at < 2 ^ 32 - 1 }
-        ensures owed { I.owed self.new.iter world.now ≡ ids_from at ((I.walk self.old.iter).set world.now) }
+        ensures owed { I.owed self.new.iter world.now
+            ≡ ids_from at ((I.walk self.old.iter).set world.now) }
         ensures head { self.new.head ≡ Head.Unknown }
         ensures walk { I.walk self.new.iter ≡ I.walk self.old.iter }
         ensures work { steps.new ≤ steps.old + 24 }
@@ -124,7 +128,8 @@ impl<I> Branch<I> {
     }
 }
 
-/// Has each member give its first place from one on, where that is not known. False: the budget was spent first.
+/// Has each member give its first place from one on, where that is not known. False: the budget was
+/// spent first.
 pub(crate) fn settle_all<W, I: Simple<W>, L>(
     branches: &mut [Branch<I>],
     world: &W,
@@ -134,7 +139,8 @@ pub(crate) fn settle_all<W, I: Simple<W>, L>(
 ) -> bool
     requires begun { budget.before ≤ steps.old }
     requires soon { steps.old ≤ budget.before + budget.size + 24 }
-    ensures owed { map (λ b. part place (I.owed b.iter world.now) b.head) branches.new ≡ map (λ b. part place (I.owed b.iter world.now) b.head) branches.old }
+    ensures owed { map (λ b. part place (I.owed b.iter world.now) b.head) branches.new
+        ≡ map (λ b. part place (I.owed b.iter world.now) b.head) branches.old }
     ensures walk { map (λ b. I.walk b.iter) branches.new ≡ map (λ b. I.walk b.iter) branches.old }
     ensures known { OnTrue result (list_all (λ b. is_known place b.head) branches.new ≡ true) }
     ensures reached { OnFalse result (budget.before + budget.size ≤ steps.new) }
@@ -152,7 +158,8 @@ pub(crate) fn settle_all<W, I: Simple<W>, L>(
 /// The lesser of two, where they are there.
 fn lesser(a: Option<Id>, b: Option<Id>) -> Option<Id>
     ensures lesser { result ≡ lesser a b }
-    ensures low { IfSome a (λ a. a < 2 ^ 32 - 1) → IfSome b (λ b. b < 2 ^ 32 - 1) → IfSome result (λ c. c < 2 ^ 32 - 1) }
+    ensures low { IfSome a (λ a. a < 2 ^ 32 - 1) → IfSome b (λ b. b < 2 ^ 32 - 1)
+        → IfSome result (λ c. c < 2 ^ 32 - 1) }
 {
     match (a, b) {
         (None, b) => b,
@@ -208,7 +215,8 @@ pub(crate) fn restart_all<W, I: Simple<W>, L>(
     steps: &mut Steps<L>,
 )
     requires { at < 2 ^ 32 - 1 }
-    ensures owed { map (λ b. part at (I.owed b.iter world.now) b.head) branches.new ≡ map (λ b. ids_from at ((I.walk b.iter).set world.now)) branches.old }
+    ensures owed { map (λ b. part at (I.owed b.iter world.now) b.head) branches.new
+        ≡ map (λ b. ids_from at ((I.walk b.iter).set world.now)) branches.old }
     ensures walk { map (λ b. I.walk b.iter) branches.new ≡ map (λ b. I.walk b.iter) branches.old }
     ensures work { steps.new ≤ steps.old + 24 * length branches.old }
     ensures later { steps.old ≤ steps.new }
@@ -220,8 +228,10 @@ pub(crate) fn restart_all<W, I: Simple<W>, L>(
 
 /// The sum of the bounds, or the greatest number.
 pub(crate) fn total_size<W, I: Simple<W>>(branches: &[Branch<I>], world: &W) -> u32
-    ensures size { result ≡ min (sum_by (λ b. (I.walk b.iter).bound world.now) branches.now) (2 ^ 32 - 1) }
-    ensures bound { min (length (joined (map (λ b. (I.walk b.iter).set world.now) branches.now))) (2 ^ 32 - 1) ≤ result }
+    ensures size { result ≡ min (sum_by (λ b. (I.walk b.iter).bound world.now) branches.now)
+        (2 ^ 32 - 1) }
+    ensures bound { min (length (joined (map (λ b. (I.walk b.iter).set world.now) branches.now)))
+        (2 ^ 32 - 1) ≤ result }
 {
     let mut total: u32 = 0;
     for branch in branches {

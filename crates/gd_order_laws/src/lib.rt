@@ -1,8 +1,10 @@
-//! Orders, windows and pages. Each law is the contract of a function that does nothing: whoever calls it may use the law,
-//! and code above cites its statement from `specs/Laws.antt`.
+//! Orders, windows and pages. Each law is the contract of a function that does nothing: whoever
+//! calls it may use the law, and code above cites its statement from `specs/Laws.antt`.
 #![tactic(auto)]
 
-ghost use Rattle.gd_order_laws.specs.Laws.{DataAreOrdered, KeysAreOrdered, MarksGiveRows, OfferedInAnyOrder, PagesJoin, RowsAreOrdered, RowsFollowMarks, RowsStandOnce, WindowKeeps};
+ghost use Rattle.gd_order_laws.specs.Laws.{DataAreOrdered, KeysAreOrdered, MarksGiveRows};
+ghost use Rattle.gd_order_laws.specs.Laws.{OfferedInAnyOrder, PagesJoin, RowsAreOrdered};
+ghost use Rattle.gd_order_laws.specs.Laws.{RowsFollowMarks, RowsStandOnce, WindowKeeps};
 
 /// The order of data is total, and only equal data tie.
 pub fn data_are_ordered()

@@ -1,5 +1,5 @@
-//! What a page prints from trees alone. Each law is the contract of a function that does nothing: whoever calls it may use
-//! the law, and code above cites its statement from `specs/Laws.antt`.
+//! What a page prints from trees alone. Each law is the contract of a function that does nothing:
+//! whoever calls it may use the law, and code above cites its statement from `specs/Laws.antt`.
 #![tactic(auto)]
 
 ghost use Rattle.gd_page_laws.specs.Laws.{ObjectsPrint, PagesPrint};

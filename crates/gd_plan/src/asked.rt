@@ -4,8 +4,8 @@ use gd_json::value::{Json, JsonText};
 use gd_resolve::property::Property;
 use gd_template::template::Mode;
 
-/// What a computed member tells: of its object the id, the guid or the timestamp; of the link that led there the guid, the
-/// value, the namespace or the language.
+/// What a computed member tells: of its object the id, the guid or the timestamp; of the link that
+/// led there the guid, the value, the namespace or the language.
 #[derive(Clone, Copy, PartialEq, Eq)]
 pub enum Own {
     Id,
@@ -17,7 +17,8 @@ pub enum Own {
     Lang,
 }
 
-/// What rows are sorted by, and the direction: the guid, the timestamp, or the first value of a property.
+/// What rows are sorted by, and the direction: the guid, the timestamp, or the first value of a
+/// property.
 #[derive(Drop)]
 pub enum SortKey {
     Guid {
@@ -66,8 +67,8 @@ pub struct Asking {
     pub limit: u32,
 }
 
-/// A member of a clause, by its name as it is spelled. Contracts see it as what it puts in front of the members behind it,
-/// `put`, and members one after another by `members_view`.
+/// A member of a clause, by its name as it is spelled. Contracts see it as what it puts in front of
+/// the members behind it, `put`, and members one after another by `members_view`.
 #[derive(Drop)]
 pub enum Member {
     /// A computed word with its test, and the operand that it prints, if it has one.

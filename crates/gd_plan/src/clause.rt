@@ -25,7 +25,8 @@ use std::alloc::Global;
 
 /// The template of these constraints that asks nothing of the places around.
 pub(crate) fn bare_template(alloc: Global, constraints: Vec<Constraint>) -> Template
-    ensures { template_of result ≡ template.template (map constraint_of constraints.items) template.no_clauses }
+    ensures { template_of result ≡ template.template (map constraint_of constraints.items)
+        template.no_clauses }
 {
     match Template::new(constraints, Vec::new(alloc)) {
         Ok(template) => template,
@@ -39,7 +40,8 @@ fn link_constraints(
     property: &Property,
     kind: Kind,
 ) -> Result<Vec<Constraint>, Memory>
-    ensures { IfOk result (λ cs. map constraint_of cs.items ≡ plan.property_tests property.now ++ plan.of_kind (kind_of kind) ∷ []) }
+    ensures { IfOk result (λ cs. map constraint_of cs.items
+        ≡ plan.property_tests property.now ++ plan.of_kind (kind_of kind) ∷ []) }
 {
     let mut constraints = links_of(alloc, property)?;
     constraints.push(of_kind(alloc, kind)?)?;
@@ -51,7 +53,8 @@ fn value_clause(alloc: Global, property: &Property, kind: Kind) -> Result<Clause
     ensures { IfOk result (λ c. parts c ≡ (
       optional,
       template.links_by (plan.asked_end property.now),
-      template.template (plan.property_tests property.now ++ plan.of_kind (kind_of kind) ∷ []) template.no_clauses,
+      template.template (plan.property_tests property.now ++ plan.of_kind (kind_of kind) ∷ [])
+          template.no_clauses,
     )) }
 {
     let constraints = link_constraints(alloc, property, kind)?;
@@ -60,10 +63,13 @@ fn value_clause(alloc: Global, property: &Property, kind: Kind) -> Result<Clause
     Ok(Clause::new(Mode::Optional, hop, template))
 }
 
-/// The clause of a template that a sort key makes: for a property an optional one on its values, which stands in front of
-/// those of the sort keys behind it; else none. `Memory`: an allocation was refused.
+/// The clause of a template that a sort key makes: for a property an optional one on its values,
+/// which stands in front of those of the sort keys behind it; else none. `Memory`: an allocation
+/// was refused.
 pub fn sort_clause(alloc: Global, key: &SortKey) -> Result<Option<Clause>, Memory>
-    ensures { (more : List defs.SortKey) → IfOk result (λ c. plan.sort_clauses (sort_key_view key.now ∷ more) ≡ with_clause (option_map parts c) (plan.sort_clauses more)) }
+    ensures { (more : List defs.SortKey)
+        → IfOk result (λ c. plan.sort_clauses (sort_key_view key.now ∷ more)
+        ≡ with_clause (option_map parts c) (plan.sort_clauses more)) }
 {
     match key {
         SortKey::Value { property, .. } => value_sort_clause(alloc, property),
@@ -73,7 +79,10 @@ pub fn sort_clause(alloc: Global, key: &SortKey) -> Result<Option<Clause>, Memor
 
 /// The clause on the values of a property by which rows are sorted, if it holds values of a kind.
 fn value_sort_clause(alloc: Global, property: &Property) -> Result<Option<Clause>, Memory>
-    ensures { (more : List defs.SortKey) → (descending : Bool) → IfOk result (λ c. plan.sort_clauses (record { key = defs.by_property property.now; descending = descending } ∷ more) ≡ with_clause (option_map parts c) (plan.sort_clauses more)) }
+    ensures { (more : List defs.SortKey) → (descending : Bool)
+        → IfOk result (λ c. plan.sort_clauses
+        (record { key = defs.by_property property.now; descending = descending } ∷ more)
+        ≡ with_clause (option_map parts c) (plan.sort_clauses more)) }
 {
     match expects_of(property.expected) {
         Expects::Value(kind) => Ok(Some(value_clause(alloc, property, kind)?)),
@@ -83,7 +92,8 @@ fn value_sort_clause(alloc: Global, property: &Property) -> Result<Option<Clause
 
 /// Puts a clause behind others, if there is one.
 pub(crate) fn push_clause(clauses: &mut Vec<Clause>, more: Option<Clause>) -> Result<(), Memory>
-    ensures { OnOk result (map parts clauses.new.items ≡ map parts clauses.old.items ++ option_to_list (option_map parts more)) }
+    ensures { OnOk result (map parts clauses.new.items
+        ≡ map parts clauses.old.items ++ option_to_list (option_map parts more)) }
 {
     if let Some(clause) = more {
         clauses.push(clause)?;
@@ -97,7 +107,8 @@ pub(crate) fn push_sort_clauses(
     clauses: &mut Vec<Clause>,
     sort: &[SortKey],
 ) -> Result<(), Memory>
-    ensures { OnOk result (clauses_view clauses.new.items ≡ in_front (map parts clauses.old.items) (plan.sort_clauses (map sort_key_view sort.now))) }
+    ensures { OnOk result (clauses_view clauses.new.items ≡ in_front (map parts clauses.old.items)
+        (plan.sort_clauses (map sort_key_view sort.now))) }
 {
     for key in sort {
         let clause = sort_clause(alloc, key)?;

@@ -1,5 +1,6 @@
 //! Tests as constraints of a template.
-ghost use Rattle.std.specs.Prelude.{◌≡◌, ◌++◌, ◌∷◌, [], map, option_map, Some, None, IfOk, OnOk, if◌then◌else◌};
+ghost use Rattle.std.specs.Prelude.{◌≡◌, ◌++◌, ◌∷◌, [], map, option_map, Some, None, IfOk, OnOk};
+ghost use Rattle.std.specs.Prelude.{if◌then◌else◌};
 ghost use Rattle.std.specs.Option.{option_to_list};
 ghost use Rattle.gd_defs.specs.Plan as plan;
 ghost use Rattle.gd_defs.specs.Data.{equals, differs, is_one_of};
@@ -39,7 +40,8 @@ fn least(alloc: Global, kind: Kind) -> Result<Datum, Memory>
     }
 }
 
-/// The constraint of a value of a kind: it is not below the least one. `Memory`: an allocation was refused.
+/// The constraint of a value of a kind: it is not below the least one. `Memory`: an allocation was
+/// refused.
 pub fn of_kind(alloc: Global, kind: Kind) -> Result<Constraint, Memory>
     ensures { IfOk result (λ constraint. constraint_of constraint ≡ plan.of_kind (kind_of kind)) }
 {
@@ -58,7 +60,8 @@ fn push(constraints: &mut Vec<Constraint>, constraint: Constraint) -> Result<(),
 
 /// Puts the constraint of the language of texts behind others, where those of one are asked for.
 fn push_language(constraints: &mut Vec<Constraint>, language: Option<Id>) -> Result<(), Memory>
-    ensures { OnOk result (map constraint_of constraints.new.items ≡ map constraint_of constraints.old.items ++ plan.language_test language) }
+    ensures { OnOk result (map constraint_of constraints.new.items
+        ≡ map constraint_of constraints.old.items ++ plan.language_test language) }
 {
     match language {
         Some(language) => push(constraints, Constraint::LangIs(language)),
@@ -66,8 +69,8 @@ fn push_language(constraints: &mut Vec<Constraint>, language: Option<Id>) -> Res
     }
 }
 
-/// The constraints of the links of a property: its typ, and its language where that is asked for. `Memory`: an allocation was
-/// refused.
+/// The constraints of the links of a property: its typ, and its language where that is asked for.
+/// `Memory`: an allocation was refused.
 pub fn links_of(alloc: Global, property: &Property) -> Result<Vec<Constraint>, Memory>
     ensures { IfOk result (λ cs. map constraint_of cs.items ≡ plan.property_tests property.now) }
 {
@@ -76,9 +79,11 @@ pub fn links_of(alloc: Global, property: &Property) -> Result<Vec<Constraint>, M
     Ok(constraints)
 }
 
-/// Puts what a test asks of the language of a text behind other constraints. `Memory`: an allocation was refused.
+/// Puts what a test asks of the language of a text behind other constraints. `Memory`: an
+/// allocation was refused.
 pub(crate) fn push_lang_test(constraints: &mut Vec<Constraint>, test: &Test) -> Result<(), Memory>
-    ensures { OnOk result (map constraint_of constraints.new.items ≡ map constraint_of constraints.old.items ++ plan.lang_tests (test_view test.now)) }
+    ensures { OnOk result (map constraint_of constraints.new.items
+        ≡ map constraint_of constraints.old.items ++ plan.lang_tests (test_view test.now)) }
 {
     match test {
         Test::Equals(Datum::Object(language)) => push(constraints, Constraint::LangIs(*language)),
@@ -106,7 +111,8 @@ fn copies(alloc: Global, data: &[Datum]) -> Result<Vec<Datum>, Memory>
 
 /// What a test of a value asks beside its kind.
 fn value_constraint(alloc: Global, test: &Test) -> Result<Option<Constraint>, Memory>
-    ensures { IfOk result (λ c. option_map constraint_of c ≡ value_constraint (test_view test.now)) }
+    ensures { IfOk result (λ c. option_map constraint_of c
+        ≡ value_constraint (test_view test.now)) }
 {
     match test {
         Test::Anything => Ok(None),
@@ -128,7 +134,8 @@ fn among_values(alloc: Global, values: &[Datum]) -> Result<Option<Constraint>, M
 
 /// The constraint that a value, or an object's moment, is below this one.
 fn below(value: &Datum, or_equal: bool) -> Result<Option<Constraint>, Memory>
-    ensures { IfOk result (λ c. option_map constraint_of c ≡ Some (template.below value.now or_equal)) }
+    ensures { IfOk result (λ c. option_map constraint_of c
+        ≡ Some (template.below value.now or_equal)) }
 {
     Ok(Some(Constraint::Below {
         value: value.copy()?,
@@ -138,7 +145,8 @@ fn below(value: &Datum, or_equal: bool) -> Result<Option<Constraint>, Memory>
 
 /// The same above this one.
 fn above(value: &Datum, or_equal: bool) -> Result<Option<Constraint>, Memory>
-    ensures { IfOk result (λ c. option_map constraint_of c ≡ Some (template.above value.now or_equal)) }
+    ensures { IfOk result (λ c. option_map constraint_of c
+        ≡ Some (template.above value.now or_equal)) }
 {
     Ok(Some(Constraint::Above {
         value: value.copy()?,
@@ -151,7 +159,9 @@ pub(crate) fn push_some(
     constraints: &mut Vec<Constraint>,
     more: Option<Constraint>,
 ) -> Result<(), Memory>
-    ensures { OnOk result (map constraint_of constraints.new.items ≡ map constraint_of constraints.old.items ++ option_to_list (option_map constraint_of more)) }
+    ensures { OnOk result (map constraint_of constraints.new.items
+        ≡ map constraint_of constraints.old.items ++ option_to_list
+        (option_map constraint_of more)) }
 {
     match more {
         Some(constraint) => push(constraints, constraint),
@@ -166,7 +176,9 @@ fn push_kind(
     kind: Kind,
     asked: bool,
 ) -> Result<(), Memory>
-    ensures { OnOk result (map constraint_of constraints.new.items ≡ map constraint_of constraints.old.items ++ option_to_list (if asked then Some (plan.of_kind (kind_of kind)) else None)) }
+    ensures { OnOk result (map constraint_of constraints.new.items
+        ≡ map constraint_of constraints.old.items ++ option_to_list
+        (if asked then Some (plan.of_kind (kind_of kind)) else None)) }
 {
     if asked {
         let of_kind = of_kind(alloc, kind)?;
@@ -176,7 +188,8 @@ fn push_kind(
     }
 }
 
-/// Puts what a test of values of a kind asks of a link behind other constraints. `Memory`: an allocation was refused.
+/// Puts what a test of values of a kind asks of a link behind other constraints. `Memory`: an
+/// allocation was refused.
 #[tactic(auto, using(crate::proofs::Planned::value_parts))]
 pub fn push_value_test(
     alloc: Global,
@@ -184,7 +197,9 @@ pub fn push_value_test(
     kind: Kind,
     test: &Test,
 ) -> Result<(), Memory>
-    ensures { OnOk result (map constraint_of constraints.new.items ≡ map constraint_of constraints.old.items ++ plan.value_test (kind_of kind) (test_view test.now)) }
+    ensures { OnOk result (map constraint_of constraints.new.items
+        ≡ map constraint_of constraints.old.items ++ plan.value_test (kind_of kind)
+        (test_view test.now)) }
 {
     push_kind(alloc, constraints, kind, asks_kind(test))?;
     let more = value_constraint(alloc, test)?;
@@ -213,7 +228,8 @@ pub fn answer_end(property: &Property) -> End
     }
 }
 
-/// What the answers of a property are in its direction: backwards they are plain objects. It takes no memory.
+/// What the answers of a property are in its direction: backwards they are plain objects. It takes
+/// no memory.
 pub fn answers_of(property: &Property) -> Expects
     ensures { expects_view result ≡ plan.answers_of property.now }
 {
@@ -235,7 +251,8 @@ fn place_of(datum: &Datum) -> Option<Id>
 }
 
 fn push_place(places: &mut Vec<Id>, datum: &Datum) -> Result<(), Memory>
-    ensures { OnOk result (places.new.items ≡ places.old.items ++ option_to_list (place_of datum.now)) }
+    ensures { OnOk result (places.new.items ≡ places.old.items ++ option_to_list
+        (place_of datum.now)) }
 {
     if let Some(place) = place_of(datum) {
         places.push(place)?;
@@ -256,7 +273,8 @@ fn places_of(alloc: Global, data: &[Datum]) -> Result<Vec<Id>, Memory>
 
 /// The constraint that an object is the one that a datum is; no object is where it is none.
 fn same_place(alloc: Global, datum: &Datum) -> Result<Option<Constraint>, Memory>
-    ensures { IfOk result (λ c. option_to_list (option_map constraint_of c) ≡ plan.object_test (equals datum.now)) }
+    ensures { IfOk result (λ c. option_to_list (option_map constraint_of c)
+        ≡ plan.object_test (equals datum.now)) }
 {
     let mut places = Vec::new(alloc);
     push_place(&mut places, datum)?;
@@ -265,15 +283,17 @@ fn same_place(alloc: Global, datum: &Datum) -> Result<Option<Constraint>, Memory
 
 /// The constraint that an object is one of those that data are.
 fn among_places(alloc: Global, data: &[Datum]) -> Result<Option<Constraint>, Memory>
-    ensures { IfOk result (λ c. option_to_list (option_map constraint_of c) ≡ plan.object_test (is_one_of «data».now)) }
+    ensures { IfOk result (λ c. option_to_list (option_map constraint_of c)
+        ≡ plan.object_test (is_one_of «data».now)) }
 {
     Ok(Some(Constraint::PlaceIn(places_of(alloc, data)?)))
 }
 
-/// What a test asks of an object: of its identity, or of its timestamp; nothing where no object can differ by it. `Memory`: an
-/// allocation was refused.
+/// What a test asks of an object: of its identity, or of its timestamp; nothing where no object can
+/// differ by it. `Memory`: an allocation was refused.
 pub fn object_constraint(alloc: Global, test: &Test) -> Result<Option<Constraint>, Memory>
-    ensures { IfOk result (λ c. option_to_list (option_map constraint_of c) ≡ plan.object_test (test_view test.now)) }
+    ensures { IfOk result (λ c. option_to_list (option_map constraint_of c)
+        ≡ plan.object_test (test_view test.now)) }
 {
     match test {
         Test::Anything | Test::Matches(_) => Ok(None),
@@ -287,7 +307,8 @@ pub fn object_constraint(alloc: Global, test: &Test) -> Result<Option<Constraint
 
 /// The constraint that an object is not the one that a datum is; none where it is no object.
 fn other_place(datum: &Datum) -> Option<Constraint>
-    ensures { option_to_list (option_map constraint_of result) ≡ plan.object_test (differs datum.now) }
+    ensures { option_to_list (option_map constraint_of result)
+        ≡ plan.object_test (differs datum.now) }
 {
     match datum {
         Datum::Object(place) => Some(Constraint::PlaceNot(*place)),

@@ -43,9 +43,10 @@ fn expects_of_type(of: Id) -> Expects
     }
 }
 
-/// What the answers of a property are, by the type that it expects at their end, if it states one: the types of the
-/// built-in list for texts, whole numbers, truth values and moments stand for values, the one for keys for keys, and its
-/// other types for objects of the system. It takes no memory.
+/// What the answers of a property are, by the type that it expects at their end, if it states one:
+/// the types of the built-in list for texts, whole numbers, truth values and moments stand for
+/// values, the one for keys for keys, and its other types for objects of the system. It takes no
+/// memory.
 pub fn expects_of(expected: Option<Id>) -> Expects
     ensures { expects_view result ≡ property.expects_of expected }
 {

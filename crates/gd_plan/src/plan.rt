@@ -12,7 +12,8 @@ use gd_template::template::Template;
 use std::alloc::Global;
 use std::marker::Model;
 
-/// A query with its words looked up, and the template for which it stands. Contracts see it as what is asked.
+/// A query with its words looked up, and the template for which it stands. Contracts see it as what
+/// is asked.
 #[derive(Drop)]
 pub struct Plan {
     template: Template,
@@ -38,18 +39,20 @@ impl Model for Plan {
 }
 
 impl Plan {
-    /// The plan of what is asked, which it takes over. `TooDeep`: more than 32 templates would lie one within another in
-    /// the template for which it stands. `Memory`: an allocation was refused.
+    /// The plan of what is asked, which it takes over. `TooDeep`: more than 32 templates would lie
+    /// one within another in the template for which it stands. `Memory`: an allocation was refused.
     pub fn new(alloc: Global, asked: Asked) -> Result<Plan, PlanFault>
         ensures made { IfOk result (λ plan. plan ≡ asked) }
         ensures depth { let made = defs.template_of (asked_view asked) in
-            MatchResult result (λ _. depth made ≤ max_depth) (λ fault. fault ≢ PlanFault.Memory → max_depth < depth made) }
+            MatchResult result (λ _. depth made ≤ max_depth)
+            (λ fault. fault ≢ PlanFault.Memory → max_depth < depth made) }
     {
         let template = template_of(alloc, &asked)?;
         Ok(Plan { template, asked })
     }
 
-    /// The template for which the query stands: its answers are the rows, and its weights are theirs. It takes no memory.
+    /// The template for which the query stands: its answers are the rows, and its weights are
+    /// theirs. It takes no memory.
     pub fn template(&self) -> &Template
         ensures { view result.now ≡ defs.template_of (asked_view self.now) }
     {

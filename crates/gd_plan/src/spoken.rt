@@ -29,7 +29,8 @@ fn asks_language(members: &[Member]) -> bool
     false
 }
 
-/// The property that a form asks: of texts in every language, where it asks for their language. It takes no memory.
+/// The property that a form asks: of texts in every language, where it asks for their language. It
+/// takes no memory.
 pub fn spoken(property: &Property, members: &[Member]) -> Property
     ensures { result ≡ forms.spoken property.now (members_view members.now) }
 {

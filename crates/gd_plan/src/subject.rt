@@ -34,7 +34,8 @@ pub(crate) fn push_object_test(
     constraints: &mut Vec<Constraint>,
     test: &Test,
 ) -> Result<(), Memory>
-    ensures { OnOk result (map constraint_of constraints.new.items ≡ map constraint_of constraints.old.items ++ plan.object_test (test_view test.now)) }
+    ensures { OnOk result (map constraint_of constraints.new.items
+        ≡ map constraint_of constraints.old.items ++ plan.object_test (test_view test.now)) }
 {
     let more = object_constraint(alloc, test)?;
     push_some(constraints, more)
@@ -47,7 +48,9 @@ fn push_asked_value_test(
     kind: Kind,
     test: &Test,
 ) -> Result<(), Memory>
-    ensures { OnOk result (map constraint_of constraints.new.items ≡ map constraint_of constraints.old.items ++ asked_value_test (kind_of kind) (test_view test.now)) }
+    ensures { OnOk result (map constraint_of constraints.new.items
+        ≡ map constraint_of constraints.old.items ++ asked_value_test (kind_of kind)
+        (test_view test.now)) }
 {
     match test {
         Test::Anything => Ok(()),
@@ -55,8 +58,8 @@ fn push_asked_value_test(
     }
 }
 
-/// Puts what the test of a computed member asks of a subject behind other constraints: nothing where its word tells of
-/// another one.
+/// Puts what the test of a computed member asks of a subject behind other constraints: nothing
+/// where its word tells of another one.
 fn push_own_tests(
     alloc: Global,
     constraints: &mut Vec<Constraint>,
@@ -64,7 +67,9 @@ fn push_own_tests(
     own: Own,
     test: &Test,
 ) -> Result<(), Memory>
-    ensures { OnOk result (map constraint_of constraints.new.items ≡ map constraint_of constraints.old.items ++ own_tests subject (own_view own) (test_view test.now)) }
+    ensures { OnOk result (map constraint_of constraints.new.items
+        ≡ map constraint_of constraints.old.items ++ own_tests subject (own_view own)
+        (test_view test.now)) }
 {
     match (subject, own) {
         (Subject::Object, Own::Id | Own::Guid | Own::Timestamp) => {
@@ -84,7 +89,8 @@ fn push_member_tests(
     subject: Subject,
     member: &Member,
 ) -> Result<(), Memory>
-    ensures { OnOk result (map constraint_of constraints.new.items ≡ map constraint_of constraints.old.items ++ tests_on subject (put member.now no_members)) }
+    ensures { OnOk result (map constraint_of constraints.new.items
+        ≡ map constraint_of constraints.old.items ++ tests_on subject (put member.now no_members)) }
 {
     match member {
         Member::Own { own, test, .. } => push_own_tests(alloc, constraints, subject, *own, test),
@@ -99,7 +105,8 @@ pub(crate) fn push_tests(
     subject: Subject,
     members: &[Member],
 ) -> Result<(), Memory>
-    ensures { OnOk result (map constraint_of constraints.new.items ≡ map constraint_of constraints.old.items ++ tests_on subject (members_view members.now)) }
+    ensures { OnOk result (map constraint_of constraints.new.items
+        ≡ map constraint_of constraints.old.items ++ tests_on subject (members_view members.now)) }
 {
     for member in members {
         push_member_tests(alloc, constraints, subject, member)?;

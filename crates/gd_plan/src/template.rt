@@ -1,5 +1,6 @@
 //! The template for which a query stands.
-ghost use Rattle.std.specs.Prelude.{◌≡◌, ◌≢◌, ◌≤◌, ◌<◌, ◌++◌, ◌∷◌, [], false, map, option_map, IfOk, MatchResult};
+ghost use Rattle.std.specs.Prelude.{◌≡◌, ◌≢◌, ◌≤◌, ◌<◌, ◌++◌, ◌∷◌, [], false, map, option_map};
+ghost use Rattle.std.specs.Prelude.{IfOk, MatchResult};
 ghost use Rattle.std.specs.Option.{option_to_list};
 ghost use Rattle.gd_defs.specs.Asked.{no_members};
 ghost use Rattle.gd_defs.specs.Plan as plan;
@@ -10,8 +11,10 @@ ghost use Rattle.gd_template.specs.Built.{view};
 ghost use Rattle.gd_template.specs.Seen.{constraint_of};
 ghost use Rattle.gd_template.specs.View.{parts, clauses_view};
 ghost use Rattle.gd_plan.specs.Asked.{asked_view, asking_view, put, members_view};
-ghost use Rattle.gd_plan.specs.Linked.{value_links, key_clauses, key_links, object_part, object_links, links_of_member};
-ghost use Rattle.gd_plan.specs.Making.{Makes, part_depth, parts_depth, in_front, unless_parts, member_part, member_parts};
+ghost use Rattle.gd_plan.specs.Linked.{value_links, key_clauses, key_links, object_part};
+ghost use Rattle.gd_plan.specs.Linked.{object_links, links_of_member};
+ghost use Rattle.gd_plan.specs.Making.{Makes, part_depth, parts_depth, in_front, unless_parts};
+ghost use Rattle.gd_plan.specs.Making.{member_part, member_parts};
 ghost use Rattle.gd_plan.specs.Seen.{sort_key_view, test_view};
 ghost use Rattle.gd_plan.specs.Subjects.{tests_on};
 
@@ -44,7 +47,9 @@ fn value_constraints(
     kind: Kind,
     clause: &[Member],
 ) -> Result<Vec<Constraint>, Memory>
-    ensures { IfOk result (λ cs. map constraint_of cs.items ≡ plan.property_tests asking.now.property ++ (plan.value_test (kind_of kind) (test_view asking.now.test) ++ plan.link_tests (kind_of kind) (members_view clause.now))) }
+    ensures { IfOk result (λ cs. map constraint_of cs.items
+        ≡ plan.property_tests asking.now.property ++ (plan.value_test (kind_of kind)
+        (test_view asking.now.test) ++ plan.link_tests (kind_of kind) (members_view clause.now))) }
 {
     let mut constraints = links_of(alloc, &asking.property)?;
     push_value_test(alloc, &mut constraints, kind, &asking.test)?;
@@ -58,7 +63,9 @@ fn object_constraints(
     asking: &Asking,
     clause: &[Member],
 ) -> Result<Vec<Constraint>, Memory>
-    ensures { IfOk result (λ cs. map constraint_of cs.items ≡ template.is_object ∷ (plan.object_test (test_view asking.now.test) ++ plan.object_tests (members_view clause.now))) }
+    ensures { IfOk result (λ cs. map constraint_of cs.items ≡ template.is_object
+        ∷ (plan.object_test (test_view asking.now.test) ++ plan.object_tests
+        (members_view clause.now))) }
 {
     let mut constraints = objects(alloc)?;
     push_object_test(alloc, &mut constraints, &asking.test)?;
@@ -66,13 +73,15 @@ fn object_constraints(
     Ok(constraints)
 }
 
-/// What a member asks of an object that the members alone constrain: the namespace of a key, or the root's object.
+/// What a member asks of an object that the members alone constrain: the namespace of a key, or the
+/// root's object.
 fn member_constraints(
     alloc: Global,
     subject: Subject,
     clause: &[Member],
 ) -> Result<Vec<Constraint>, Memory>
-    ensures { IfOk result (λ cs. map constraint_of cs.items ≡ template.is_object ∷ tests_on subject (members_view clause.now)) }
+    ensures { IfOk result (λ cs. map constraint_of cs.items ≡ template.is_object
+        ∷ tests_on subject (members_view clause.now)) }
 {
     let mut constraints = objects(alloc)?;
     push_tests(alloc, &mut constraints, subject, clause)?;
@@ -87,7 +96,8 @@ fn alone(alloc: Global, clause: Clause) -> Result<Vec<Clause>, Memory>
     Ok(clauses)
 }
 
-/// What stands in front of clauses that come of no literal: an optional one that has no answer anywhere.
+/// What stands in front of clauses that come of no literal: an optional one that has no answer
+/// anywhere.
 fn unless_literal(alloc: Global, given: bool) -> Result<Vec<Clause>, Memory>
     ensures { IfOk result (λ cs. map parts cs.items ≡ unless_parts given) }
 {
@@ -134,7 +144,8 @@ fn value_template(
     kind: Kind,
     clause: &[Member],
 ) -> Result<Template, PlanFault>
-    ensures { Makes view template.depth (value_links (asking_view asking.now) (kind_of kind) (members_view clause.now)) result }
+    ensures { Makes view template.depth
+        (value_links (asking_view asking.now) (kind_of kind) (members_view clause.now)) result }
 {
     let constraints = value_constraints(alloc, asking, kind, clause)?;
     let clauses = unless_literal(alloc, asking.given)?;
@@ -143,7 +154,8 @@ fn value_template(
 
 /// The clauses of a member whose answers are keys: on their namespaces.
 fn key_clauses(alloc: Global, asking: &Asking, clause: &[Member]) -> Result<Vec<Clause>, PlanFault>
-    ensures { Makes (λ cs. clauses_view cs.items) template.clauses_depth (key_clauses (asking_view asking.now) (members_view clause.now)) result }
+    ensures { Makes (λ cs. clauses_view cs.items) template.clauses_depth
+        (key_clauses (asking_view asking.now) (members_view clause.now)) result }
 {
     let constraints = member_constraints(alloc, Subject::Namespace, clause)?;
     let far = far_clause(&asking.property, constraints, Vec::new(alloc))?;
@@ -154,7 +166,8 @@ fn key_clauses(alloc: Global, asking: &Asking, clause: &[Member]) -> Result<Vec<
 
 /// The template of the links of a member whose answers are keys.
 fn key_template(alloc: Global, asking: &Asking, clause: &[Member]) -> Result<Template, PlanFault>
-    ensures { Makes view template.depth (key_links (asking_view asking.now) (members_view clause.now)) result }
+    ensures { Makes view template.depth
+        (key_links (asking_view asking.now) (members_view clause.now)) result }
 {
     let constraints = value_constraints(alloc, asking, Kind::Text, clause)?;
     let clauses = key_clauses(alloc, asking, clause)?;
@@ -164,7 +177,8 @@ fn key_template(alloc: Global, asking: &Asking, clause: &[Member]) -> Result<Tem
 /// The clause on the objects that answer a member.
 #[cycle(template)]
 fn object_clause(alloc: Global, asking: &Asking, clause: &[Member]) -> Result<Clause, PlanFault>
-    ensures { Makes parts part_depth (object_part (asking_view asking.now) (members_view clause.now)) result }
+    ensures { Makes parts part_depth
+        (object_part (asking_view asking.now) (members_view clause.now)) result }
 {
     let constraints = object_constraints(alloc, asking, clause)?;
     let front = unless_literal(alloc, asking.given)?;
@@ -184,7 +198,9 @@ fn object_links(alloc: Global, property: &Property, far: Clause) -> Result<Templ
 /// The template of the links of a member whose answers are objects.
 #[cycle(template)]
 fn object_template(alloc: Global, asking: &Asking, clause: &[Member]) -> Result<Template, PlanFault>
-    ensures { Makes view template.depth (object_links asking.now.property (object_part (asking_view asking.now) (members_view clause.now))) result }
+    ensures { Makes view template.depth
+        (object_links asking.now.property
+        (object_part (asking_view asking.now) (members_view clause.now))) result }
 {
     let far = object_clause(alloc, asking, clause)?;
     object_links(alloc, &asking.property, far)
@@ -193,7 +209,8 @@ fn object_template(alloc: Global, asking: &Asking, clause: &[Member]) -> Result<
 /// The template of the links of a member, with the clauses on what stands at their other ends.
 #[cycle(template)]
 fn link_template(alloc: Global, asking: &Asking, clause: &[Member]) -> Result<Template, PlanFault>
-    ensures { Makes view template.depth (links_of_member (asking_view asking.now) (members_view clause.now)) result }
+    ensures { Makes view template.depth
+        (links_of_member (asking_view asking.now) (members_view clause.now)) result }
 {
     match answers_of(&asking.property) {
         Expects::Value(kind) => value_template(alloc, asking, kind, clause),
@@ -205,7 +222,8 @@ fn link_template(alloc: Global, asking: &Asking, clause: &[Member]) -> Result<Te
 /// The clause that a member which asks a property makes.
 #[cycle(template)]
 fn asked_clause(alloc: Global, asking: &Asking, clause: &[Member]) -> Result<Clause, PlanFault>
-    ensures { Makes parts part_depth (member_part (asking_view asking.now) (members_view clause.now)) result }
+    ensures { Makes parts part_depth
+        (member_part (asking_view asking.now) (members_view clause.now)) result }
 {
     let template = link_template(alloc, asking, clause)?;
     let hop = Hop::LinksBy(asked_end(&asking.property));
@@ -215,7 +233,8 @@ fn asked_clause(alloc: Global, asking: &Asking, clause: &[Member]) -> Result<Cla
 /// The clause that a member makes, if it asks a property.
 #[cycle(template)]
 fn member_clause(alloc: Global, member: &Member) -> Result<Option<Clause>, PlanFault>
-    ensures { Makes (λ c. option_to_list (option_map parts c)) parts_depth (member_parts (put member.now no_members)) result }
+    ensures { Makes (λ c. option_to_list (option_map parts c)) parts_depth
+        (member_parts (put member.now no_members)) result }
 {
     match member {
         Member::Own { .. } => Ok(None),
@@ -223,8 +242,8 @@ fn member_clause(alloc: Global, member: &Member) -> Result<Option<Clause>, PlanF
     }
 }
 
-/// The clauses of a clause, behind those that stand in front: one for each member that asks a property, in order, and then
-/// those of the sort keys.
+/// The clauses of a clause, behind those that stand in front: one for each member that asks a
+/// property, in order, and then those of the sort keys.
 #[cycle(template)]
 fn clauses_of(
     alloc: Global,
@@ -232,7 +251,9 @@ fn clauses_of(
     sort: &[SortKey],
     front: Vec<Clause>,
 ) -> Result<Vec<Clause>, PlanFault>
-    ensures { Makes (λ cs. clauses_view cs.items) template.clauses_depth (in_front (map parts front.items) (plan.clauses_of (map sort_key_view sort.now) (members_view members.now))) result }
+    ensures { Makes (λ cs. clauses_view cs.items) template.clauses_depth
+        (in_front (map parts front.items)
+        (plan.clauses_of (map sort_key_view sort.now) (members_view members.now))) result }
 {
     let mut clauses = front;
     for member in members {
@@ -243,12 +264,14 @@ fn clauses_of(
     Ok(clauses)
 }
 
-/// The template of a query: its answers are the rows, and its weights are theirs. `TooDeep`: more than 32 templates would
-/// lie one within another. `Memory`: an allocation was refused.
+/// The template of a query: its answers are the rows, and its weights are theirs. `TooDeep`: more
+/// than 32 templates would lie one within another. `Memory`: an allocation was refused.
 pub fn template_of(alloc: Global, asked: &Asked) -> Result<Template, PlanFault>
-    ensures made { IfOk result (λ template. view template ≡ plan.template_of (asked_view asked.now)) }
+    ensures made { IfOk result (λ template. view template
+        ≡ plan.template_of (asked_view asked.now)) }
     ensures depth { let made = plan.template_of (asked_view asked.now) in
-        MatchResult result (λ _. template.depth made ≤ template.max_depth) (λ fault. fault ≢ PlanFault.Memory → template.max_depth < template.depth made) }
+        MatchResult result (λ _. template.depth made ≤ template.max_depth)
+        (λ fault. fault ≢ PlanFault.Memory → template.max_depth < template.depth made) }
 {
     let constraints = member_constraints(alloc, Subject::Object, &asked.members)?;
     let clauses = clauses_of(alloc, &asked.members, &asked.sort, Vec::new(alloc))?;

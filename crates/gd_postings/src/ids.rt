@@ -67,8 +67,10 @@ impl Ids {
 
     /// Takes the last identity away, if there is one.
     pub(crate) fn pop(&mut self) -> Option<Id>
-        ensures some { IfSome result (λ id. (ids_of self.old ≡ ids_of self.new ++ id ∷ []) × (room_of self.new ≡ room_of self.old + 1)) }
-        ensures none { IfNone result ((ids_of self.old ≡ []) × (ids_of self.new ≡ []) × (room_of self.new ≡ room_of self.old)) }
+        ensures some { IfSome result (λ id. (ids_of self.old ≡ ids_of self.new ++ id ∷ [])
+            × (room_of self.new ≡ room_of self.old + 1)) }
+        ensures none { IfNone result ((ids_of self.old ≡ []) × (ids_of self.new ≡ [])
+            × (room_of self.new ≡ room_of self.old)) }
     {
         match self {
             Ids::Empty => None,

@@ -1,5 +1,6 @@
 //! Identities in an allocation.
-ghost use Rattle.std.specs.Prelude.{◌≡◌, ◌+◌, ◌<◌, ◌≤◌, [], ◌∷◌, ◌++◌, max, IfOk, IfSome, IfNone, OnOk, OnErr};
+ghost use Rattle.std.specs.Prelude.{◌≡◌, ◌+◌, ◌<◌, ◌≤◌, [], ◌∷◌, ◌++◌, max, IfOk, IfSome, IfNone};
+ghost use Rattle.std.specs.Prelude.{OnOk, OnErr};
 
 use gd_base::id::Id;
 use gd_base::memory::Memory;
@@ -71,7 +72,8 @@ impl Many {
 
     /// Takes the last identity away, if there is one.
     pub(crate) fn pop(&mut self) -> Option<Id>
-        ensures some { IfSome result (λ id. (self.old.ids ≡ self.new.ids ++ id ∷ []) × (self.new.spare ≡ self.old.spare + 1)) }
+        ensures some { IfSome result (λ id. (self.old.ids ≡ self.new.ids ++ id ∷ [])
+            × (self.new.spare ≡ self.old.spare + 1)) }
         ensures none { IfNone result ((self.old.ids ≡ []) × (self.new ≡ self.old)) }
     {
         match self.ids.pop() {

@@ -1,5 +1,6 @@
 //! Posting lists.
-ghost use Rattle.std.specs.Prelude.{◌≡◌, ◌+◌, ◌-◌, ◌^◌, ◌<◌, ◌≤◌, ◌↔◌, [], ◌∷◌, ◌++◌, Some, length, slice_get, min, OnOk, OnErr, IfSome, IfNone, IsTrue};
+ghost use Rattle.std.specs.Prelude.{◌≡◌, ◌+◌, ◌-◌, ◌^◌, ◌<◌, ◌≤◌, ◌↔◌, [], ◌∷◌, ◌++◌, Some, length};
+ghost use Rattle.std.specs.Prelude.{slice_get, min, OnOk, OnErr, IfSome, IfNone, IsTrue};
 ghost use Rattle.std.specs.List.{Contains};
 ghost use Rattle.gd_base.specs.Counts.{Rose};
 ghost use Rattle.gd_postings.specs.Postings.{Places, IsRising, IsAbove, ids_below, IsSplit};
@@ -13,9 +14,9 @@ use std::alloc::Global;
 use std::marker::Model;
 use std::mem::size_of;
 
-/// A posting list: identities, each greater than the one before, at most 2,097,151 of them. It takes 16 bytes, and where
-/// it has more than three identities an allocation. Contracts see the list, and `spare`, the number of identities that may
-/// be pushed without memory.
+/// A posting list: identities, each greater than the one before, at most 2,097,151 of them. It
+/// takes 16 bytes, and where it has more than three identities an allocation. Contracts see the
+/// list, and `spare`, the number of identities that may be pushed without memory.
 #[derive(Debug, Drop)]
 pub struct Postings {
     ids: Ids,
@@ -33,7 +34,8 @@ impl Model for Postings {
 
     ghost view = { λ postings. record { ids = ids_of postings.ids; spare = room_of postings.ids } };
 
-    ghost invariant = { λ postings. (length (ids_of postings.ids) ≤ 2_097_151) × IsRising (ids_of postings.ids) };
+    ghost invariant = { λ postings. (length (ids_of postings.ids) ≤ 2_097_151)
+        × IsRising (ids_of postings.ids) };
 }
 
 impl Postings {
@@ -47,8 +49,8 @@ impl Postings {
         }
     }
 
-    /// Makes room for one identity more. It never lowers `spare`. `Memory` leaves all as it was, and comes only where there
-    /// was no room.
+    /// Makes room for one identity more. It never lowers `spare`. `Memory` leaves all as it was,
+    /// and comes only where there was no room.
     pub fn make_room(&mut self) -> Result<(), Memory>
         ensures ids { self.new.ids ≡ self.old.ids }
         ensures ok { OnOk result (0 < self.new.spare) }
@@ -70,10 +72,11 @@ impl Postings {
         self.ids.push(id);
     }
 
-    /// Takes the last identity away, and gives it. Its place is reserved again. None exactly where the list is empty,
-    /// and then all stays.
+    /// Takes the last identity away, and gives it. Its place is reserved again. None exactly where
+    /// the list is empty, and then all stays.
     pub fn pop_last(&mut self) -> Option<Id>
-        ensures some { IfSome result (λ id. (self.old.ids ≡ self.new.ids ++ id ∷ []) × (self.new.spare ≡ self.old.spare + 1)) }
+        ensures some { IfSome result (λ id. (self.old.ids ≡ self.new.ids ++ id ∷ [])
+            × (self.new.spare ≡ self.old.spare + 1)) }
         ensures none { IfNone result ((self.old.ids ≡ []) × (self.new ≡ self.old)) }
     {
         self.ids.pop()
@@ -108,8 +111,8 @@ impl Postings {
         self.as_slice()[k as usize]
     }
 
-    /// The identities that are less than `end`, in rising order. They are found in at most 22 steps, and at least one where
-    /// the list is not empty.
+    /// The identities that are less than `end`, in rising order. They are found in at most 22
+    /// steps, and at least one where the list is not empty.
     #[tactic(auto, using(crate::proofs::Split::are_below))]
     pub fn below<L>(&self, end: Id, steps: &mut Steps<L>) -> &[Id]
         ensures ids { result.now ≡ ids_below end self.now.ids }
@@ -122,7 +125,8 @@ impl Postings {
         &ids[..place]
     }
 
-    /// How many identities are less than `end`, in at most 22 steps, and at least one where the list is not empty.
+    /// How many identities are less than `end`, in at most 22 steps, and at least one where the
+    /// list is not empty.
     pub fn len_below<L>(&self, end: Id, steps: &mut Steps<L>) -> u32
         ensures len { result ≡ length (ids_below end self.now.ids) }
         ensures work { steps.new ≤ steps.old + 22 }
@@ -132,8 +136,8 @@ impl Postings {
         cut(self.as_slice(), end, steps) as u32
     }
 
-    /// The least identity that is `id` or greater, in at most 22 steps, and at least one where the list is not empty.
-    /// None exactly where there is none.
+    /// The least identity that is `id` or greater, in at most 22 steps, and at least one where the
+    /// list is not empty. None exactly where there is none.
     #[tactic(auto, using(crate::proofs::Split::finds, crate::proofs::Split::finds_none))]
     pub fn first_from<L>(&self, id: Id, steps: &mut Steps<L>) -> Option<Id>
         ensures first { result ≡ rising.first_from id self.now.ids }
@@ -150,7 +154,8 @@ impl Postings {
         Some(ids[place])
     }
 
-    /// Whether the identity is in the list, in at most 22 steps, and at least one where the list is not empty.
+    /// Whether the identity is in the list, in at most 22 steps, and at least one where the list is
+    /// not empty.
     pub fn has<L>(&self, id: Id, steps: &mut Steps<L>) -> bool
         ensures has { IsTrue result ↔ Contains self.now.ids id }
         ensures work { steps.new ≤ steps.old + 22 }
@@ -197,7 +202,8 @@ fn halve(ids: &[Id], end: Id, part: Part) -> Part
     }
 }
 
-/// The place before which each identity of a rising list is less than `end`, and from which none is.
+/// The place before which each identity of a rising list is less than `end`, and from which none
+/// is.
 fn search<L>(ids: &[Id], end: Id, steps: &mut Steps<L>) -> usize
     requires few { length ids.now ≤ 2_097_151 }
     requires rising { IsRising ids.now }
@@ -233,8 +239,8 @@ fn lies_below(ids: &[Id], end: Id) -> bool
     ids[count - 1].place() < end.place()
 }
 
-/// The same place as `search` gives. Where all identities are less than `end`, as where the end is that of the list of all
-/// primitives, it is found in one step.
+/// The same place as `search` gives. Where all identities are less than `end`, as where the end is
+/// that of the list of all primitives, it is found in one step.
 fn cut<L>(ids: &[Id], end: Id, steps: &mut Steps<L>) -> usize
     requires few { length ids.now ≤ 2_097_151 }
     requires rising { IsRising ids.now }

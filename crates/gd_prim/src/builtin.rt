@@ -145,8 +145,8 @@ fn push_names(alloc: Global, prims: &mut Vec<Primitive>, rows: &[(u32, &str)]) -
     Ok(())
 }
 
-/// The built-in primitives, places 0 to 69: objects, their keys, their types, the expected types of properties, the
-/// marks of unique properties, and names.
+/// The built-in primitives, places 0 to 69: objects, their keys, their types, the expected types of
+/// properties, the marks of unique properties, and names.
 pub fn builtin(alloc: Global) -> Result<Vec<Primitive>, Memory>
     ensures listed { IfOk result (λ prims. prims.items ≡ listed.builtin) }
     ensures seventy { IfOk result (λ prims. length prims.items ≡ 70) }

@@ -1,7 +1,8 @@
 //! Primitives, batches of them, and the list with which every store begins.
 #![tactic(auto)]
 
-ghost use Rattle.std.specs.Prelude.{◌≡◌, ◌↔◌, [], ◌∷◌, ◌++◌, take, length, IsTrue, IfOk, OnOk, OnErr};
+ghost use Rattle.std.specs.Prelude.{◌≡◌, ◌↔◌, [], ◌∷◌, ◌++◌, take, length, IsTrue, IfOk, OnOk};
+ghost use Rattle.std.specs.Prelude.{OnErr};
 ghost use Rattle.gd_prim.specs.End.{end_of};
 ghost use Rattle.gd_prim.specs.Live.{language_of};
 ghost use Rattle.gd_prim.specs.New as new;
@@ -30,8 +31,8 @@ pub enum End {
     Scope,
 }
 
-/// One primitive: an object where `typ` is absent, else a link. It never changes; a newer version is a primitive of its
-/// own that names the one before it.
+/// One primitive: an object where `typ` is absent, else a link. It never changes; a newer version
+/// is a primitive of its own that names the one before it.
 #[derive(Drop)]
 pub struct Primitive {
     /// The object that a link goes from.

@@ -22,8 +22,8 @@ pub(crate) fn has_successor(prims: &[Primitive], place: Id) -> bool
     prims.iter().any(|prim| refers(prim.previous, place))
 }
 
-/// Whether the place is marked live and no primitive of the list has it as `previous`. A place past the end is not
-/// live.
+/// Whether the place is marked live and no primitive of the list has it as `previous`. A place past
+/// the end is not live.
 pub fn live_at(prims: &[Primitive], id: Id) -> bool
     ensures { result ≡ defined.is_live prims.now id }
 {

@@ -1,5 +1,6 @@
 //! Which batches may follow a list of primitives.
-ghost use Rattle.std.specs.Prelude.{◌≡◌, ◌<◌, ◌≤◌, ◌++◌, IsTrue, List, None, Some, length, MatchResult, is_some};
+ghost use Rattle.std.specs.Prelude.{◌≡◌, ◌<◌, ◌≤◌, ◌++◌, IsTrue, List, None, Some, length};
+ghost use Rattle.std.specs.Prelude.{MatchResult, is_some};
 ghost use Rattle.gd_prim.specs.Live as graph;
 ghost use Rattle.gd_prim.specs.Live.{text_of};
 ghost use Rattle.gd_prim.specs.WellFormed as defined;
@@ -75,7 +76,8 @@ impl Prior for &[Primitive] {
     }
 }
 
-/// Whether the previous primitive, if there is one, is current in the two lists one behind the other.
+/// Whether the previous primitive, if there is one, is current in the two lists one behind the
+/// other.
 fn succeeds_current<P: Prior>(prior: &P, earlier: &[Primitive], previous: Option<Id>) -> bool
     ensures { result ≡ defined.succeeds_current (P.prims prior.now ++ earlier.now) previous }
 {
@@ -115,7 +117,8 @@ fn may_hold(value: &Datum) -> bool
     }
 }
 
-/// Whether the language that the primitive names, if it names one, is not English and that of a text.
+/// Whether the language that the primitive names, if it names one, is not English and that of a
+/// text.
 fn may_name_language(prim: &Primitive) -> bool
     ensures { result ≡ defined.may_name_language prim.now }
 {
@@ -125,11 +128,13 @@ fn may_name_language(prim: &Primitive) -> bool
     }
 }
 
-/// Whether the primitive keeps the rules behind the two lists, of which the second is what its batch has before it.
+/// Whether the primitive keeps the rules behind the two lists, of which the second is what its
+/// batch has before it.
 fn is_well_placed<P: Prior>(prior: &P, earlier: &[Primitive], moment: u64, prim: &Primitive) -> bool
     requires prior { length (P.prims prior.now) ≤ 2_097_151 }
     requires earlier { length earlier.now ≤ 4_096 }
-    ensures keeps { result ≡ defined.is_well_placed (P.prims prior.now ++ earlier.now) moment (length earlier.now) prim.now }
+    ensures keeps { result ≡ defined.is_well_placed (P.prims prior.now ++ earlier.now) moment
+        (length earlier.now) prim.now }
     ensures room { IsTrue result → length earlier.now < 4_096 }
 {
     let place = prior.count() + earlier.len();
@@ -144,8 +149,9 @@ fn is_well_placed<P: Prior>(prior: &P, earlier: &[Primitive], moment: u64, prim:
         && succeeds_current(prior, earlier, prim.previous)
 }
 
-/// The same as `is_well_formed` of any list that says which of its primitives have a successor. For each primitive that
-/// has a `previous` it asks the list once, and looks at what the batch has before it. It takes no memory.
+/// The same as `is_well_formed` of any list that says which of its primitives have a successor. For
+/// each primitive that has a `previous` it asks the list once, and looks at what the batch has
+/// before it. It takes no memory.
 pub fn is_well_formed_behind<P: Prior>(prior: &P, batch: &Batch) -> Result<(), BadBatch>
     requires { length (P.prims prior.now) ≤ 2_097_151 }
     ensures { MatchResult result (λ _. defined.bad_place (P.prims prior.now) batch.now ≡ None)
@@ -161,11 +167,13 @@ pub fn is_well_formed_behind<P: Prior>(prior: &P, batch: &Batch) -> Result<(), B
     Ok(())
 }
 
-/// Whether the batch may follow these primitives. `BadBatch`: some primitive of it breaks a rule, with the place of the
-/// first that does. The rules: each reference is below the primitive's own place; `previous` names a place that is
-/// current among the primitives before; a primitive that is not live has a `previous`; the value is no `Object`, and a
-/// `Moment` lies in the years 0000 to 9999; a `lang` is not English, and is that of a text; the primitive's moment is the batch's, and at most `MAX_MOMENT`; the place
-/// is below `MAX_PRIMS`; the primitive is among the first `MAX_BATCH` of its batch. It takes no memory.
+/// Whether the batch may follow these primitives. `BadBatch`: some primitive of it breaks a rule,
+/// with the place of the first that does. The rules: each reference is below the primitive's own
+/// place; `previous` names a place that is current among the primitives before; a primitive that is
+/// not live has a `previous`; the value is no `Object`, and a `Moment` lies in the years 0000 to
+/// 9999; a `lang` is not English, and is that of a text; the primitive's moment is the batch's, and
+/// at most `MAX_MOMENT`; the place is below `MAX_PRIMS`; the primitive is among the first
+/// `MAX_BATCH` of its batch. It takes no memory.
 pub fn is_well_formed(prior: &[Primitive], batch: &Batch) -> Result<(), BadBatch>
     requires { length prior.now ≤ 2_097_151 }
     ensures { MatchResult result (λ _. defined.bad_place prior.now batch.now ≡ None)

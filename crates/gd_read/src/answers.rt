@@ -69,7 +69,8 @@ fn holds_expected(linked: &LinkedPrims, expects: Expects, link: &Primitive) -> b
 
 /// Whether a link is one of a property, and holds what that expects in its direction.
 fn holds(linked: &LinkedPrims, property: &Property, link: &Primitive) -> bool
-    ensures { result ≡ (defs.is_of property.now link.now && holds linked.now property.now link.now) }
+    ensures { result ≡ (defs.is_of property.now link.now && holds linked.now property.now
+        link.now) }
 {
     if !is_of(property, link) {
         return false;
@@ -83,7 +84,8 @@ fn holds(linked: &LinkedPrims, property: &Property, link: &Primitive) -> bool
 
 /// Whether a link of the property stands at the place, and holds what that expects.
 fn holds_at(linked: &LinkedPrims, property: &Property, place: Id) -> bool
-    ensures { result ≡ live.passes_at (λ k. defs.is_of property.now k && holds linked.now property.now k) linked.now place }
+    ensures { result ≡ live.passes_at
+        (λ k. defs.is_of property.now k && holds linked.now property.now k) linked.now place }
 {
     match linked.prims().get(place.place() as usize) {
         Some(link) => holds(linked, property, link),

@@ -67,7 +67,8 @@ impl ReadFault {
     pub fn line(self, alloc: Global, latest: u32, line: u64) -> Result<Vec<u8>, Memory>
         requires line { line < 2 ^ 63 }
         requires offset { HasOffset self }
-        ensures refused { IfOk result (λ bytes. bytes.items ≡ err_line_of (fault_at latest self).0 line (fault_at latest self).1) }
+        ensures refused { IfOk result (λ bytes. bytes.items ≡ err_line_of (fault_at latest self).0
+            line (fault_at latest self).1) }
         ensures memory { IfOk result (λ _. self ≢ ReadFault.Memory) }
     {
         let (dateline, refusal) = match self {

@@ -65,7 +65,8 @@ fn value_at(prims: &[Primitive], place: Id) -> Result<Datum, Memory>
 /// The sort key that stands at a place.
 fn key_value(prims: &[Primitive], key: &SortKey, place: Id) -> Result<Datum, Memory>
     requires { AreTimed prims.now }
-    ensures { IfOk result (λ datum. datum ≡ defs.key_value prims.now (sort_key_view key.now) place) }
+    ensures { IfOk result (λ datum. datum ≡ defs.key_value prims.now (sort_key_view key.now)
+        place) }
 {
     match key {
         SortKey::Guid { .. } => Ok(Datum::Object(place)),
@@ -99,7 +100,8 @@ fn keys_of(
     object: Id,
 ) -> Result<Vec<Key>, Memory>
     requires { AreTimed linked.now }
-    ensures keys { IfOk result (λ keys. keys.items ≡ map (own_key linked.now object) (map sort_key_view sort.now)) }
+    ensures keys { IfOk result (λ keys. keys.items ≡ map (own_key linked.now object)
+        (map sort_key_view sort.now)) }
     ensures count { IfOk result (λ keys. length keys.items ≡ length sort.now) }
 {
     let mut keys = Vec::with_capacity(alloc, sort.len())?;
@@ -121,7 +123,8 @@ pub fn row_of(
 ) -> Result<Row, Memory>
     requires timed { AreTimed linked.now }
     requires few { length sort.now ≤ 4 }
-    ensures { IfOk result (λ row. row ≡ with_values linked.now (map sort_key_view sort.now) (defs.row_of linked.now (map sort_key_view sort.now) 0 object)) }
+    ensures { IfOk result (λ row. row ≡ with_values linked.now (map sort_key_view sort.now)
+        (defs.row_of linked.now (map sort_key_view sort.now) 0 object)) }
 {
     let keys = keys_of(alloc, linked, sort, object)?;
     Ok(Row {
@@ -187,7 +190,8 @@ pub fn mark_row(
     requires end { length prims.now ≤ 2_097_151 }
     requires few { length sort.now ≤ 4 }
     ensures { IfOk result (λ row. row ≡ with_values prims.now (map sort_key_view sort.now)
-        (reply.mark_row prims.now (map sort_key_view sort.now) (record { object = object; keys = places.now }))) }
+        (reply.mark_row prims.now (map sort_key_view sort.now)
+        (record { object = object; keys = places.now }))) }
 {
     let keys = mark_keys(alloc, prims, sort, places)?;
     Ok(Row {

@@ -32,7 +32,8 @@ fn places_of(keys: &[Key]) -> Places
 
 /// The text of a cursor that marks a row. `Memory`: an allocation was refused.
 pub(crate) fn row_text(alloc: Global, dateline: u32, row: &Row) -> Result<Json, Memory>
-    ensures { IfOk result (λ json. json_view json ≡ tree.text (cursor_text dateline (reply.row_mark (defined row.now)))) }
+    ensures { IfOk result (λ json. json_view json
+        ≡ tree.text (cursor_text dateline (reply.row_mark (defined row.now)))) }
 {
     let places = places_of(row.keys.as_slice());
     let text = mark_text(alloc, dateline, row.id, places.as_slice())?;
@@ -48,7 +49,8 @@ fn printed_line(
     outcome: Json,
 ) -> Result<Vec<u8>, Memory>
     requires { line < 2 ^ 63 }
-    ensures { IfOk result (λ bytes. bytes.items ≡ reply.result_line dateline line (option_map json_view cursor) (Ok (json_view outcome))) }
+    ensures { IfOk result (λ bytes. bytes.items ≡ reply.result_line dateline line
+        (option_map json_view cursor) (Ok (json_view outcome))) }
 {
     let bytes = match cursor {
         Some(cursor) => ok_cursor_line(alloc, dateline, line, cursor, outcome)?,
@@ -67,7 +69,8 @@ pub(crate) fn result_line(
     printed: Result<Json, Path>,
 ) -> Result<Vec<u8>, Memory>
     requires { line < 2 ^ 63 }
-    ensures { IfOk result (λ bytes. bytes.items ≡ reply.result_line dateline line (option_map json_view cursor) (printed_view printed)) }
+    ensures { IfOk result (λ bytes. bytes.items ≡ reply.result_line dateline line
+        (option_map json_view cursor) (printed_view printed)) }
 {
     match printed {
         Ok(outcome) => printed_line(alloc, dateline, line, cursor, outcome),

@@ -1,5 +1,6 @@
 //! Readings that print their page.
-ghost use Rattle.std.specs.Prelude.{◌≡◌, ◌+◌, ◌<◌, ◌≤◌, ◌^◌, ℕ, [], Some, None, map, length, take, nat_lt, option_map, if◌then◌else◌, IfOk, codes};
+ghost use Rattle.std.specs.Prelude.{◌≡◌, ◌+◌, ◌<◌, ◌≤◌, ◌^◌, ℕ, [], Some, None, map, length, take};
+ghost use Rattle.std.specs.Prelude.{nat_lt, option_map, if◌then◌else◌, IfOk, codes};
 ghost use Rattle.gd_defs.specs.Lines.{err_line as err_line_of, refused_at};
 ghost use Rattle.gd_defs.specs.Reply as reply;
 ghost use Rattle.gd_json.specs.View.{view as json_view};
@@ -34,7 +35,8 @@ use std::alloc::Global;
 /// The reply that says that more than one object was found where one is asked.
 fn many_line(alloc: Global, subject: &Subject, line: u64) -> Result<Vec<u8>, Memory>
     requires { line < 2 ^ 63 }
-    ensures { IfOk result (λ bytes. bytes.items ≡ err_line_of subject.now.dateline line (refused_at (codes "NotUnique") [])) }
+    ensures { IfOk result (λ bytes. bytes.items ≡ err_line_of subject.now.dateline line
+        (refused_at (codes "NotUnique") [])) }
 {
     let path = Path::root(alloc);
     err_line(alloc, subject.dateline, line, &Refusal::NotUnique { path })
@@ -42,7 +44,8 @@ fn many_line(alloc: Global, subject: &Subject, line: u64) -> Result<Vec<u8>, Mem
 
 /// Whether more than one object was found where one is asked.
 fn are_many(plan: &Plan, window: &Window) -> bool
-    ensures { result ≡ reply.is_ambiguous (asked_view plan.now).single (length (rows_of window.now)) }
+    ensures { result ≡ reply.is_ambiguous (asked_view plan.now).single
+        (length (rows_of window.now)) }
 {
     plan.asked().single && window.rows().len() > 1
 }
@@ -60,7 +63,8 @@ pub(crate) fn print_page(
     requires line { line < 2 ^ 63 }
     requires built { IsBuilt view.now subject.now plan body window.now }
     ensures gives { IfOk result (λ round. RoundGives view.now subject.now line window.now round) }
-    ensures left { (n : ℕ) → IfOk result (λ round. round_left n view.now window.now round ≤ shape_most n) }
+    ensures left { (n : ℕ) → IfOk result
+        (λ round. round_left n view.now window.now round ≤ shape_most n) }
 {
     if are_many(&plan, window) {
         drop(plan);
@@ -74,7 +78,8 @@ pub(crate) fn print_page(
 /// The cursor of a page, of the rows that are kept: it marks the last row, and is false where no
 /// row follows.
 fn page_cursor(alloc: Global, dateline: u32, rows: &[Row], limit: u32) -> Result<Json, Memory>
-    ensures { IfOk result (λ json. json_view json ≡ reply.page_cursor dateline (map defined (take limit rows.now)) (nat_lt limit (length rows.now))) }
+    ensures { IfOk result (λ json. json_view json ≡ reply.page_cursor dateline
+        (map defined (take limit rows.now)) (nat_lt limit (length rows.now))) }
 {
     if rows.len() <= limit as usize {
         return Ok(Json::Bool(false));
@@ -87,8 +92,10 @@ fn page_cursor(alloc: Global, dateline: u32, rows: &[Row], limit: u32) -> Result
 
 /// The cursor of a page, if the reply tells one.
 fn asked_cursor(alloc: Global, subject: &Subject, window: &Window) -> Result<Option<Json>, Memory>
-    ensures { IfOk result (λ cursor. option_map json_view cursor ≡ (if asks_page (cursor_view subject.now.request.cursor)
-        then Some (reply.page_cursor subject.now.dateline (page_rows window.now) (nat_lt window.now.limit (length (rows_of window.now)))) else None)) }
+    ensures { IfOk result (λ cursor. option_map json_view cursor
+        ≡ (if asks_page (cursor_view subject.now.request.cursor)
+        then Some (reply.page_cursor subject.now.dateline (page_rows window.now)
+        (nat_lt window.now.limit (length (rows_of window.now)))) else None)) }
 {
     if subject.with_cursor() {
         Ok(Some(page_cursor(alloc, subject.dateline, window.rows(), window.limit())?))
@@ -107,8 +114,11 @@ fn page_line(
     printed: Result<Json, Path>,
 ) -> Result<Vec<u8>, Memory>
     requires { line < 2 ^ 63 }
-    ensures { IfOk result (λ bytes. bytes.items ≡ reply.result_line subject.now.dateline line (if asks_page (cursor_view subject.now.request.cursor)
-        then Some (reply.page_cursor subject.now.dateline (page_rows window.now) (nat_lt window.now.limit (length (rows_of window.now)))) else None) (printed_view printed)) }
+    ensures { IfOk result (λ bytes. bytes.items ≡ reply.result_line subject.now.dateline line
+        (if asks_page (cursor_view subject.now.request.cursor)
+        then Some (reply.page_cursor subject.now.dateline (page_rows window.now)
+        (nat_lt window.now.limit (length (rows_of window.now)))) else None)
+        (printed_view printed)) }
 {
     let cursor = asked_cursor(alloc, subject, window)?;
     result_line(alloc, subject.dateline, line, cursor, printed)
@@ -128,7 +138,8 @@ pub(crate) fn print_on<L>(
     requires budget { 0 < budget }
     requires line { line < 2 ^ 63 }
     requires prints { Prints view.now subject.now shape window.now }
-    ensures { RoundGoes view.now subject.now line (λ n. shape_left n shape) window.now steps.old steps.new (budget + 1024) result }
+    ensures { RoundGoes view.now subject.now line (λ n. shape_left n shape) window.now steps.old
+        steps.new (budget + 1024) result }
 {
     match shape.resume(alloc, view, budget, steps) {
         Ok(ShapeTurn::Reply(json)) => {

@@ -1,5 +1,7 @@
 //! A read that is suspended between slices.
-ghost use Rattle.std.specs.Prelude.{◌≡◌, ◌≢◌, ◌+◌, ◌-◌, ◌<◌, ◌≤◌, ◌^◌, ℕ, [], true, Some, Ok, Err, length, take, min, option_map, MatchResult, MatchOption, IfOk, IfErr, IsNone};
+ghost use Rattle.std.specs.Prelude.{◌≡◌, ◌≢◌, ◌+◌, ◌-◌, ◌<◌, ◌≤◌, ◌^◌, ℕ, [], true, Some, Ok, Err};
+ghost use Rattle.std.specs.Prelude.{length, take, min, option_map, MatchResult, MatchOption, IfOk};
+ghost use Rattle.std.specs.Prelude.{IfErr, IsNone};
 ghost use Rattle.gd_base.specs.Counts.{Rose};
 ghost use Rattle.gd_prim.specs.History.{prims_of};
 ghost use Rattle.gd_defs.specs.Asked.{asked_query};
@@ -13,7 +15,8 @@ ghost use Rattle.gd_frozen.specs.Meant.{meant};
 ghost use Rattle.gd_window.specs.Kept.{HasSeen};
 ghost use Rattle.gd_read.specs.Marked.{mark_of};
 ghost use Rattle.gd_suspended_laws.specs.Standing.{window_of};
-ghost use Rattle.gd_read.specs.Begun.{fault_at, HasOffset, asked_from, dateline_from, Begins, IsMeaningless};
+ghost use Rattle.gd_read.specs.Begun.{fault_at, HasOffset, asked_from, dateline_from, Begins};
+ghost use Rattle.gd_read.specs.Begun.{IsMeaningless};
 ghost use Rattle.gd_read.specs.Subject.{line_of};
 ghost use Rattle.gd_read.specs.Stages.{IsAsked};
 ghost use Rattle.gd_read.specs.Reading.{reading_view, IsGoing, Replies, is_unfinished};
@@ -59,7 +62,8 @@ pub struct Reading {
 
 /// The cursor of a text, whose dateline is not above the latest one.
 fn cursor_in(latest: u32, text: &JsonText) -> Result<Cursor, ReadFault>
-    ensures given { Begins latest (λ c. Some (meant c)) (asked_from latest (page_after text.now)) result }
+    ensures given { Begins latest (λ c. Some (meant c)) (asked_from latest (page_after text.now))
+        result }
     ensures below { IfOk result (λ c. c.dateline ≤ latest) }
     ensures offset { IfErr result (λ fault. HasOffset fault) }
 {
@@ -80,7 +84,8 @@ fn cursor_in(latest: u32, text: &JsonText) -> Result<Cursor, ReadFault>
 
 /// The cursor from which a read asks, if there is one.
 fn cursor_asked(latest: u32, ask: &CursorAsk) -> Result<Option<Cursor>, ReadFault>
-    ensures given { Begins latest (λ after. option_map meant after) (asked_from latest (cursor_view ask.now)) result }
+    ensures given { Begins latest (λ after. option_map meant after)
+        (asked_from latest (cursor_view ask.now)) result }
     ensures below { IfOk result (λ after. dateline_from latest (option_map meant after) ≤ latest) }
     ensures offset { IfErr result (λ fault. HasOffset fault) }
 {
@@ -102,7 +107,8 @@ fn dateline_behind(latest: u32, after: &Option<Cursor>) -> u32
 
 /// Why a reading of a query that has no meaning at a dateline does not begin.
 fn meaning_fault(dateline: u32, unknown: Unknown) -> ReadFault
-    ensures fault { (latest : ℕ) → result ≢ ReadFault.Memory → fault_at latest result ≡ (dateline, unknown_refusal (unknown_of unknown)) }
+    ensures fault { (latest : ℕ) → result ≢ ReadFault.Memory
+        → fault_at latest result ≡ (dateline, unknown_refusal (unknown_of unknown)) }
     ensures memory { result ≢ ReadFault.Memory → unknown ≢ Unknown.Memory }
     ensures offset { HasOffset result }
 {
@@ -126,8 +132,11 @@ fn plan_at<L>(
     steps: &mut Steps<L>,
 ) -> Result<Plan, ReadFault>
     ensures planned { MatchResult result
-        (λ plan. asked_query (prims_of view.now) (read_view request.now).query ≡ Ok (asked_view plan))
-        (λ fault. fault ≢ ReadFault.Memory → (latest : ℕ) → IsMeaningless (length view.now) (asked_query (prims_of view.now) (read_view request.now).query) (fault_at latest fault)) }
+        (λ plan. asked_query (prims_of view.now) (read_view request.now).query
+        ≡ Ok (asked_view plan))
+        (λ fault. fault ≢ ReadFault.Memory → (latest : ℕ)
+        → IsMeaningless (length view.now)
+        (asked_query (prims_of view.now) (read_view request.now).query) (fault_at latest fault)) }
     ensures offset { IfErr result (λ fault. HasOffset fault) }
     ensures later { steps.old ≤ steps.new }
 {
@@ -146,7 +155,8 @@ fn begun_with(
     plan: Plan,
 ) -> Result<Reading, Memory>
     requires asked { IsAsked view.now subject (asked_view plan) }
-    requires made { window ≡ window_of (prims_of view.now) (asked_view plan) (mark_of subject.after) [] }
+    requires made { window ≡ window_of (prims_of view.now) (asked_view plan) (mark_of subject.after)
+        [] }
     requires seen { HasSeen window [] }
     ensures subject { IfOk result (λ reading. reading.subject ≡ subject) }
     ensures going { IfOk result (λ reading. IsGoing view.now reading) }
@@ -190,8 +200,11 @@ fn begin_at<L>(
     steps: &mut Steps<L>,
 ) -> Result<Reading, ReadFault>
     ensures begun { MatchResult result
-        (λ reading. core.with_meaning [] (read_view request) (length view.now) (mark_of after) (asked_query (prims_of view.now) (read_view request).query) ≡ Ok (reading_view reading))
-        (λ fault. fault ≢ ReadFault.Memory → (latest : ℕ) → core.with_meaning [] (read_view request) (length view.now) (mark_of after) (asked_query (prims_of view.now) (read_view request).query) ≡ Err (fault_at latest fault)) }
+        (λ reading. core.with_meaning [] (read_view request) (length view.now) (mark_of after)
+        (asked_query (prims_of view.now) (read_view request).query) ≡ Ok (reading_view reading))
+        (λ fault. fault ≢ ReadFault.Memory → (latest : ℕ)
+        → core.with_meaning [] (read_view request) (length view.now) (mark_of after)
+        (asked_query (prims_of view.now) (read_view request).query) ≡ Err (fault_at latest fault)) }
     ensures going { IfOk result (λ reading. IsGoing view.now reading) }
     ensures offset { IfErr result (λ fault. HasOffset fault) }
     ensures later { steps.old ≤ steps.new }
@@ -227,10 +240,12 @@ impl Reading {
         request: ReadRequest,
         steps: &mut Steps<L>,
     ) -> Result<Reading, ReadFault>
-        ensures begun { Begins (length view.now) reading_view (core.reading_of view.now (length view.now) (read_view request)) result }
+        ensures begun { Begins (length view.now) reading_view
+            (core.reading_of view.now (length view.now) (read_view request)) result }
 
         // The reading goes on over the batches below its dateline.
-        ensures going { IfOk result (λ reading. IsGoing (take (reading_view reading).dateline view.now) reading) }
+        ensures going { IfOk result (λ reading. IsGoing
+            (take (reading_view reading).dateline view.now) reading) }
         ensures below { IfOk result (λ reading. (reading_view reading).dateline ≤ length view.now) }
         ensures offset { IfErr result (λ fault. HasOffset fault) }
         ensures later { steps.old ≤ steps.new }
@@ -267,10 +282,12 @@ impl Reading {
         requires budget { 0 < budget }
         requires line { line < 2 ^ 63 }
         requires going { IsGoing view.now self.old }
-        ensures gives { IfOk result (λ reply. MatchOption reply (IsGoing view.now self.new) (λ bytes. bytes.items ≡ line_of view.now self.old.subject line)) }
+        ensures gives { IfOk result (λ reply. MatchOption reply (IsGoing view.now self.new)
+            (λ bytes. bytes.items ≡ line_of view.now self.old.subject line)) }
         ensures subject { self.new.subject ≡ self.old.subject }
         ensures counted { IfOk result (λ reply. IsNone reply → Rose steps.old steps.new) }
-        ensures less { (n : ℕ) → IsPastIds n → steps.new + reading_left n view.now self.new ≤ steps.old + reading_left n view.now self.old }
+        ensures less { (n : ℕ) → IsPastIds n → steps.new + reading_left n view.now self.new
+            ≤ steps.old + reading_left n view.now self.old }
         ensures work { steps.new ≤ steps.old + budget + 1024 }
         ensures later { steps.old ≤ steps.new }
     {
@@ -312,16 +329,20 @@ impl Reading {
 
         // The view stands for the batches below the dateline with which the reading began.
         requires going { IsGoing view.now self.old }
-        ensures reply { IfOk result (λ progress. Replies (core.owed_line view.now line (reading_view self.old)) progress) }
+        ensures reply { IfOk result (λ progress. Replies
+            (core.owed_line view.now line (reading_view self.old)) progress) }
 
         // Unfinished it is the same reading, and owes the same.
         ensures same { reading_view self.new ≡ reading_view self.old }
-        ensures still { IfOk result (λ progress. is_unfinished progress ≡ true → IsGoing view.now self.new) }
-        ensures reached { IfOk result (λ progress. is_unfinished progress ≡ true → min (steps.old + budget) (2 ^ 64 - 1) ≤ steps.new) }
+        ensures still { IfOk result (λ progress. is_unfinished progress ≡ true
+            → IsGoing view.now self.new) }
+        ensures reached { IfOk result (λ progress. is_unfinished progress ≡ true
+            → min (steps.old + budget) (2 ^ 64 - 1) ≤ steps.new) }
 
         // What is left falls by at least the steps of the slice, whatever it comes to; `n` is a
         // number that no id reaches.
-        ensures less { (n : ℕ) → IsPastIds n → steps.new + reading_left n view.now self.new ≤ steps.old + reading_left n view.now self.old }
+        ensures less { (n : ℕ) → IsPastIds n → steps.new + reading_left n view.now self.new
+            ≤ steps.old + reading_left n view.now self.old }
         ensures work { steps.new ≤ steps.old + budget + 1024 }
         ensures later { steps.old ≤ steps.new }
     {

@@ -1,10 +1,12 @@
 //! What a session holds of its reading, without a seat.
-ghost use Rattle.std.specs.Prelude.{◌≡◌, ◌≢◌, ◌+◌, ◌-◌, ◌<◌, ◌≤◌, ◌^◌, ℕ, true, None, Some, length, min, option_map, IfOk, IfErr};
+ghost use Rattle.std.specs.Prelude.{◌≡◌, ◌≢◌, ◌+◌, ◌-◌, ◌<◌, ◌≤◌, ◌^◌, ℕ, true, None, Some, length};
+ghost use Rattle.std.specs.Prelude.{min, option_map, IfOk, IfErr};
 ghost use Rattle.gd_mql.specs.Requests.{read_view};
 ghost use Rattle.gd_runs.specs.Core as core;
 ghost use Rattle.gd_read.specs.Left.{IsPastIds};
 ghost use Rattle.gd_read.specs.Reading.{reading_view, Replies, is_unfinished};
-ghost use Rattle.gd_read.specs.Session.{reads, GoesOn, HoldsGoing, left_of, session_left, BeginsAs, SlicesAs};
+ghost use Rattle.gd_read.specs.Session.{reads, GoesOn, HoldsGoing, left_of, session_left, BeginsAs};
+ghost use Rattle.gd_read.specs.Session.{SlicesAs};
 
 use crate::fault::ReadFault;
 use crate::reading::{Progress, Reading};
@@ -33,11 +35,15 @@ fn slice_over<L>(
     requires budget { 0 < budget }
     requires line { line < 2 ^ 63 }
     requires going { GoesOn store.now (length store.now) reading.old }
-    ensures reply { IfOk result (λ progress. Replies (core.owed_line store.now line (reading_view reading.old)) progress) }
+    ensures reply { IfOk result (λ progress. Replies
+        (core.owed_line store.now line (reading_view reading.old)) progress) }
     ensures same { reading_view reading.new ≡ reading_view reading.old }
-    ensures still { IfOk result (λ progress. is_unfinished progress ≡ true → (shown : ℕ) → GoesOn store.now shown reading.old → GoesOn store.now shown reading.new) }
-    ensures reached { IfOk result (λ progress. is_unfinished progress ≡ true → min (steps.old + budget) (2 ^ 64 - 1) ≤ steps.new) }
-    ensures less { (n : ℕ) → IsPastIds n → steps.new + left_of n store.now reading.new ≤ steps.old + left_of n store.now reading.old }
+    ensures still { IfOk result (λ progress. is_unfinished progress ≡ true → (shown : ℕ)
+        → GoesOn store.now shown reading.old → GoesOn store.now shown reading.new) }
+    ensures reached { IfOk result (λ progress. is_unfinished progress ≡ true
+        → min (steps.old + budget) (2 ^ 64 - 1) ≤ steps.new) }
+    ensures less { (n : ℕ) → IsPastIds n → steps.new + left_of n store.now reading.new
+        ≤ steps.old + left_of n store.now reading.old }
     ensures work { steps.new ≤ steps.old + budget + 1024 }
     ensures later { steps.old ≤ steps.new }
 {
@@ -116,12 +122,15 @@ impl SessionState {
         ensures slices { SlicesAs store.now line self.old result self.new }
 
         // What is held goes on where it went on before, however much is shown.
-        ensures still { (shown : ℕ) → HoldsGoing store.now shown self.old → HoldsGoing store.now shown self.new }
-        ensures reached { IfOk result (λ progress. is_unfinished progress ≡ true → min (steps.old + budget) (2 ^ 64 - 1) ≤ steps.new) }
+        ensures still { (shown : ℕ) → HoldsGoing store.now shown self.old
+            → HoldsGoing store.now shown self.new }
+        ensures reached { IfOk result (λ progress. is_unfinished progress ≡ true
+            → min (steps.old + budget) (2 ^ 64 - 1) ≤ steps.new) }
 
         // What is left falls by at least the steps of the slice, whatever it comes to; `n` is a
         // number that no id reaches.
-        ensures less { (n : ℕ) → IsPastIds n → steps.new + session_left n store.now self.new ≤ steps.old + session_left n store.now self.old }
+        ensures less { (n : ℕ) → IsPastIds n → steps.new + session_left n store.now self.new
+            ≤ steps.old + session_left n store.now self.old }
         ensures work { steps.new ≤ steps.old + budget + 1024 }
         ensures later { steps.old ≤ steps.new }
     {

@@ -69,7 +69,8 @@ impl Stage {
         requires budget { 0 < budget }
         requires line { line < 2 ^ 63 }
         requires owes { StageOwes view.now subject.now self window.old }
-        ensures { RoundGoes view.now subject.now line (λ n. stage_left n view.now window.old self) window.new steps.old steps.new (budget + 1024) result }
+        ensures { RoundGoes view.now subject.now line (λ n. stage_left n view.now window.old self)
+            window.new steps.old steps.new (budget + 1024) result }
     {
         match self {
             Stage::Visiting(visiting) => {

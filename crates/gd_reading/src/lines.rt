@@ -52,8 +52,8 @@ fn body(line: &[u8]) -> &[u8] {
     }
 }
 
-/// Whether a line is of the form that it is read as. JSON lets its newline stand behind a value. A line that is too long
-/// is no request.
+/// Whether a line is of the form that it is read as. JSON lets its newline stand behind a value. A
+/// line that is too long is no request.
 pub(crate) fn is_of_form(alloc: Global, form: Form, line: &[u8]) -> Result<bool, Trouble> {
     match form {
         Form::Json => is_json(alloc, line),

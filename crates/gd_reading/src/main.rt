@@ -1,5 +1,5 @@
-//! Reads lines, as JSON or as requests, and does nothing else with them, so that what the reading of a line costs can be
-//! told from the rest.
+//! Reads lines, as JSON or as requests, and does nothing else with them, so that what the reading
+//! of a line costs can be told from the rest.
 #![tactic(auto)]
 
 mod lines;
@@ -51,7 +51,8 @@ fn read_all(rt: &(impl Input + AllocGlobal), form: Form) -> Result<Count, Troubl
     read_lines(rt.alloc(), form, &mut input)
 }
 
-/// What the lines are read as: requests where the word `requests` follows the program's name, else JSON.
+/// What the lines are read as: requests where the word `requests` follows the program's name, else
+/// JSON.
 fn form(rt: &(impl Env + AllocGlobal)) -> Result<Form, Trouble> {
     for word in env::args(rt)?.skip(1) {
         if word.as_str() == "requests" {

@@ -1,5 +1,6 @@
 //! A line is answered over a core that is open.
-ghost use Rattle.std.specs.Prelude.{◌≡◌, ◌≢◌, ◌⊎◌, ◌≤◌, ◌<◌, ◌+◌, ◌^◌, ℕ, List, Ok, IfOk, IfErr, OnErr, MatchResult, true, false};
+ghost use Rattle.std.specs.Prelude.{◌≡◌, ◌≢◌, ◌⊎◌, ◌≤◌, ◌<◌, ◌+◌, ◌^◌, ℕ, List, Ok, IfOk, IfErr};
+ghost use Rattle.std.specs.Prelude.{OnErr, MatchResult, true, false};
 ghost use Rattle.gd_runs.specs.Core as core;
 ghost use Rattle.gd_runs.specs.Owed.{MembersOf};
 ghost use Rattle.gd_runs.specs.Replay.{event_from as read_event};
@@ -33,9 +34,9 @@ fn opens_again(event: &Event) -> bool
     matches!(event, Event::Reopen)
 }
 
-/// Carries out an event. Only the reply to one that opens the store again may be wanting for want of
-/// memory; what is left then stands for the state before it too. An error: the store was closed for
-/// it, and not opened again.
+/// Carries out an event. Only the reply to one that opens the store again may be wanting for want
+/// of memory; what is left then stands for the state before it too. An error: the store was closed
+/// for it, and not opened again.
 fn carry<R: Wait, D: Disk, C: Clock, L>(
     rt: &R,
     alloc: Global,
@@ -49,13 +50,19 @@ fn carry<R: Wait, D: Disk, C: Clock, L>(
     requires bytes { bytes ≤ 262_144 }
     requires bounded { IsBounded (event_view event) }
     requires below { AreBelow line (core_state running) }
-    ensures takes { IfOk result (λ both. Tells (D.content running.side.log.disk) ⊎ (event_view event ≢ core.reopen) → (members : MembersOf)
-        → Answers (λ reply. Takes members (C.may running.side.clock) (core_state running) line bytes (event_view event) reply (core_state both.0)
-        × IsCounted line reply (D.faults running.side.log.disk) (D.faults both.0.side.log.disk)) both.1) }
-    ensures unmade { IfOk result (λ both. Tells (D.content running.side.log.disk) → OnErr both.1 (StandsBefore (core_state running) (core_state both.0))) }
+    ensures takes { IfOk result (λ both. Tells (D.content running.side.log.disk)
+        ⊎ (event_view event ≢ core.reopen) → (members : MembersOf)
+        → Answers (λ reply. Takes members (C.may running.side.clock) (core_state running) line bytes
+        (event_view event) reply (core_state both.0)
+        × IsCounted line reply (D.faults running.side.log.disk) (D.faults both.0.side.log.disk))
+        both.1) }
+    ensures unmade { IfOk result (λ both. Tells (D.content running.side.log.disk)
+        → OnErr both.1 (StandsBefore (core_state running) (core_state both.0))) }
     ensures below { IfOk result (λ both. AreBelow (line + 1) (core_state both.0)) }
-    ensures along { IfOk result (λ both. GoesAlong D.content D.faults C.may running.side both.0.side) }
-    ensures lost { IfErr result (λ lost. IsLost D.content D.images D.faults running.side.log.disk (core_state running) lost.0 lost.1) }
+    ensures along { IfOk result (λ both. GoesAlong D.content D.faults C.may running.side
+        both.0.side) }
+    ensures lost { IfErr result (λ lost. IsLost D.content D.images D.faults running.side.log.disk
+        (core_state running) lost.0 lost.1) }
 {
     if opens_again(&event) {
         return running.reopen(rt, alloc, line);
@@ -77,13 +84,20 @@ pub(crate) fn answer<R: Wait, D: Disk, C: Clock, L>(
     requires line { line < 2 ^ 63 }
     requires short { IsShort text }
     requires below { AreBelow line (core_state running) }
-    ensures answers { IfOk result (λ both. (members : MembersOf) (piece : List ℕ) → Tells (D.content running.side.log.disk) ⊎ (read_event piece ≢ Ok core.reopen) → IsKept 262_144 text piece
-        → Answers (λ reply. BuiltLine members (C.may running.side.clock) (core_state running) line piece reply (core_state both.0)
-        × IsCounted line reply (D.faults running.side.log.disk) (D.faults both.0.side.log.disk)) both.1) }
-    ensures unmade { IfOk result (λ both. Tells (D.content running.side.log.disk) → OnErr both.1 (StandsBefore (core_state running) (core_state both.0))) }
+    ensures answers { IfOk result (λ both. (members : MembersOf) (piece : List ℕ)
+        → Tells (D.content running.side.log.disk) ⊎ (read_event piece ≢ Ok core.reopen)
+        → IsKept 262_144 text piece
+        → Answers (λ reply. BuiltLine members (C.may running.side.clock) (core_state running) line
+        piece reply (core_state both.0)
+        × IsCounted line reply (D.faults running.side.log.disk) (D.faults both.0.side.log.disk))
+        both.1) }
+    ensures unmade { IfOk result (λ both. Tells (D.content running.side.log.disk)
+        → OnErr both.1 (StandsBefore (core_state running) (core_state both.0))) }
     ensures below { IfOk result (λ both. AreBelow (line + 1) (core_state both.0)) }
-    ensures along { IfOk result (λ both. GoesAlong D.content D.faults C.may running.side both.0.side) }
-    ensures lost { IfErr result (λ lost. IsLost D.content D.images D.faults running.side.log.disk (core_state running) lost.0 lost.1) }
+    ensures along { IfOk result (λ both. GoesAlong D.content D.faults C.may running.side
+        both.0.side) }
+    ensures lost { IfErr result (λ lost. IsLost D.content D.images D.faults running.side.log.disk
+        (core_state running) lost.0 lost.1) }
 {
     match text {
         RoundLine::Bytes(bytes) => match event_from(alloc, &bytes) {

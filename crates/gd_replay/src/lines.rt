@@ -23,7 +23,8 @@ fn long_line(alloc: Global, line: u64) -> Result<Vec<u8>, Memory>
 /// The reply line to a line that is refused by its form.
 fn fault_line(alloc: Global, line: u64, fault: LineFault) -> Result<Vec<u8>, Memory>
     requires { line < 2 ^ 63 }
-    ensures refusal { fault ≢ LineFault.Memory → IfOk result (λ reply. reply.items ≡ input_fault_line line (fault_view fault)) }
+    ensures refusal { fault ≢ LineFault.Memory
+        → IfOk result (λ reply. reply.items ≡ input_fault_line line (fault_view fault)) }
     ensures memory { fault ≡ LineFault.Memory → IsErr result }
 {
     match fault {

@@ -12,7 +12,8 @@ ghost use Rattle.gd_runs.specs.Legal.{batches};
 ghost use Rattle.gd_runs.specs.Owed.{MembersOf};
 ghost use Rattle.gd_writer.specs.Parts.{Tells};
 ghost use Rattle.gd_sessions.specs.Running.{core_state};
-ghost use Rattle.gd_replay.specs.Stops.{Leaves, RoseWith, IfUnopened, EndsAs, EndsBy, EndsSent, stop_of};
+ghost use Rattle.gd_replay.specs.Stops.{Leaves, RoseWith, IfUnopened, EndsAs, EndsBy, EndsSent};
+ghost use Rattle.gd_replay.specs.Stops.{stop_of};
 ghost use Rattle.gd_replay.specs.Kept.{HasBatches, KeepsAs};
 ghost use Rattle.gd_replay.specs.Sure.{IsSure};
 ghost use Rattle.gd_replay.specs.Replays.{Loads, Replays, ReplaysTaken, ReplaysFront};
@@ -37,7 +38,8 @@ struct Run;
 /// Ends a core where all of the input was read.
 fn ended<R: Wait, D: Disk, C: Clock>(rt: &R, running: Running<D, C>) -> (Result<(), Stop>, D, C)
     ensures parts { result ≡ (Ok tt, running.side.log.disk, running.side.clock) }
-    ensures holds { Tells (D.content running.side.log.disk) → Leaves (D.images running.side.log.disk) (core_state running) }
+    ensures holds { Tells (D.content running.side.log.disk)
+        → Leaves (D.images running.side.log.disk) (core_state running) }
 {
     let (disk, clock) = running.close(rt);
     (Ok(()), disk, clock)
@@ -50,7 +52,8 @@ fn stopped<R: Wait, D: Disk, C: Clock>(
     fault: InputFault,
 ) -> (Result<(), Stop>, D, C)
     ensures parts { result ≡ (Err (stop_of fault), running.side.log.disk, running.side.clock) }
-    ensures holds { Tells (D.content running.side.log.disk) → Leaves (D.images running.side.log.disk) (core_state running) }
+    ensures holds { Tells (D.content running.side.log.disk)
+        → Leaves (D.images running.side.log.disk) (core_state running) }
 {
     let (stop, disk, clock) = halted(rt, running, Stop::of_input(fault));
     (Err(stop), disk, clock)
@@ -66,16 +69,34 @@ fn replay_lines<R: Wait, D: Disk, S: Source, K: Sink, C: Clock>(
     sink: &mut K,
 ) -> (Result<(), Stop>, D, C)
     requires { core_state running ≡ core.opened running.side.history.loaded }
-    ensures ends { IsSure (Tells (D.content running.side.log.disk)) (S.left source.old) → (members : MembersOf) → EndsAs result.0
-        (IfSome (S.left source.old) (Replays members (C.may running.side.clock) (λ loaded. loaded ≡ running.side.history.loaded) (λ s. Tells (D.content running.side.log.disk) → Leaves (D.images result.1) s) (RoseWith (D.faults running.side.log.disk) (D.faults result.1) result.0) (K.held sink.old) (K.held sink.new)))
-        (IfSome (S.left source.old) (ReplaysTaken members (C.may running.side.clock) (λ loaded. loaded ≡ running.side.history.loaded) (λ s. Tells (D.content running.side.log.disk) → Leaves (D.images result.1) s) (RoseWith (D.faults running.side.log.disk) (D.faults result.1) result.0) (K.held sink.old) (K.held sink.new)))
-        (IfSome (S.left source.old) (ReplaysFront members (C.may running.side.clock) (λ loaded. loaded ≡ running.side.history.loaded) (λ s. Tells (D.content running.side.log.disk) → Leaves (D.images result.1) s) (RoseWith (D.faults running.side.log.disk) (D.faults result.1) result.0) (K.held sink.old) (K.held sink.new)))
+    ensures ends { IsSure (Tells (D.content running.side.log.disk)) (S.left source.old)
+        → (members : MembersOf) → EndsAs result.0
+        (IfSome (S.left source.old) (Replays members (C.may running.side.clock)
+        (λ loaded. loaded ≡ running.side.history.loaded)
+        (λ s. Tells (D.content running.side.log.disk) → Leaves (D.images result.1) s)
+        (RoseWith (D.faults running.side.log.disk) (D.faults result.1) result.0) (K.held sink.old)
+        (K.held sink.new)))
+        (IfSome (S.left source.old) (ReplaysTaken members (C.may running.side.clock)
+        (λ loaded. loaded ≡ running.side.history.loaded)
+        (λ s. Tells (D.content running.side.log.disk) → Leaves (D.images result.1) s)
+        (RoseWith (D.faults running.side.log.disk) (D.faults result.1) result.0) (K.held sink.old)
+        (K.held sink.new)))
+        (IfSome (S.left source.old) (ReplaysFront members (C.may running.side.clock)
+        (λ loaded. loaded ≡ running.side.history.loaded)
+        (λ s. Tells (D.content running.side.log.disk) → Leaves (D.images result.1) s)
+        (RoseWith (D.faults running.side.log.disk) (D.faults result.1) result.0) (K.held sink.old)
+        (K.held sink.new)))
         ⊥ }
     ensures begun { IfUnopened result.0 ⊥ }
     ensures at_end { OnOk result.0 (IsAtEnd (S.left source.new)) }
-    ensures caused { EndsBy result.0 (Rose (S.faults source.old) (S.faults source.new)) (Rose (K.faults sink.old) (K.faults sink.new))
-        (Rose (D.faults running.side.log.disk) (D.faults result.1)) (TakesAtLeast (2 ^ 40) (S.left source.old) (S.left source.new) (S.given source.old) (S.given source.new)) }
-    ensures kept { Tells (D.content running.side.log.disk) → KeepsAs result.0 (HasBatches (D.content result.1) (D.images result.1) (batches running.side.history)) (λ _. ⊥) }
+    ensures caused { EndsBy result.0 (Rose (S.faults source.old) (S.faults source.new))
+        (Rose (K.faults sink.old) (K.faults sink.new))
+        (Rose (D.faults running.side.log.disk) (D.faults result.1))
+        (TakesAtLeast (2 ^ 40) (S.left source.old) (S.left source.new) (S.given source.old)
+        (S.given source.new)) }
+    ensures kept { Tells (D.content running.side.log.disk)
+        → KeepsAs result.0 (HasBatches (D.content result.1) (D.images result.1)
+        (batches running.side.history)) (λ _. ⊥) }
     ensures disk { D.faults running.side.log.disk ≤ D.faults result.1 }
     ensures later { K.faults sink.old ≤ K.faults sink.new }
 {
@@ -135,10 +156,20 @@ pub fn replay<R: Wait, D: Disk, S: Source, K: Sink, C: Clock>(
     // at least as many as there are lines that tell one, and by one more where the store was lost
     // by one. A file that is told stands for these batches, and what is left on the disk for the
     // state that the lines make.
-    ensures ends { IsSure (Tells (D.content disk)) (S.left source.old) → (members : MembersOf) → EndsAs result.0
-        (IfSome (S.left source.old) (Replays members (C.may clock) (Loads (D.content disk)) (λ s. Tells (D.content disk) → Leaves (D.images result.1) s) (RoseWith (D.faults disk) (D.faults result.1) result.0) (K.held sink.old) (K.held sink.new)))
-        (IfSome (S.left source.old) (ReplaysTaken members (C.may clock) (Loads (D.content disk)) (λ s. Tells (D.content disk) → Leaves (D.images result.1) s) (RoseWith (D.faults disk) (D.faults result.1) result.0) (K.held sink.old) (K.held sink.new)))
-        (IfSome (S.left source.old) (ReplaysFront members (C.may clock) (Loads (D.content disk)) (λ s. Tells (D.content disk) → Leaves (D.images result.1) s) (RoseWith (D.faults disk) (D.faults result.1) result.0) (K.held sink.old) (K.held sink.new)))
+    ensures ends { IsSure (Tells (D.content disk)) (S.left source.old) → (members : MembersOf)
+        → EndsAs result.0
+        (IfSome (S.left source.old) (Replays members (C.may clock) (Loads (D.content disk))
+        (λ s. Tells (D.content disk) → Leaves (D.images result.1) s)
+        (RoseWith (D.faults disk) (D.faults result.1) result.0) (K.held sink.old)
+        (K.held sink.new)))
+        (IfSome (S.left source.old) (ReplaysTaken members (C.may clock) (Loads (D.content disk))
+        (λ s. Tells (D.content disk) → Leaves (D.images result.1) s)
+        (RoseWith (D.faults disk) (D.faults result.1) result.0) (K.held sink.old)
+        (K.held sink.new)))
+        (IfSome (S.left source.old) (ReplaysFront members (C.may clock) (Loads (D.content disk))
+        (λ s. Tells (D.content disk) → Leaves (D.images result.1) s)
+        (RoseWith (D.faults disk) (D.faults result.1) result.0) (K.held sink.old)
+        (K.held sink.new)))
         ((source.new ≡ source.old) × (sink.new ≡ sink.old)) }
     ensures at_end { OnOk result.0 (IsAtEnd (S.left source.new)) }
 
@@ -149,16 +180,21 @@ pub fn replay<R: Wait, D: Disk, S: Source, K: Sink, C: Clock>(
     ensures sent { OnOk result.0 (K.sent sink.new ≡ true) }
 
     // Each stop has its cause.
-    ensures caused { EndsBy result.0 (Rose (S.faults source.old) (S.faults source.new)) (Rose (K.faults sink.old) (K.faults sink.new))
-        (Rose (D.faults disk) (D.faults result.1)) (TakesAtLeast (2 ^ 40) (S.left source.old) (S.left source.new) (S.given source.old) (S.given source.new)) }
+    ensures caused { EndsBy result.0 (Rose (S.faults source.old) (S.faults source.new))
+        (Rose (K.faults sink.old) (K.faults sink.new))
+        (Rose (D.faults disk) (D.faults result.1))
+        (TakesAtLeast (2 ^ 40) (S.left source.old) (S.left source.new) (S.given source.old)
+        (S.given source.new)) }
     ensures disk { D.faults disk ≤ D.faults result.1 }
 
     // Of a file that is told is kept what it stood for, with further batches behind it; where the
     // store was not opened, a read and a stop give the same bytes, or what stands for the same
     // batches, and what is said of the file is so.
     ensures kept { ForSome (D.content disk) (λ file. KeepsAs result.0
-        ((bs : List Batch) × StandsFor file bs × HasBatches (D.content result.1) (D.images result.1) bs)
-        (λ fault. IsKept D.content D.moment D.images D.images_since file disk result.1 × Refuses fault (meaning file))) }
+        ((bs : List Batch) × StandsFor file bs × HasBatches (D.content result.1) (D.images result.1)
+        bs)
+        (λ fault. IsKept D.content D.moment D.images D.images_since file disk result.1
+        × Refuses fault (meaning file))) }
 {
     match Running::start(rt, alloc, disk, clock) {
         Ok(running) => {

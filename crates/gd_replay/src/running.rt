@@ -1,5 +1,6 @@
 //! The lines of an input are read, answered and printed, one after another.
-ghost use Rattle.std.specs.Prelude.{◌≡◌, ◌≢◌, ◌⊎◌, ◌≤◌, ◌<◌, ◌+◌, ◌++◌, ◌∷◌, ◌^◌, ℕ, List, [], Ok, Err, IfOk, IfErr, MatchResult};
+ghost use Rattle.std.specs.Prelude.{◌≡◌, ◌≢◌, ◌⊎◌, ◌≤◌, ◌<◌, ◌+◌, ◌++◌, ◌∷◌, ◌^◌, ℕ, List, [], Ok};
+ghost use Rattle.std.specs.Prelude.{Err, IfOk, IfErr, MatchResult};
 ghost use Rattle.std.specs.Io.KnownBytes.{Appends};
 ghost use Rattle.gd_base.specs.Counts.{Rose};
 ghost use Rattle.gd_runs.specs.Legal.{batches};
@@ -15,7 +16,8 @@ ghost use Rattle.gd_replay.specs.Stops.{Leaves, GoesAlong, IsHalt, IsCaused};
 ghost use Rattle.gd_replay.specs.Kept.{HasBatches, KeepsAs};
 ghost use Rattle.gd_replay.specs.Sure.{IsSureOf};
 ghost use Rattle.gd_outside.specs.Gains.{GainsFront};
-ghost use Rattle.gd_replay.specs.Runs.{IsDue, IsUnmade, LinePrints, LineStops, PiecePrints, PieceStops};
+ghost use Rattle.gd_replay.specs.Runs.{IsDue, IsUnmade, LinePrints, LineStops, PiecePrints};
+ghost use Rattle.gd_replay.specs.Runs.{PieceStops};
 
 use crate::answering::answer;
 use crate::stop::Stop;
@@ -38,7 +40,8 @@ pub(crate) fn halted<R: Wait, D: Disk, C: Clock>(
     stop: Stop,
 ) -> (Stop, D, C)
     ensures parts { result ≡ (stop, running.side.log.disk, running.side.clock) }
-    ensures holds { Tells (D.content running.side.log.disk) → Leaves (D.images running.side.log.disk) (core_state running) }
+    ensures holds { Tells (D.content running.side.log.disk)
+        → Leaves (D.images running.side.log.disk) (core_state running) }
 {
     let (disk, clock) = running.close(rt);
     (stop, disk, clock)
@@ -52,11 +55,17 @@ fn print_or_halt<R: Wait, D: Disk, K: Sink, C: Clock>(
     sink: &mut K,
 ) -> Result<Running<D, C>, (Stop, D, C)>
     ensures same { IfOk result (λ next. next ≡ running) }
-    ensures printed { IfOk result (λ _. MatchResult reply (λ made. Appends (K.held sink.old) (K.held sink.new) (reply_text made ++ 10 ∷ [])) (λ _. ⊥)) }
-    ensures front { IfErr result (λ _. (line : List ℕ) → IsDue reply line → GainsFront (K.held sink.old) (K.held sink.new) (line ++ 10 ∷ [])) }
-    ensures halt { IfErr result (λ halt. IsHalt halt.0 (Rose (K.faults sink.old) (K.faults sink.new)) (IsUnmade reply (K.held sink.old) (K.held sink.new))) }
+    ensures printed { IfOk result (λ _. MatchResult reply
+        (λ made. Appends (K.held sink.old) (K.held sink.new) (reply_text made ++ 10 ∷ []))
+        (λ _. ⊥)) }
+    ensures front { IfErr result (λ _. (line : List ℕ) → IsDue reply line
+        → GainsFront (K.held sink.old) (K.held sink.new) (line ++ 10 ∷ [])) }
+    ensures halt { IfErr result (λ halt. IsHalt halt.0
+        (Rose (K.faults sink.old) (K.faults sink.new))
+        (IsUnmade reply (K.held sink.old) (K.held sink.new))) }
     ensures disk { IfErr result (λ halt. halt.1 ≡ running.side.log.disk) }
-    ensures holds { IfErr result (λ halt. Tells (D.content running.side.log.disk) → Leaves (D.images halt.1) (core_state running)) }
+    ensures holds { IfErr result (λ halt. Tells (D.content running.side.log.disk)
+        → Leaves (D.images halt.1) (core_state running)) }
     ensures later { K.faults sink.old ≤ K.faults sink.new }
 {
     match reply {
@@ -81,17 +90,28 @@ fn take_line<R: Wait, D: Disk, K: Sink, C: Clock, L>(
     requires line { line < 2 ^ 63 }
     requires short { IsShort text }
     requires below { AreBelow line (core_state running) }
-    ensures prints { IfOk result (λ next. (members : MembersOf) (bytes : List ℕ) → Tells (D.content running.side.log.disk) ⊎ (event_from bytes ≢ Ok reopen) → IsKept 262_144 text bytes
-        → LinePrints members (C.may running.side.clock) (core_state running) line bytes (core_state next) (K.held sink.old) (K.held sink.new)
+    ensures prints { IfOk result (λ next. (members : MembersOf) (bytes : List ℕ)
+        → Tells (D.content running.side.log.disk) ⊎ (event_from bytes ≢ Ok reopen)
+        → IsKept 262_144 text bytes
+        → LinePrints members (C.may running.side.clock) (core_state running) line bytes
+        (core_state next) (K.held sink.old) (K.held sink.new)
         (D.faults running.side.log.disk) (D.faults next.side.log.disk)) }
     ensures below { IfOk result (λ next. AreBelow (line + 1) (core_state next)) }
-    ensures along { IfOk result (λ next. GoesAlong D.content D.faults C.may running.side next.side) }
-    ensures stops { IfErr result (λ halt. (members : MembersOf) (bytes : List ℕ) → Tells (D.content running.side.log.disk) ⊎ (event_from bytes ≢ Ok reopen) → IsKept 262_144 text bytes
-        → LineStops members (C.may running.side.clock) (core_state running) line bytes (λ s. Tells (D.content running.side.log.disk) → Leaves (D.images halt.1) s) halt.0 (K.held sink.old) (K.held sink.new)
+    ensures along { IfOk result (λ next. GoesAlong D.content D.faults C.may running.side
+        next.side) }
+    ensures stops { IfErr result (λ halt. (members : MembersOf) (bytes : List ℕ)
+        → Tells (D.content running.side.log.disk) ⊎ (event_from bytes ≢ Ok reopen)
+        → IsKept 262_144 text bytes
+        → LineStops members (C.may running.side.clock) (core_state running) line bytes
+        (λ s. Tells (D.content running.side.log.disk) → Leaves (D.images halt.1) s) halt.0
+        (K.held sink.old) (K.held sink.new)
         (D.faults running.side.log.disk) (D.faults halt.1)) }
-    ensures caused { IfErr result (λ halt. IsCaused halt.0 (Rose (K.faults sink.old) (K.faults sink.new)) (Rose (D.faults running.side.log.disk) (D.faults halt.1))) }
+    ensures caused { IfErr result (λ halt. IsCaused halt.0
+        (Rose (K.faults sink.old) (K.faults sink.new))
+        (Rose (D.faults running.side.log.disk) (D.faults halt.1))) }
     ensures kept { IfErr result (λ halt. Tells (D.content running.side.log.disk)
-        → KeepsAs (Err halt.0) (HasBatches (D.content halt.1) (D.images halt.1) (batches running.side.history)) (λ _. ⊥)) }
+        → KeepsAs (Err halt.0) (HasBatches (D.content halt.1) (D.images halt.1)
+        (batches running.side.history)) (λ _. ⊥)) }
     ensures disk { IfErr result (λ halt. D.faults running.side.log.disk ≤ D.faults halt.1) }
     ensures later { K.faults sink.old ≤ K.faults sink.new }
 {
@@ -115,18 +135,27 @@ pub(crate) fn take_piece<R: Wait, D: Disk, K: Sink, C: Clock, L>(
     requires line { line < 2 ^ 63 }
     requires short { IsShort piece }
     requires below { AreBelow line (core_state running) }
-    ensures prints { IfOk result (λ both. (members : MembersOf) (bytes : List ℕ) → IsSureOf (Tells (D.content running.side.log.disk)) bytes → IsKept 262_144 piece bytes
-        → PiecePrints members (C.may running.side.clock) (core_state running) line bytes (core_state both.0) both.1 (K.held sink.old) (K.held sink.new)
+    ensures prints { IfOk result (λ both. (members : MembersOf) (bytes : List ℕ)
+        → IsSureOf (Tells (D.content running.side.log.disk)) bytes → IsKept 262_144 piece bytes
+        → PiecePrints members (C.may running.side.clock) (core_state running) line bytes
+        (core_state both.0) both.1 (K.held sink.old) (K.held sink.new)
         (D.faults running.side.log.disk) (D.faults both.0.side.log.disk)) }
     ensures below { IfOk result (λ both. AreBelow both.1 (core_state both.0)) }
     ensures few { IfOk result (λ both. both.1 ≤ line + 1) }
-    ensures along { IfOk result (λ both. GoesAlong D.content D.faults C.may running.side both.0.side) }
-    ensures stops { IfErr result (λ halt. (members : MembersOf) (bytes : List ℕ) → IsSureOf (Tells (D.content running.side.log.disk)) bytes → IsKept 262_144 piece bytes
-        → PieceStops members (C.may running.side.clock) (core_state running) line bytes (λ s. Tells (D.content running.side.log.disk) → Leaves (D.images halt.1) s) halt.0 (K.held sink.old) (K.held sink.new)
+    ensures along { IfOk result (λ both. GoesAlong D.content D.faults C.may running.side
+        both.0.side) }
+    ensures stops { IfErr result (λ halt. (members : MembersOf) (bytes : List ℕ)
+        → IsSureOf (Tells (D.content running.side.log.disk)) bytes → IsKept 262_144 piece bytes
+        → PieceStops members (C.may running.side.clock) (core_state running) line bytes
+        (λ s. Tells (D.content running.side.log.disk) → Leaves (D.images halt.1) s) halt.0
+        (K.held sink.old) (K.held sink.new)
         (D.faults running.side.log.disk) (D.faults halt.1)) }
-    ensures caused { IfErr result (λ halt. IsCaused halt.0 (Rose (K.faults sink.old) (K.faults sink.new)) (Rose (D.faults running.side.log.disk) (D.faults halt.1))) }
+    ensures caused { IfErr result (λ halt. IsCaused halt.0
+        (Rose (K.faults sink.old) (K.faults sink.new))
+        (Rose (D.faults running.side.log.disk) (D.faults halt.1))) }
     ensures kept { IfErr result (λ halt. Tells (D.content running.side.log.disk)
-        → KeepsAs (Err halt.0) (HasBatches (D.content halt.1) (D.images halt.1) (batches running.side.history)) (λ _. ⊥)) }
+        → KeepsAs (Err halt.0) (HasBatches (D.content halt.1) (D.images halt.1)
+        (batches running.side.history)) (λ _. ⊥)) }
     ensures disk { IfErr result (λ halt. D.faults running.side.log.disk ≤ D.faults halt.1) }
     ensures later { K.faults sink.old ≤ K.faults sink.new }
 {

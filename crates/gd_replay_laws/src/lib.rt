@@ -1,8 +1,10 @@
-//! What a run of events prints, as far as events are built. Each law is the contract of a function that does nothing:
-//! whoever calls it may use the law, and code above cites its statement from `specs/Laws.antt`.
+//! What a run of events prints, as far as events are built. Each law is the contract of a function
+//! that does nothing: whoever calls it may use the law, and code above cites its statement from
+//! `specs/Laws.antt`.
 #![tactic(auto)]
 
-ghost use Rattle.gd_replay_laws.specs.Laws.{LinesStayBelow, RunsFollow, BuiltRunsAreReplays, EventsAreBounded, OnlyWritesTellFaults, FaultsAddUp};
+ghost use Rattle.gd_replay_laws.specs.Laws.{LinesStayBelow, RunsFollow, BuiltRunsAreReplays};
+ghost use Rattle.gd_replay_laws.specs.Laws.{EventsAreBounded, OnlyWritesTellFaults, FaultsAddUp};
 
 /// A run of lines and a run of the lines behind them are a run.
 pub fn runs_follow()

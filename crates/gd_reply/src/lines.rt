@@ -1,5 +1,6 @@
 //! Reply lines: one line of JSON, whose newline is not part of it.
-ghost use Rattle.std.specs.Prelude.{◌≡◌, ◌<◌, ◌^◌, ◌∷◌, ◌++◌, [], IfOk, OnOk, codes, decimal, length, map};
+ghost use Rattle.std.specs.Prelude.{◌≡◌, ◌<◌, ◌^◌, ◌∷◌, ◌++◌, [], IfOk, OnOk, codes, decimal};
+ghost use Rattle.std.specs.Prelude.{length, map};
 ghost use Rattle.gd_tree.specs.Json as tree;
 ghost use Rattle.gd_json.specs.View.{view, member_view, members_view};
 ghost use Rattle.gd_defs.specs.Lines as printed;
@@ -32,7 +33,8 @@ fn object_line(alloc: Global, members: Members) -> Result<Vec<u8>, Memory>
 /// The members with which a line of this code and dateline begins.
 fn begun(alloc: Global, code: &str, dateline: u32) -> Result<Members, Memory>
     ensures { IfOk result (λ members. map member_view members.items
-        ≡ (codes "code", tree.text code.now) ∷ (codes "dateline", printed.count_json dateline) ∷ []) }
+        ≡ (codes "code", tree.text code.now) ∷ (codes "dateline", printed.count_json dateline)
+        ∷ []) }
 {
     let mut members = Vec::new(alloc);
     push_text(alloc, &mut members, "code", code)?;
@@ -73,8 +75,10 @@ fn ok_front(alloc: Global, dateline: u32, line: u64) -> Result<Vec<u8>, Memory>
 
 /// The reply line of an answer: its dateline, the number of its line and the result.
 pub fn ok_line(alloc: Global, dateline: u32, line: u64, outcome: &Json) -> Result<OkLine, Memory>
-    ensures line { IfOk result (λ made. made.bytes.items ≡ printed.ok_line dateline line (view outcome.now)) }
-    ensures outcome { IfOk result (λ made. made.outcome ≡ length (tree.compact (view outcome.now))) }
+    ensures line { IfOk result (λ made. made.bytes.items ≡ printed.ok_line dateline line
+        (view outcome.now)) }
+    ensures outcome { IfOk result (λ made. made.outcome
+        ≡ length (tree.compact (view outcome.now))) }
 {
     let front = ok_front(alloc, dateline, line)?;
     let before = front.len();

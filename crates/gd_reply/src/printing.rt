@@ -14,8 +14,10 @@ use itoa::Buffer;
 
 /// Prints a number in decimal digits, and behind it the end of an object and its newline.
 fn print_last_number<K: Sink>(sink: &mut K, n: u64) -> Result<(), Failed>
-    ensures all { OnOk result (Appends (K.held sink.old) (K.held sink.new) (decimal n ++ codes "}" ++ 10 ∷ [])) }
-    ensures front { OnErr result (GainsFront (K.held sink.old) (K.held sink.new) (decimal n ++ codes "}" ++ 10 ∷ [])) }
+    ensures all { OnOk result (Appends (K.held sink.old) (K.held sink.new)
+        (decimal n ++ codes "}" ++ 10 ∷ [])) }
+    ensures front { OnErr result (GainsFront (K.held sink.old) (K.held sink.new)
+        (decimal n ++ codes "}" ++ 10 ∷ [])) }
     ensures failed { OnErr result (Rose (K.faults sink.old) (K.faults sink.new)) }
     ensures later { K.faults sink.old ≤ K.faults sink.new }
 {
@@ -27,8 +29,10 @@ fn print_last_number<K: Sink>(sink: &mut K, n: u64) -> Result<(), Failed>
 /// Prints the line that tells a failure, and its newline. It takes no memory. `Failed`: the sink
 /// did, and a front of it is printed.
 pub fn print_failure<K: Sink>(sink: &mut K, failure: Failure, line: u64) -> Result<(), Failed>
-    ensures all { OnOk result (Appends (K.held sink.old) (K.held sink.new) (failure_line failure line ++ 10 ∷ [])) }
-    ensures front { OnErr result (GainsFront (K.held sink.old) (K.held sink.new) (failure_line failure line ++ 10 ∷ [])) }
+    ensures all { OnOk result (Appends (K.held sink.old) (K.held sink.new)
+        (failure_line failure line ++ 10 ∷ [])) }
+    ensures front { OnErr result (GainsFront (K.held sink.old) (K.held sink.new)
+        (failure_line failure line ++ 10 ∷ [])) }
     ensures failed { OnErr result (Rose (K.faults sink.old) (K.faults sink.new)) }
     ensures later { K.faults sink.old ≤ K.faults sink.new }
 {
@@ -39,8 +43,10 @@ pub fn print_failure<K: Sink>(sink: &mut K, failure: Failure, line: u64) -> Resu
 
 /// Prints the number of an entry, and what stands between it and the number of its line.
 fn print_entry<K: Sink>(sink: &mut K, entry: u32) -> Result<(), Failed>
-    ensures all { OnOk result (Appends (K.held sink.old) (K.held sink.new) (decimal entry ++ codes "},\"line\":")) }
-    ensures front { OnErr result (GainsFront (K.held sink.old) (K.held sink.new) (decimal entry ++ codes "},\"line\":")) }
+    ensures all { OnOk result (Appends (K.held sink.old) (K.held sink.new)
+        (decimal entry ++ codes "},\"line\":")) }
+    ensures front { OnErr result (GainsFront (K.held sink.old) (K.held sink.new)
+        (decimal entry ++ codes "},\"line\":")) }
     ensures failed { OnErr result (Rose (K.faults sink.old) (K.faults sink.new)) }
     ensures later { K.faults sink.old ≤ K.faults sink.new }
 {
@@ -52,7 +58,8 @@ fn print_entry<K: Sink>(sink: &mut K, entry: u32) -> Result<(), Failed>
 /// Prints what stands before the number of the line where a write is stored and not shown yet.
 fn print_late_front<K: Sink>(sink: &mut K, entry: u32) -> Result<(), Failed>
     ensures all { OnOk result (Appends (K.held sink.old) (K.held sink.new) (late_front entry)) }
-    ensures front { OnErr result (GainsFront (K.held sink.old) (K.held sink.new) (late_front entry)) }
+    ensures front { OnErr result (GainsFront (K.held sink.old) (K.held sink.new)
+        (late_front entry)) }
     ensures failed { OnErr result (Rose (K.faults sink.old) (K.faults sink.new)) }
     ensures later { K.faults sink.old ≤ K.faults sink.new }
 {
@@ -67,8 +74,10 @@ fn print_late_front<K: Sink>(sink: &mut K, entry: u32) -> Result<(), Failed>
 /// Prints the line that tells that a write is this entry and not shown yet, and its newline. It
 /// takes no memory.
 fn print_late<K: Sink>(sink: &mut K, line: u64, entry: u32) -> Result<(), Failed>
-    ensures all { OnOk result (Appends (K.held sink.old) (K.held sink.new) (late_line line entry ++ 10 ∷ [])) }
-    ensures front { OnErr result (GainsFront (K.held sink.old) (K.held sink.new) (late_line line entry ++ 10 ∷ [])) }
+    ensures all { OnOk result (Appends (K.held sink.old) (K.held sink.new)
+        (late_line line entry ++ 10 ∷ [])) }
+    ensures front { OnErr result (GainsFront (K.held sink.old) (K.held sink.new)
+        (late_line line entry ++ 10 ∷ [])) }
     ensures failed { OnErr result (Rose (K.faults sink.old) (K.faults sink.new)) }
     ensures later { K.faults sink.old ≤ K.faults sink.new }
 {
@@ -80,8 +89,10 @@ fn print_late<K: Sink>(sink: &mut K, line: u64, entry: u32) -> Result<(), Failed
 /// Prints a reply and its newline. It takes no memory. `Failed`: the sink did, and a front of it is
 /// printed.
 pub fn print_reply<K: Sink>(sink: &mut K, reply: &Reply) -> Result<(), Failed>
-    ensures all { OnOk result (Appends (K.held sink.old) (K.held sink.new) (reply_text reply.now ++ 10 ∷ [])) }
-    ensures front { OnErr result (GainsFront (K.held sink.old) (K.held sink.new) (reply_text reply.now ++ 10 ∷ [])) }
+    ensures all { OnOk result (Appends (K.held sink.old) (K.held sink.new)
+        (reply_text reply.now ++ 10 ∷ [])) }
+    ensures front { OnErr result (GainsFront (K.held sink.old) (K.held sink.new)
+        (reply_text reply.now ++ 10 ∷ [])) }
     ensures failed { OnErr result (Rose (K.faults sink.old) (K.faults sink.new)) }
     ensures later { K.faults sink.old ≤ K.faults sink.new }
 {

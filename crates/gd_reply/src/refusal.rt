@@ -146,7 +146,8 @@ fn path_list(alloc: Global, path: &Path) -> Result<Json, Memory>
 }
 
 fn query_info(alloc: Global, code: Code, path: &Path) -> Result<Json, Memory>
-    ensures { IfOk result (λ json. view json ≡ object_tree (object_of ((codes "code", text_of (code_text (code_view code)))
+    ensures { IfOk result (λ json. view json
+        ≡ object_tree (object_of ((codes "code", text_of (code_text (code_view code)))
         ∷ (codes "path", list_of (texts path.now)) ∷ []))) }
 {
     let mut members = Vec::new(alloc);
@@ -156,7 +157,8 @@ fn query_info(alloc: Global, code: Code, path: &Path) -> Result<Json, Memory>
 }
 
 fn path_info(alloc: Global, path: &Path) -> Result<Json, Memory>
-    ensures { IfOk result (λ json. view json ≡ object_tree (object_of ((codes "path", list_of (texts path.now)) ∷ []))) }
+    ensures { IfOk result (λ json. view json
+        ≡ object_tree (object_of ((codes "path", list_of (texts path.now)) ∷ []))) }
 {
     let mut members = Vec::new(alloc);
     push_member(alloc, &mut members, "path", path_list(alloc, path)?)?;
@@ -164,7 +166,8 @@ fn path_info(alloc: Global, path: &Path) -> Result<Json, Memory>
 }
 
 fn ahead_info(alloc: Global, asked: u32, have: u32) -> Result<Json, Memory>
-    ensures { IfOk result (λ json. view json ≡ object_tree (object_of ((codes "asked", count_json asked)
+    ensures { IfOk result (λ json. view json
+        ≡ object_tree (object_of ((codes "asked", count_json asked)
         ∷ (codes "have", count_json have) ∷ []))) }
 {
     let mut members = Vec::new(alloc);
@@ -175,7 +178,8 @@ fn ahead_info(alloc: Global, asked: u32, have: u32) -> Result<Json, Memory>
 
 fn full_info(alloc: Global, what: What, reached: u64) -> Result<Json, Memory>
     requires { reached < 2 ^ 63 }
-    ensures { IfOk result (λ json. view json ≡ object_tree (object_of ((codes "count", count_json reached)
+    ensures { IfOk result (λ json. view json
+        ≡ object_tree (object_of ((codes "count", count_json reached)
         ∷ (codes "what", text_of (what_text what)) ∷ []))) }
 {
     let mut members = Vec::new(alloc);
@@ -186,7 +190,8 @@ fn full_info(alloc: Global, what: What, reached: u64) -> Result<Json, Memory>
 
 fn count_info(alloc: Global, name: &str, n: u64) -> Result<Json, Memory>
     requires { n < 2 ^ 63 }
-    ensures { IfOk result (λ json. view json ≡ object_tree (object_of ((name.now, count_json n) ∷ []))) }
+    ensures { IfOk result (λ json. view json
+        ≡ object_tree (object_of ((name.now, count_json n) ∷ []))) }
 {
     let mut members = Vec::new(alloc);
     push_count(alloc, &mut members, name, n)?;
@@ -194,7 +199,8 @@ fn count_info(alloc: Global, name: &str, n: u64) -> Result<Json, Memory>
 }
 
 fn text_info(alloc: Global, name: &str, value: &JsonText) -> Result<Json, Memory>
-    ensures { IfOk result (λ json. view json ≡ object_tree (object_of ((name.now, text_of value.now) ∷ []))) }
+    ensures { IfOk result (λ json. view json
+        ≡ object_tree (object_of ((name.now, text_of value.now) ∷ []))) }
 {
     let mut members = Vec::new(alloc);
     push_text(alloc, &mut members, name, value.as_str())?;
@@ -212,7 +218,8 @@ fn push_guid(alloc: Global, members: &mut Members, name: &str, id: Id) -> Result
 }
 
 fn taken_info(alloc: Global, key: &Text, holder: Id) -> Result<Json, Memory>
-    ensures { IfOk result (λ json. view json ≡ object_tree (object_of ((codes "holder", text_of (guid_of holder))
+    ensures { IfOk result (λ json. view json
+        ≡ object_tree (object_of ((codes "holder", text_of (guid_of holder))
         ∷ (codes "key", text_of key.now) ∷ []))) }
 {
     let mut members = Vec::new(alloc);
@@ -222,7 +229,8 @@ fn taken_info(alloc: Global, key: &Text, holder: Id) -> Result<Json, Memory>
 }
 
 fn stale_info(alloc: Global, previous: Id, successor: Id) -> Result<Json, Memory>
-    ensures { IfOk result (λ json. view json ≡ object_tree (object_of ((codes "previous", text_of (guid_of previous))
+    ensures { IfOk result (λ json. view json
+        ≡ object_tree (object_of ((codes "previous", text_of (guid_of previous))
         ∷ (codes "successor", text_of (guid_of successor)) ∷ []))) }
 {
     let mut members = Vec::new(alloc);

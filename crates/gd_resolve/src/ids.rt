@@ -1,5 +1,6 @@
 //! The objects that ids name.
-ghost use Rattle.std.specs.Prelude.{◌≡◌, ◌≢◌, ◌+◌, ◌*◌, ◌≤◌, ◌<◌, length, map, true, option_and_then, IfOk, OnOk, IfSome, IsSome, Err};
+ghost use Rattle.std.specs.Prelude.{◌≡◌, ◌≢◌, ◌+◌, ◌*◌, ◌≤◌, ◌<◌, length, map, true};
+ghost use Rattle.std.specs.Prelude.{option_and_then, IfOk, OnOk, IfSome, IsSome, Err};
 ghost use Rattle.std.specs.List.{list_all};
 ghost use Rattle.gd_base.specs.Answers.{Gives};
 ghost use Rattle.gd_base.specs.Counts.{Rose};
@@ -55,10 +56,12 @@ fn object_below<L>(view: &View<'_>, place: u64, steps: &mut Steps<L>) -> Option<
 
 /// The object whose guid the text is.
 fn guid_object<L>(view: &View<'_>, text: &str, steps: &mut Steps<L>) -> Option<Id>
-    ensures object { result ≡ option_and_then (defined.object_at (prims_of view.now)) (defined.guid_place text.now) }
+    ensures object { result ≡ option_and_then (defined.object_at (prims_of view.now))
+        (defined.guid_place text.now) }
     ensures work { steps.new ≤ steps.old + 3 }
     ensures later { steps.old ≤ steps.new }
-    ensures counted { IfSome (defined.guid_place text.now) (λ place. place < length (prims_of view.now) → Rose steps.old steps.new) }
+    ensures counted { IfSome (defined.guid_place text.now)
+        (λ place. place < length (prims_of view.now) → Rose steps.old steps.new) }
     ensures found { IsSome result → Rose steps.old steps.new }
 {
     match guid_place(text.as_bytes()) {
@@ -81,7 +84,8 @@ pub(crate) fn link_leads<L>(view: &View<'_>, link: Id, steps: &mut Steps<L>) -> 
     object_at(view, object, steps)
 }
 
-/// The object that a key in a namespace leads to: what the last link of that key into that namespace leads to.
+/// The object that a key in a namespace leads to: what the last link of that key into that
+/// namespace leads to.
 pub(crate) fn key_leads<L>(
     view: &View<'_>,
     namespace: Id,
@@ -105,7 +109,8 @@ fn follow<L>(
     steps: &mut Steps<L>,
 ) -> Result<Option<Id>, Memory>
     requires { list_all (λ key. defined.is_key key.now) keys.now ≡ true }
-    ensures object { IfOk result (λ object. object ≡ defined.follow (prims_of view.now) root_place (map (λ key. key.now) keys.now)) }
+    ensures object { IfOk result (λ object. object ≡ defined.follow (prims_of view.now) root_place
+        (map (λ key. key.now) keys.now)) }
     ensures work { steps.new ≤ steps.old + 30 * length keys.now }
     ensures later { steps.old ≤ steps.new }
     ensures counted { OnOk result (0 < length keys.now → Rose steps.old steps.new) }
@@ -121,21 +126,24 @@ fn follow<L>(
     Ok(Some(object))
 }
 
-/// The object that an id text names below the dateline, or nothing where it is no id or names none; `object_of` says which
-/// text names what, and is the call for who has to tell that none was there. `Memory`: an allocation was refused. It looks
-/// at no more than 500 things.
+/// The object that an id text names below the dateline, or nothing where it is no id or names none;
+/// `object_of` says which text names what, and is the call for who has to tell that none was there.
+/// `Memory`: an allocation was refused. It looks at no more than 500 things.
 pub fn named_object<L>(
     alloc: Global,
     view: &View<'_>,
     text: &str,
     steps: &mut Steps<L>,
 ) -> Result<Option<Id>, Memory>
-    ensures object { IfOk result (λ object. object ≡ defined.object_of (prims_of view.now) text.now) }
+    ensures object { IfOk result (λ object. object ≡ defined.object_of (prims_of view.now)
+        text.now) }
     ensures keys { steps.new ≤ steps.old + 3 + 30 * key_count (defined.id_keys text.now) }
     ensures work { steps.new ≤ steps.old + 500 }
     ensures later { steps.old ≤ steps.new }
-    ensures guid_counted { IfSome (defined.guid_place text.now) (λ place. place < length (prims_of view.now) → Rose steps.old steps.new) }
-    ensures path_counted { OnOk result (IfSome (defined.id_keys text.now) (λ keys. 0 < length keys → Rose steps.old steps.new)) }
+    ensures guid_counted { IfSome (defined.guid_place text.now)
+        (λ place. place < length (prims_of view.now) → Rose steps.old steps.new) }
+    ensures path_counted { OnOk result
+        (IfSome (defined.id_keys text.now) (λ keys. 0 < length keys → Rose steps.old steps.new)) }
 {
     if let Some(object) = guid_object(view, text, steps) {
         return Ok(Some(object));
@@ -146,23 +154,27 @@ pub fn named_object<L>(
     }
 }
 
-/// The object that an id names below the dateline: a guid the object at its place, and a path, which is `/` or 1 to 16 keys
-/// each behind a slash, the object to which the keys lead from the root, one after another. A key leads to the left end
-/// of the last link of that key into the namespace, if that link is live and an object stands there. `NoSuchId`: the text
-/// is no id or names no object; with the text. It looks at no more than 500 things.
+/// The object that an id names below the dateline: a guid the object at its place, and a path,
+/// which is `/` or 1 to 16 keys each behind a slash, the object to which the keys lead from the
+/// root, one after another. A key leads to the left end of the last link of that key into the
+/// namespace, if that link is live and an object stands there. `NoSuchId`: the text is no id or
+/// names no object; with the text. It looks at no more than 500 things.
 pub fn object_of<L>(
     alloc: Global,
     view: &View<'_>,
     path: &JsonText,
     steps: &mut Steps<L>,
 ) -> Result<Id, ResolveFault>
-    ensures object { Gives (λ object. object) ResolveFault.Memory (id_asked (prims_of view.now) path.now) result }
+    ensures object { Gives (λ object. object) ResolveFault.Memory
+        (id_asked (prims_of view.now) path.now) result }
     ensures work { steps.new ≤ steps.old + 500 }
     ensures later { steps.old ≤ steps.new }
 
     // A guid of a place below the dateline and a path with a key are looked up.
-    ensures guid_counted { IfSome (defined.guid_place path.now) (λ place. place < length (prims_of view.now) → Rose steps.old steps.new) }
-    ensures path_counted { result ≢ Err ResolveFault.Memory → IfSome (defined.id_keys path.now) (λ keys. 0 < length keys → Rose steps.old steps.new) }
+    ensures guid_counted { IfSome (defined.guid_place path.now)
+        (λ place. place < length (prims_of view.now) → Rose steps.old steps.new) }
+    ensures path_counted { result ≢ Err ResolveFault.Memory
+        → IfSome (defined.id_keys path.now) (λ keys. 0 < length keys → Rose steps.old steps.new) }
 {
     match named_object(alloc, view, path.as_str(), steps)? {
         Some(object) => Ok(object),

@@ -62,13 +62,26 @@ impl Model for Property {
 
     ghost Value = { Property };
 
-    ghost view = { λ p. record { stored = p.stored; reversed = p.reversed; expected = p.expected; unique = p.unique; language = p.language } };
+    ghost view = { λ p. record {
+      stored = p.stored;
+      reversed = p.reversed;
+      expected = p.expected;
+      unique = p.unique;
+      language = p.language;
+    } };
 
-    ghost inverse = { λ p. record { stored = p.stored; reversed = p.reversed; expected = p.expected; unique = p.unique; language = p.language } };
+    ghost inverse = { λ p. record {
+      stored = p.stored;
+      reversed = p.reversed;
+      expected = p.expected;
+      unique = p.unique;
+      language = p.language;
+    } };
 }
 
-/// What a scan looks for: a live link of a typ from an object, a live link that gives an object a type, a live mark of
-/// a property that has a truth value, or a live link that gives an object a key among languages.
+/// What a scan looks for: a live link of a typ from an object, a live link that gives an object a
+/// type, a live mark of a property that has a truth value, or a live link that gives an object a
+/// key among languages.
 #[derive(Drop)]
 enum Wanted {
     Link { typ: Id, object: Id },
@@ -138,8 +151,8 @@ fn said_of<L>(view: &View<'_>, object: Id, steps: &mut Steps<L>) -> u32
     view.list_len(End::Left, object, steps)
 }
 
-/// The first of the places that lead from an object, of which there are so many, at which a live primitive stands that is
-/// wanted.
+/// The first of the places that lead from an object, of which there are so many, at which a live
+/// primitive stands that is wanted.
 fn first_from<L>(
     view: &View<'_>,
     wanted: &Wanted,
@@ -148,7 +161,8 @@ fn first_from<L>(
     steps: &mut Steps<L>,
 ) -> Option<Id>
     requires { said ≡ length (places_with Left object (prims_of view.now)) }
-    ensures first { result ≡ find (found.is_found (found.is_wanted wanted.now) (prims_of view.now)) (places_with Left object (prims_of view.now)) }
+    ensures first { result ≡ find (found.is_found (found.is_wanted wanted.now) (prims_of view.now))
+        (places_with Left object (prims_of view.now)) }
     ensures work { steps.new ≤ steps.old + 4 * said }
     ensures later { steps.old ≤ steps.new }
 {
@@ -161,8 +175,8 @@ fn first_from<L>(
     None
 }
 
-/// The first place at which a live primitive stands that is wanted. It looks at the places that lead from its object, of which
-/// there are so many.
+/// The first place at which a live primitive stands that is wanted. It looks at the places that
+/// lead from its object, of which there are so many.
 fn first_found<L>(view: &View<'_>, wanted: &Wanted, said: u32, steps: &mut Steps<L>) -> Option<Id>
     requires { said ≡ length (places_with Left (found.left_of wanted.now) (prims_of view.now)) }
     ensures first { result ≡ found.first_found (found.is_wanted wanted.now) (prims_of view.now) }
@@ -191,11 +205,12 @@ fn first_right<L>(
     }
 }
 
-/// The type that the property at a place states to expect, in its own direction: what the first live link to an expected
-/// type names, if there is one. It takes no memory.
+/// The type that the property at a place states to expect, in its own direction: what the first
+/// live link to an expected type names, if there is one. It takes no memory.
 pub fn expected_type<L>(view: &View<'_>, place: Id, steps: &mut Steps<L>) -> Option<Id>
     ensures expected { result ≡ defined.first_right (prims_of view.now) expected_place place }
-    ensures work { steps.new ≤ steps.old + 23 + 4 * length (places_with Left place (prims_of view.now)) }
+    ensures work { steps.new ≤ steps.old + 23 + 4 * length
+        (places_with Left place (prims_of view.now)) }
     ensures later { steps.old ≤ steps.new }
     ensures counted { 0 < length (prims_of view.now) → Rose steps.old steps.new }
 {
@@ -206,7 +221,8 @@ pub fn expected_type<L>(view: &View<'_>, place: Id, steps: &mut Steps<L>) -> Opt
 /// Whether a live link gives the object the type.
 fn has_type<L>(view: &View<'_>, object: Id, of: Id, steps: &mut Steps<L>) -> bool
     ensures has { result ≡ defined.has_type (prims_of view.now) object of }
-    ensures work { steps.new ≤ steps.old + 22 + 4 * length (places_with Left object (prims_of view.now)) }
+    ensures work { steps.new ≤ steps.old + 22 + 4 * length
+        (places_with Left object (prims_of view.now)) }
     ensures later { steps.old ≤ steps.new }
     ensures counted { 0 < length (prims_of view.now) → Rose steps.old steps.new }
 {
@@ -222,7 +238,8 @@ fn truth_at<L>(view: &View<'_>, place: Id, steps: &mut Steps<L>) -> Option<bool>
     truth(&prim_at(view, place, steps)?.value)
 }
 
-/// Whether the first live mark with a truth value says that the property is unique, from which so many places lead.
+/// Whether the first live mark with a truth value says that the property is unique, from which so
+/// many places lead.
 fn is_unique<L>(view: &View<'_>, property: Id, said: u32, steps: &mut Steps<L>) -> bool
     requires { said ≡ length (places_with Left property (prims_of view.now)) }
     ensures unique { result ≡ defined.is_unique (prims_of view.now) property }
@@ -235,7 +252,8 @@ fn is_unique<L>(view: &View<'_>, property: Id, said: u32, steps: &mut Steps<L>) 
     }
 }
 
-/// The language of the texts that are asked for where nothing is said of it, by the type that is expected.
+/// The language of the texts that are asked for where nothing is said of it, by the type that is
+/// expected.
 #[tactic(auto, using(crate::proofs::Languages::plain_by_type))]
 fn type_language(of: Id) -> Option<Id>
     ensures { result ≡ defined.plain_language (defined.expects_of (Some of)) }
@@ -243,7 +261,8 @@ fn type_language(of: Id) -> Option<Id>
     if of == TEXT { Some(ENGLISH) } else { None }
 }
 
-/// The language of the texts that are asked for where nothing is said of it: English; of what is no text none.
+/// The language of the texts that are asked for where nothing is said of it: English; of what is no
+/// text none.
 fn plain_language(expected: &Option<Id>) -> Option<Id>
     ensures { result ≡ defined.plain_language (defined.expects_of expected.now) }
 {
@@ -253,11 +272,12 @@ fn plain_language(expected: &Option<Id>) -> Option<Id>
     }
 }
 
-/// Whether the object is a language: a live link gives it a key among languages. It goes over the places that lead from
-/// there. It takes no memory.
+/// Whether the object is a language: a live link gives it a key among languages. It goes over the
+/// places that lead from there. It takes no memory.
 pub fn is_language<L>(view: &View<'_>, object: Id, steps: &mut Steps<L>) -> bool
     ensures language { result ≡ defined.is_language (prims_of view.now) object }
-    ensures work { steps.new ≤ steps.old + 22 + 4 * length (places_with Left object (prims_of view.now)) }
+    ensures work { steps.new ≤ steps.old + 22 + 4 * length
+        (places_with Left object (prims_of view.now)) }
     ensures later { steps.old ≤ steps.new }
     ensures counted { 0 < length (prims_of view.now) → Rose steps.old steps.new }
 {
@@ -275,21 +295,23 @@ fn in_language(property: &Property, prim: &Primitive) -> bool
     }
 }
 
-/// Whether a primitive is of a property: it has its typ, and is in the language that is asked for, if one is. It takes no
-/// memory.
+/// Whether a primitive is of a property: it has its typ, and is in the language that is asked for,
+/// if one is. It takes no memory.
 pub fn is_of(property: &Property, prim: &Primitive) -> bool
     ensures { result ≡ defined.is_of property.now prim.now }
 {
     refers(prim.typ, property.stored) && in_language(property, prim)
 }
 
-/// What the property at a place states. Where a live link names a master, the links of the master, backwards; else its
-/// own. The type that is expected is what the first live link to an expected type names, if there is one. It is unique
-/// where the first live mark that has a truth value says so. Where no property stands at the place the same rules tell
-/// something too: ask `is_property` first. It goes three times over the places that lead from there. It takes no memory.
+/// What the property at a place states. Where a live link names a master, the links of the master,
+/// backwards; else its own. The type that is expected is what the first live link to an expected
+/// type names, if there is one. It is unique where the first live mark that has a truth value says
+/// so. Where no property stands at the place the same rules tell something too: ask `is_property`
+/// first. It goes three times over the places that lead from there. It takes no memory.
 pub fn stated<L>(view: &View<'_>, place: Id, steps: &mut Steps<L>) -> Property
     ensures stated { result ≡ defined.stated (prims_of view.now) place }
-    ensures work { steps.new ≤ steps.old + 25 + 12 * length (places_with Left place (prims_of view.now)) }
+    ensures work { steps.new ≤ steps.old + 25 + 12 * length
+        (places_with Left place (prims_of view.now)) }
     ensures later { steps.old ≤ steps.new }
     ensures counted { 0 < length (prims_of view.now) → Rose steps.old steps.new }
 {
@@ -306,10 +328,13 @@ pub fn stated<L>(view: &View<'_>, place: Id, steps: &mut Steps<L>) -> Property
     }
 }
 
-/// Whether a property stands at a place: an object to which a live link gives the type of properties. It takes no memory.
+/// Whether a property stands at a place: an object to which a live link gives the type of
+/// properties. It takes no memory.
 pub fn is_property<L>(view: &View<'_>, place: Id, steps: &mut Steps<L>) -> bool
-    ensures property { result ≡ (live.is_object (prims_of view.now) place && defined.has_type (prims_of view.now) place property_place) }
-    ensures work { steps.new ≤ steps.old + 25 + 4 * length (places_with Left place (prims_of view.now)) }
+    ensures property { result ≡ (live.is_object (prims_of view.now) place
+        && defined.has_type (prims_of view.now) place property_place) }
+    ensures work { steps.new ≤ steps.old + 25 + 4 * length
+        (places_with Left place (prims_of view.now)) }
     ensures later { steps.old ≤ steps.new }
     ensures counted { place < length (prims_of view.now) → Rose steps.old steps.new }
     ensures found { IsTrue result → Rose steps.old steps.new }

@@ -1,5 +1,6 @@
 //! The ids of objects.
-ghost use Rattle.std.specs.Prelude.{◌≡◌, ◌≢◌, ◌<◌, ◌&&◌, ◌++◌, ◌+◌, ◌*◌, ◌≤◌, Some, None, if◌then◌else◌, option_map, is_some, string_bytes, IfOk};
+ghost use Rattle.std.specs.Prelude.{◌≡◌, ◌≢◌, ◌<◌, ◌&&◌, ◌++◌, ◌+◌, ◌*◌, ◌≤◌, Some, None};
+ghost use Rattle.std.specs.Prelude.{if◌then◌else◌, option_map, is_some, string_bytes, IfOk};
 ghost use Rattle.gd_base.specs.Counts.{Rose};
 ghost use Rattle.gd_prim.specs.History.{prims_of};
 ghost use Rattle.gd_prim.specs.Live as live;
@@ -28,7 +29,8 @@ const LEVELS: u32 = 16;
 
 /// Whether a live link with a namespace stands at the place.
 fn names<L>(view: &View<'_>, link: Id, steps: &mut Steps<L>) -> bool
-    ensures names { result ≡ (live.is_live (prims_of view.now) link && is_some (live.end_at (λ p. p.right) (prims_of view.now) link)) }
+    ensures names { result ≡ (live.is_live (prims_of view.now) link
+        && is_some (live.end_at (λ p. p.right) (prims_of view.now) link)) }
     ensures work { steps.new ≤ steps.old + 3 }
     ensures later { steps.old ≤ steps.new }
     ensures counted { Rose steps.old steps.new }
@@ -36,7 +38,8 @@ fn names<L>(view: &View<'_>, link: Id, steps: &mut Steps<L>) -> bool
     view.is_live(link, steps) && right_at(view, link, steps).is_some()
 }
 
-/// The key link by which an object is named: of its first eight the first one that is live and has a namespace.
+/// The key link by which an object is named: of its first eight the first one that is live and has
+/// a namespace.
 fn naming_link<L>(view: &View<'_>, object: Id, steps: &mut Steps<L>) -> Option<Id>
     ensures link { result ≡ defined.naming_link (prims_of view.now) object }
     ensures work { steps.new ≤ steps.old + 48 }
@@ -54,7 +57,8 @@ fn naming_link<L>(view: &View<'_>, object: Id, steps: &mut Steps<L>) -> Option<I
 
 /// The key and the namespace of a key link, where its value is a text.
 fn key_of<'a, L>(view: &View<'a>, link: Id, steps: &mut Steps<L>) -> Option<(&'a Text, Id)>
-    ensures key { option_map (λ named. (named.0.now, named.1)) result ≡ key_from (prims_of view.now) link }
+    ensures key { option_map (λ named. (named.0.now, named.1)) result ≡ key_from (prims_of view.now)
+        link }
     ensures work { steps.new ≤ steps.old + 1 }
     ensures later { steps.old ≤ steps.new }
 {
@@ -65,7 +69,8 @@ fn key_of<'a, L>(view: &View<'a>, link: Id, steps: &mut Steps<L>) -> Option<(&'a
     }
 }
 
-/// Writes the way from the root down to an object, if at most so many steps lead up to the root, and says whether.
+/// Writes the way from the root down to an object, if at most so many steps lead up to the root,
+/// and says whether.
 fn write_way<L>(
     view: &View<'_>,
     object: Id,
@@ -73,7 +78,8 @@ fn write_way<L>(
     text: &mut String,
     steps: &mut Steps<L>,
 ) -> Result<bool, Memory>
-    ensures way { IfOk result (λ found. option_map (λ way. string_bytes text.old ++ way) (way (prims_of view.now) levels object)
+    ensures way { IfOk result (λ found. option_map (λ way. string_bytes text.old ++ way)
+        (way (prims_of view.now) levels object)
         ≡ (if found then Some (string_bytes text.new) else None)) }
     ensures work { steps.new ≤ steps.old + 49 * levels }
     ensures later { steps.old ≤ steps.new }
@@ -99,10 +105,10 @@ fn write_way<L>(
     Ok(true)
 }
 
-/// The id of an object as it is below the dateline: `/` for the root, else the path of its keys from the root down, else
-/// its guid. Of an object's first eight key links the first one counts that is live and has a namespace; a path has at
-/// most 16 keys, and each of them is a text. Any place has an id, also one where no object stands. It looks at no more
-/// than 784 things.
+/// The id of an object as it is below the dateline: `/` for the root, else the path of its keys
+/// from the root down, else its guid. Of an object's first eight key links the first one counts
+/// that is live and has a namespace; a path has at most 16 keys, and each of them is a text. Any
+/// place has an id, also one where no object stands. It looks at no more than 784 things.
 pub fn id_of<L>(
     alloc: Global,
     view: &View<'_>,

@@ -1,5 +1,6 @@
 //! The properties that words ask for.
-ghost use Rattle.std.specs.Prelude.{◌≡◌, ◌==◌, ◌+◌, ◌*◌, ◌≤◌, length, None, [], ◌∷◌, codes, if◌then◌else◌, option_map, IfOk, IfSome, IsOk, IsSome};
+ghost use Rattle.std.specs.Prelude.{◌≡◌, ◌==◌, ◌+◌, ◌*◌, ◌≤◌, length, None, [], ◌∷◌, codes};
+ghost use Rattle.std.specs.Prelude.{if◌then◌else◌, option_map, IfOk, IfSome, IsOk, IsSome};
 ghost use Rattle.std.specs.List.{starts_with};
 ghost use Rattle.gd_base.specs.Answers.{Gives};
 ghost use Rattle.gd_base.specs.Counts.{Rose};
@@ -65,7 +66,8 @@ fn turned(property: &Property) -> Property
     }
 }
 
-/// The object that a key in a namespace leads to. A key that is longer than a text leads nowhere, which is told at once.
+/// The object that a key in a namespace leads to. A key that is longer than a text leads nowhere,
+/// which is told at once.
 #[tactic(auto, using(crate::proofs::Long::no_key_leads))]
 fn any_key_leads<L>(
     alloc: Global,
@@ -74,7 +76,8 @@ fn any_key_leads<L>(
     key: &str,
     steps: &mut Steps<L>,
 ) -> Result<Option<Id>, Memory>
-    ensures leads { IfOk result (λ object. object ≡ ids.key_leads (prims_of view.now) namespace key.now) }
+    ensures leads { IfOk result (λ object. object ≡ ids.key_leads (prims_of view.now) namespace
+        key.now) }
     ensures work { steps.new ≤ steps.old + 30 }
     ensures later { steps.old ≤ steps.new }
 {
@@ -85,8 +88,8 @@ fn any_key_leads<L>(
     Ok(key_leads(view, namespace, &key, steps))
 }
 
-/// The object that a word leads to: a path is an id, `name`, `type` and `key` are of every object, another key stands in
-/// the context type.
+/// The object that a word leads to: a path is an id, `name`, `type` and `key` are of every object,
+/// another key stands in the context type.
 fn word_object<L>(
     alloc: Global,
     view: &View<'_>,
@@ -94,7 +97,8 @@ fn word_object<L>(
     word: &str,
     steps: &mut Steps<L>,
 ) -> Result<Option<Id>, Memory>
-    ensures object { IfOk result (λ object. object ≡ defined.word_object (prims_of view.now) context word.now) }
+    ensures object { IfOk result (λ object. object ≡ defined.word_object (prims_of view.now) context
+        word.now) }
     ensures work { steps.new ≤ steps.old + 3 + 30 * word_keys word.now }
     ensures later { steps.old ≤ steps.new }
 {
@@ -124,8 +128,11 @@ fn property_object<L>(
     word: &str,
     steps: &mut Steps<L>,
 ) -> Result<Option<Id>, Memory>
-    ensures object { IfOk result (λ object. object ≡ defined.property_object (prims_of view.now) context word.now) }
-    ensures work { IfOk result (λ object. steps.new ≤ steps.old + 28 + 30 * word_keys word.now + 4 * said_of (prims_of view.now) (defined.word_object (prims_of view.now) context word.now)) }
+    ensures object { IfOk result (λ object. object ≡ defined.property_object (prims_of view.now)
+        context word.now) }
+    ensures work { IfOk result (λ object. steps.new ≤ steps.old + 28 + 30 * word_keys
+        word.now + 4 * said_of (prims_of view.now)
+        (defined.word_object (prims_of view.now) context word.now)) }
     ensures later { steps.old ≤ steps.new }
     ensures counted { IfOk result (λ object. IsSome object → Rose steps.old steps.new) }
 {
@@ -141,8 +148,10 @@ fn property_object<L>(
 
 /// What the property at a place states, turned or not.
 fn stated_in<L>(view: &View<'_>, place: Id, reversed: bool, steps: &mut Steps<L>) -> Property
-    ensures stated { result ≡ (if reversed then defined.turned (defined.stated (prims_of view.now) place) else defined.stated (prims_of view.now) place) }
-    ensures work { steps.new ≤ steps.old + 25 + 12 * length (places_with Left place (prims_of view.now)) }
+    ensures stated { result ≡ (if reversed then defined.turned
+        (defined.stated (prims_of view.now) place) else defined.stated (prims_of view.now) place) }
+    ensures work { steps.new ≤ steps.old + 25 + 12 * length
+        (places_with Left place (prims_of view.now)) }
     ensures later { steps.old ≤ steps.new }
 {
     let property = stated(view, place, steps);
@@ -153,9 +162,10 @@ fn stated_in<L>(view: &View<'_>, place: Id, reversed: bool, steps: &mut Steps<L>
     }
 }
 
-/// The object that a word leads to below the dateline, if it is a property, and what it is asked for then, turned where it
-/// is `reversed`; `property` says which words lead where. A caller that has to tell a refusal knows the path that led to
-/// the word, which is not asked for here. `Memory`: an allocation was refused.
+/// The object that a word leads to below the dateline, if it is a property, and what it is asked
+/// for then, turned where it is `reversed`; `property` says which words lead where. A caller that
+/// has to tell a refusal knows the path that led to the word, which is not asked for here.
+/// `Memory`: an allocation was refused.
 pub fn named_property<L>(
     alloc: Global,
     view: &View<'_>,
@@ -164,12 +174,17 @@ pub fn named_property<L>(
     reversed: bool,
     steps: &mut Steps<L>,
 ) -> Result<Option<Named>, Memory>
-    ensures object { IfOk result (λ named. option_map (λ n. n.object) named ≡ defined.property_object (prims_of view.now) context word.now) }
-    ensures property { IfOk result (λ named. option_map (λ n. n.property) named ≡ defined.property (prims_of view.now) context reversed word.now) }
+    ensures object { IfOk result (λ named. option_map (λ n. n.object) named
+        ≡ defined.property_object (prims_of view.now) context word.now) }
+    ensures property { IfOk result (λ named. option_map (λ n. n.property) named
+        ≡ defined.property (prims_of view.now) context reversed word.now) }
 
     // So that what the property expects may be looked up once more.
-    ensures cost { IfOk result (λ named. IfSome named (λ n. steps.new + 23 + 4 * length (places_with Left n.object (prims_of view.now)) ≤ steps.old + 64 * word_cost (prims_of view.now) context word.now)) }
-    ensures none { IfOk result (λ named. steps.new ≤ steps.old + 64 * word_cost (prims_of view.now) context word.now) }
+    ensures cost { IfOk result (λ named. IfSome named
+        (λ n. steps.new + 23 + 4 * length (places_with Left n.object (prims_of view.now))
+        ≤ steps.old + 64 * word_cost (prims_of view.now) context word.now)) }
+    ensures none { IfOk result (λ named. steps.new ≤ steps.old + 64 * word_cost (prims_of view.now)
+        context word.now) }
     ensures later { steps.old ≤ steps.new }
     ensures counted { IfOk result (λ named. IsSome named → Rose steps.old steps.new) }
 {
@@ -190,11 +205,12 @@ fn path_of(alloc: Global, word: &JsonText) -> Result<Path, Memory>
     Ok(Path::from(names))
 }
 
-/// The property that a word asks for below the dateline. A word that begins with a slash is an id; `name`, `type` and
-/// `key` are of every object; another one is a key in the context, which is the type of the objects that are asked, if
-/// one is known. What it leads to has to be an object that a live link gives the type of properties. What that property
-/// states is as `stated` says; where `!` stands before the word its links are asked in the other direction, no type is
-/// expected then and there may be many answers. `NoSuchProperty`: the word leads to no property; with the path of the
+/// The property that a word asks for below the dateline. A word that begins with a slash is an id;
+/// `name`, `type` and `key` are of every object; another one is a key in the context, which is the
+/// type of the objects that are asked, if one is known. What it leads to has to be an object that a
+/// live link gives the type of properties. What that property states is as `stated` says; where `!`
+/// stands before the word its links are asked in the other direction, no type is expected then and
+/// there may be many answers. `NoSuchProperty`: the word leads to no property; with the path of the
 /// word alone, without `!`.
 pub fn property<L>(
     alloc: Global,
@@ -203,7 +219,8 @@ pub fn property<L>(
     word: &Word,
     steps: &mut Steps<L>,
 ) -> Result<Property, ResolveFault>
-    ensures property { Gives (λ property. property) ResolveFault.Memory (property_asked (prims_of view.now) context word.now.reversed word.now.text) result }
+    ensures property { Gives (λ property. property) ResolveFault.Memory
+        (property_asked (prims_of view.now) context word.now.reversed word.now.text) result }
     ensures later { steps.old ≤ steps.new }
 
     // What a property stands at is looked at.

@@ -1,5 +1,6 @@
 //! The lines of a round, once read.
-ghost use Rattle.std.specs.Prelude.{◌≡◌, ◌≢◌, ◌≤◌, ◌<◌, ◌+◌, ◌*◌, ◌++◌, ◌∷◌, ◌^◌, ℕ, List, [], length, map, true, Err, IfOk, OnOk};
+ghost use Rattle.std.specs.Prelude.{◌≡◌, ◌≢◌, ◌≤◌, ◌<◌, ◌+◌, ◌*◌, ◌++◌, ◌∷◌, ◌^◌, ℕ, List, []};
+ghost use Rattle.std.specs.Prelude.{length, map, true, Err, IfOk, OnOk};
 ghost use Rattle.std.specs.List.{All};
 ghost use Rattle.gd_runs.specs.Input.{input_fault_line, line_too_long};
 ghost use Rattle.gd_runs.specs.Input as input;
@@ -7,7 +8,8 @@ ghost use Rattle.gd_runs.specs.Explained.{Numbered, memory_line};
 ghost use Rattle.gd_input.specs.Line.{IsKept, IsShort};
 ghost use Rattle.gd_input.specs.Rounds.{AreKept};
 ghost use Rattle.gd_mql.specs.Line.{fault_view};
-ghost use Rattle.gd_round_lines.specs.Works.{no_number, IsAsked, IsAskedAt, IsAskedOf, AreAsked, Pushes, TakesLine, AreRead, AreWithin, texts_of};
+ghost use Rattle.gd_round_lines.specs.Works.{no_number, IsAsked, IsAskedAt, IsAskedOf, AreAsked};
+ghost use Rattle.gd_round_lines.specs.Works.{Pushes, TakesLine, AreRead, AreWithin, texts_of};
 ghost use Rattle.gd_reply.specs.Replies.{reply_text};
 
 use gd_base::memory::Memory;
@@ -97,7 +99,9 @@ fn too_long_reply(alloc: Global, line: u64) -> Result<Vec<u8>, Memory>
 /// What is told of a line that is refused by its form.
 fn fault_asked(alloc: Global, line: u64, fault: LineFault) -> Asked
     requires { line < 2 ^ 63 }
-    ensures refusal { (bytes : List ℕ) → (fault ≢ LineFault.Memory → input.line_from bytes ≡ Err (fault_view fault)) → IsAsked line bytes result }
+    ensures refusal { (bytes : List ℕ)
+        → (fault ≢ LineFault.Memory → input.line_from bytes ≡ Err (fault_view fault))
+        → IsAsked line bytes result }
     ensures within { IsAskedAt line result }
 {
     let reply = match fault {
@@ -188,8 +192,10 @@ impl Works {
 
     /// Appends a line by what it asks. `Memory`: an allocation was refused.
     fn push(&mut self, asked: Asked) -> Result<(), Memory>
-        ensures takes { OnOk result ((line : ℕ) (bytes : List ℕ) → IsAskedAt line asked → IsAsked line bytes asked → TakesLine line bytes self.old self.new) }
-        ensures within { OnOk result ((first line : ℕ) → first ≤ line → IsAskedAt line asked → AreWithin first line self.old → AreWithin first (line + 1) self.new) }
+        ensures takes { OnOk result ((line : ℕ) (bytes : List ℕ) → IsAskedAt line asked
+            → IsAsked line bytes asked → TakesLine line bytes self.old self.new) }
+        ensures within { OnOk result ((first line : ℕ) → first ≤ line → IsAskedAt line asked
+            → AreWithin first line self.old → AreWithin first (line + 1) self.new) }
     {
         match asked {
             Asked::Read(read) => self.push_read(read),
@@ -251,7 +257,8 @@ fn read_each<R: Threads + Sync>(
 {
     let mut asked = unread(alloc, first, lines.len())?;
     let read = |place: usize, asked: &mut Asked|
-        requires { (first + length lines.now < 2 ^ 63) × All IsShort lines.now × (place < length lines.now) }
+        requires { (first + length lines.now < 2 ^ 63) × All IsShort lines.now
+            × (place < length lines.now) }
         ensures { IsAskedOf first lines.entry.now place asked.exit.now }
     { read_at(alloc, first, lines, place, asked) };
     let threads = threads_for(lines.len(), threads);
@@ -270,7 +277,8 @@ pub fn read_lines<R: Threads + Sync>(
 ) -> Result<Works, Memory>
     requires lines { first + length lines.now < 2 ^ 63 }
     requires short { All IsShort lines.now }
-    ensures read { IfOk result (λ works. (given : List Numbered) → AreKept lines.now (texts_of given) → AreRead first given works) }
+    ensures read { IfOk result (λ works. (given : List Numbered)
+        → AreKept lines.now (texts_of given) → AreRead first given works) }
     ensures within { IfOk result (λ works. AreWithin first (first + length lines.now) works) }
 {
     let mut works = Works::new(alloc, lines.len())?;

@@ -1,5 +1,5 @@
-//! Cases as texts: each is a run of the top call over memory, and what it came to is printed. `tools/README.md` says
-//! what stands in a text.
+//! Cases as texts: each is a run of the top call over memory, and what it came to is printed.
+//! `tools/README.md` says what stands in a text.
 #![tactic(auto)]
 
 mod case;

@@ -19,8 +19,8 @@ fn counts<W: Write>(faults: Faults, out: &mut W) -> io::Result<()> {
     count("shelf", faults.shelf, out)
 }
 
-/// Prints the last lines of an output, at most so many, `< ` before each. Where no newline ends the output, a line
-/// `<cut` follows.
+/// Prints the last lines of an output, at most so many, `< ` before each. Where no newline ends the
+/// output, a line `<cut` follows.
 fn lines<W: Write>(output: &[u8], most: u64, out: &mut W) -> io::Result<()> {
     let mut ahead = output.iter().filter(|byte| **byte == b'\n').count() as u64;
     let mut is_begun = false;
@@ -58,8 +58,8 @@ fn status<W: Write>(status: Status, out: &mut W) -> io::Result<()> {
     }
 }
 
-/// Prints what a case came to: the name, the status, the counts of faults, the output, and what the file holds, where
-/// it is not what it held before.
+/// Prints what a case came to: the name, the status, the counts of faults, the output, and what the
+/// file holds, where it is not what it held before.
 pub(crate) fn report<W: Write>(case: &Case, served: &Served, out: &mut W) -> io::Result<()> {
     let name = case.setting.name.as_str();
     writeln!(out, "row {name}")?;

@@ -45,7 +45,8 @@ const PATH: &str = "a/store";
 
 /// A shelf with the file of a case.
 fn shelf_of(alloc: Global, path: &Text, setting: &Setting) -> Result<MemoryShelf, Trouble>
-    ensures { IfOk result (λ shelf. (path : List ℕ) → is_out_in (slot_at shelf.slots path) ≡ false) }
+    ensures { IfOk result (λ shelf. (path : List ℕ) → is_out_in (slot_at shelf.slots path)
+        ≡ false) }
 {
     let disk = MemoryDisk::new(alloc, &setting.file, &setting.failing.disk)?;
     Ok(MemoryShelf::new(alloc, path, disk, &setting.failing.shelf)?)

@@ -1,2 +1,3 @@
-//! Definitions of lines and whole runs: requests, legal histories, the core and explained output. They stand in `specs/`.
+//! Definitions of lines and whole runs: requests, legal histories, the core and explained output.
+//! They stand in `specs/`.
 #![tactic(auto)]

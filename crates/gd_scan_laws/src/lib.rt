@@ -1,5 +1,5 @@
-//! What a scan of candidates owes. Each law is the contract of a function that does nothing: whoever calls it may use the
-//! law, and code above cites its statement from `specs/Laws.antt`.
+//! What a scan of candidates owes. Each law is the contract of a function that does nothing:
+//! whoever calls it may use the law, and code above cites its statement from `specs/Laws.antt`.
 #![tactic(auto)]
 
 ghost use Rattle.gd_scan_laws.specs.Laws.{AnyOrder, OrdersHaveAll, ReadingsOwe, ScansGoOn};

@@ -1,5 +1,6 @@
 //! A session over a seat. No call waits.
-ghost use Rattle.std.specs.Prelude.{◌≡◌, ◌≢◌, ◌+◌, ◌-◌, ◌<◌, ◌≤◌, ◌^◌, ℕ, true, None, Some, length, max, min, option_map, Ok, Err, IfOk, IfErr, IfSome, MatchBool};
+ghost use Rattle.std.specs.Prelude.{◌≡◌, ◌≢◌, ◌+◌, ◌-◌, ◌<◌, ◌≤◌, ◌^◌, ℕ, true, None, Some, length};
+ghost use Rattle.std.specs.Prelude.{max, min, option_map, Ok, Err, IfOk, IfErr, IfSome, MatchBool};
 ghost use mathlib.Core.List.{IsPrefix};
 ghost use Rattle.gd_mql.specs.Requests.{read_view};
 ghost use Rattle.gd_shared.specs.Shared.{longer};
@@ -41,7 +42,8 @@ impl Model for Session {
 
     ghost view = { λ session. record { seat = session.seat; held = session.state.reading } };
 
-    ghost invariant = { λ session. HoldsGoing session.seat.entered (length session.seat.entered) session.state };
+    ghost invariant = { λ session. HoldsGoing session.seat.entered (length session.seat.entered)
+        session.state };
 }
 
 /// What is to be read, by a session that is let in, and the steps that were taken.
@@ -131,8 +133,11 @@ fn slice_in<L>(
     requires budget { 0 < slicing.budget }
     requires line { slicing.line < 2 ^ 63 }
     ensures slices { SlicesAs session result.0 slicing.line result.1.1 }
-    ensures reached { IfOk result.1.1 (λ progress. is_unfinished progress ≡ true → min (slicing.steps + slicing.budget) (2 ^ 64 - 1) ≤ result.1.0) }
-    ensures less { (n : ℕ) → IsPastIds n → result.1.0 + left_of n result.0 ≤ slicing.steps + left_of n session }
+    ensures reached { IfOk result.1.1
+        (λ progress. is_unfinished progress ≡ true
+        → min (slicing.steps + slicing.budget) (2 ^ 64 - 1) ≤ result.1.0) }
+    ensures less { (n : ℕ) → IsPastIds n → result.1.0 + left_of n result.0 ≤ slicing.steps + left_of
+        n session }
     ensures work { result.1.0 ≤ slicing.steps + slicing.budget + 1024 }
     ensures steps { slicing.steps ≤ result.1.0 }
 {
@@ -190,7 +195,8 @@ impl Session {
     /// that. The receipt is of the table of its seat.
     pub fn has_only(&self, receipt: &Receipt) -> bool
         requires table { receipt.now.history ≡ self.now.seat.history }
-        ensures { MatchBool result (IsPrefix self.now.seat.entered receipt.now.list × IsPrefix self.now.seat.told receipt.now.list)
+        ensures { MatchBool result (IsPrefix self.now.seat.entered receipt.now.list
+            × IsPrefix self.now.seat.told receipt.now.list)
             (length receipt.now.list < seen_of self.now.seat) }
     {
         self.seat.has_only(receipt)
@@ -200,7 +206,13 @@ impl Session {
     /// is of the table of its seat.
     pub fn learn(&mut self, receipt: Receipt)
         requires table { receipt.history ≡ self.old.seat.history }
-        ensures told { self.new ≡ record self.old { seat = record self.old.seat { told = longer self.old.seat.told receipt.list } } }
+        ensures told { self.new
+            ≡ record self.old {
+              seat = record self.old.seat {
+                told = longer self.old.seat.told
+                    receipt.list;
+              };
+            } }
         ensures begun { IsPrefix receipt.list self.new.seat.told }
         ensures later { IsLater self.old.seat self.new.seat }
     {
@@ -266,11 +278,13 @@ impl Session {
         requires budget { 0 < budget }
         requires line { line < 2 ^ 63 }
         ensures slices { SlicesAs self.old self.new line result }
-        ensures reached { IfOk result (λ progress. is_unfinished progress ≡ true → min (steps.old + budget) (2 ^ 64 - 1) ≤ steps.new) }
+        ensures reached { IfOk result (λ progress. is_unfinished progress ≡ true
+            → min (steps.old + budget) (2 ^ 64 - 1) ≤ steps.new) }
 
         // What is left falls by at least the steps of the slice, whatever it comes to; `n` is a
         // number that no id reaches.
-        ensures less { (n : ℕ) → IsPastIds n → steps.new + left_of n self.new ≤ steps.old + left_of n self.old }
+        ensures less { (n : ℕ) → IsPastIds n → steps.new + left_of n self.new
+            ≤ steps.old + left_of n self.old }
         ensures work { steps.new ≤ steps.old + budget + 1024 }
         ensures later { IsLater self.old.seat self.new.seat }
         ensures steps { steps.old ≤ steps.new }

@@ -1,5 +1,6 @@
 //! A session of the core.
-ghost use Rattle.std.specs.Prelude.{◌≡◌, ◌≢◌, ◌+◌, ◌-◌, ◌<◌, ◌≤◌, ◌^◌, ◌⊎◌, ℕ, length, max, min, None, IfOk, IfSome, OnErr};
+ghost use Rattle.std.specs.Prelude.{◌≡◌, ◌≢◌, ◌+◌, ◌-◌, ◌<◌, ◌≤◌, ◌^◌, ◌⊎◌, ℕ, length, max, min};
+ghost use Rattle.std.specs.Prelude.{None, IfOk, IfSome, OnErr};
 ghost use Rattle.gd_mql.specs.Requests.{read_view};
 ghost use Rattle.gd_runs.specs.Core as core;
 ghost use Rattle.gd_read.specs.Left.{IsPastIds};
@@ -28,7 +29,8 @@ pub(crate) struct Held {
 /// The reply line that says with this word at which dateline a reading is that is held.
 fn said_of(alloc: Global, state: &SessionState, line: u64, word: &str) -> Result<Vec<u8>, Memory>
     requires held { reads state.now ≢ None }
-    ensures { IfOk result (λ bytes. IfSome (reads state.now) (λ r. bytes.items ≡ core.said r.dateline line word.now)) }
+    ensures { IfOk result (λ bytes. IfSome (reads state.now)
+        (λ r. bytes.items ≡ core.said r.dateline line word.now)) }
 {
     match state.dateline() {
         Some(dateline) => said(alloc, dateline, line, word),
@@ -69,7 +71,8 @@ impl Held {
     ) -> Result<Vec<u8>, Memory>
         requires line { line < 2 ^ 63 }
         requires shown { shown ≤ length store.now }
-        ensures begins { IfOk result (λ reply. BeginsAs store.now shown line (read_view request) reply.items (session_view self.new)) }
+        ensures begins { IfOk result (λ reply. BeginsAs store.now shown line (read_view request)
+            reply.items (session_view self.new)) }
         ensures err { OnErr result (self.new ≡ self.old) }
         ensures held { IsGoingOn store.now shown self.old → IsGoingOn store.now shown self.new }
         ensures later { steps.old ≤ steps.new }
@@ -105,13 +108,17 @@ impl Held {
         requires shown { shown ≤ length store.now }
         requires budget { 0 < budget }
         requires held { IsGoingOn store.now shown self.old }
-        ensures slices { IfOk result (λ reply. SlicesAs store.now shown line (session_view self.old) reply.items (session_view self.new)) }
-        ensures err { OnErr result ((session_view self.new ≡ session_view self.old) ⊎ (session_view self.new ≡ in_session shown None)) }
+        ensures slices { IfOk result (λ reply. SlicesAs store.now shown line (session_view self.old)
+            reply.items (session_view self.new)) }
+        ensures err { OnErr result ((session_view self.new ≡ session_view self.old)
+            ⊎ (session_view self.new ≡ in_session shown None)) }
         ensures held { IsGoingOn store.now shown self.new }
 
         // A reading is held still only where the budget was reached.
-        ensures reached { reads self.new.state ≢ None → min (steps.old + budget) (2 ^ 64 - 1) ≤ steps.new }
-        ensures less { (n : ℕ) → IsPastIds n → steps.new + session_left n store.now self.new.state ≤ steps.old + session_left n store.now self.old.state }
+        ensures reached { reads self.new.state ≢ None → min (steps.old + budget) (2 ^ 64 - 1)
+            ≤ steps.new }
+        ensures less { (n : ℕ) → IsPastIds n → steps.new + session_left n store.now self.new.state
+            ≤ steps.old + session_left n store.now self.old.state }
         ensures work { steps.new ≤ steps.old + budget + 1024 }
         ensures later { steps.old ≤ steps.new }
     {
@@ -137,7 +144,10 @@ impl Held {
 
     /// Has seen at least this dateline, and at most what is shown.
     pub(crate) fn see(&mut self, shown: u32, dateline: u32)
-        ensures { self.new ≡ record { seen = min shown (max dateline self.old.seen); state = self.old.state } }
+        ensures { self.new ≡ record {
+          seen = min shown (max dateline self.old.seen);
+          state = self.old.state;
+        } }
     {
         self.seen = shown.min(dateline.max(self.seen));
     }
@@ -152,7 +162,8 @@ impl Held {
         dateline: u32,
     ) -> Result<Vec<u8>, Memory>
         requires line { line < 2 ^ 63 }
-        ensures learns { IfOk result (λ reply. LearnsAs shown line dateline (session_view self.old) reply.items (session_view self.new)) }
+        ensures learns { IfOk result (λ reply. LearnsAs shown line dateline (session_view self.old)
+            reply.items (session_view self.new)) }
         ensures err { OnErr result (self.new ≡ self.old) }
         ensures state { self.new.state ≡ self.old.state }
     {

@@ -16,8 +16,10 @@ use std::alloc::Global;
 /// The reply line of a refusal that names no dateline: its error, and what it tells.
 fn plain_line(alloc: Global, line: u64, error: &str, told: Members) -> Result<Vec<u8>, Memory>
     requires { line < 2 ^ 63 }
-    ensures { IfOk result (λ bytes. bytes.items ≡ printed.line_text (printed.err_code ∷ (codes "error", tree.text error.now)
-        ∷ (codes "info", tree.object (members_view told.items)) ∷ (codes "line", printed.count_json line) ∷ [])) }
+    ensures { IfOk result (λ bytes. bytes.items
+        ≡ printed.line_text (printed.err_code ∷ (codes "error", tree.text error.now)
+        ∷ (codes "info", tree.object (members_view told.items))
+        ∷ (codes "line", printed.count_json line) ∷ [])) }
 {
     let mut members = Vec::new(alloc);
     push_text(alloc, &mut members, "code", "/api/status/error")?;

@@ -1,5 +1,6 @@
 //! A core that is open: its write side, and its sessions.
-ghost use Rattle.std.specs.Prelude.{◌≡◌, ◌<◌, ◌≤◌, ◌+◌, ◌^◌, ◌⊎◌, ℕ, Bool, List, length, map, None, IfOk, IfErr, OnErr, MatchResult, [], true, codes};
+ghost use Rattle.std.specs.Prelude.{◌≡◌, ◌<◌, ◌≤◌, ◌+◌, ◌^◌, ◌⊎◌, ℕ, Bool, List, length, map, None};
+ghost use Rattle.std.specs.Prelude.{IfOk, IfErr, OnErr, MatchResult, [], true, codes};
 ghost use Rattle.std.specs.List.{AllByRecursion};
 ghost use Rattle.std.specs.Option.{ForSome};
 ghost use Rattle.gd_base.specs.Counts.{Rose};
@@ -10,7 +11,8 @@ ghost use Rattle.gd_runs.specs.Owed.{MembersOf};
 ghost use Rattle.gd_events.specs.Events.{event_view};
 ghost use Rattle.gd_runs.specs.Core as core;
 ghost use Rattle.gd_runs.specs.Core.{Event as EventOf};
-ghost use Rattle.gd_runs.specs.Core.{BeginStep, SliceStep, LearnStep, WriteStep, ReopenStep, entered};
+ghost use Rattle.gd_runs.specs.Core.{BeginStep, SliceStep, LearnStep, WriteStep, ReopenStep};
+ghost use Rattle.gd_runs.specs.Core.{entered};
 ghost use Rattle.gd_runs.specs.Side.{IsFresh};
 ghost use Rattle.gd_mql.specs.Requests.{read_view, write_view};
 ghost use Rattle.gd_reply.specs.Replies.{reply_text};
@@ -21,7 +23,8 @@ ghost use Rattle.gd_sessions.specs.Opened.{IsNew};
 ghost use Rattle.gd_replay_laws.specs.Built.{Takes, IsUnbuilt};
 ghost use Rattle.gd_replay_laws.specs.Faults.{IsCounted};
 ghost use Rattle.gd_sessions.specs.Held.{session_view, sessions_of};
-ghost use Rattle.gd_sessions.specs.Running.{core_state, StandsForState, Answers, MayTake, GoesBy, IsSliced, SlicesBy};
+ghost use Rattle.gd_sessions.specs.Running.{core_state, StandsForState, Answers, MayTake, GoesBy};
+ghost use Rattle.gd_sessions.specs.Running.{IsSliced, SlicesBy};
 
 use crate::held::Held;
 use crate::lines::{said, unbuilt_line};
@@ -59,7 +62,14 @@ impl<D: Disk, C: Clock> Model for Running<D, C> {
 
     ghost Value = { RunningValue D C };
 
-    ghost coded = { Prim.hlevel (codes, members_code, json_code, held_row.the_row.coded, D.code, C.code) };
+    ghost coded = { Prim.hlevel (
+      codes,
+      members_code,
+      json_code,
+      held_row.the_row.coded,
+      D.code,
+      C.code,
+    ) };
 
     ghost view = { λ r. record { side = r.side; held = r.held.items } };
 
@@ -107,12 +117,18 @@ impl<D: Disk, C: Clock> Running<D, C> {
         disk: D,
         clock: C,
     ) -> Result<Running<D, C>, (JournalFault, D, C)>
-        ensures opened { IfOk result (λ running. core_state running ≡ core.opened running.side.history.loaded) }
-        ensures begins { IfOk result (λ running. Begins (D.content disk) (C.may clock) C.may running.side) }
+        ensures opened { IfOk result (λ running. core_state running
+            ≡ core.opened running.side.history.loaded) }
+        ensures begins { IfOk result (λ running. Begins (D.content disk) (C.may clock) C.may
+            running.side) }
         ensures clock { IfErr result (λ refused. refused.2 ≡ clock) }
-        ensures cause { IfErr result (λ refused. refused.0 ≡ JournalFault.DiskFault → Rose (D.faults disk) (D.faults refused.1)) }
-        ensures refused { IfErr result (λ refused. ForSome (D.content disk) (λ file. Refuses refused.0 (meaning file))) }
-        ensures disk { MatchResult result (λ running. Opens D.content D.moment D.images D.images_since D.faults disk running.side.log.disk)
+        ensures cause { IfErr result (λ refused. refused.0 ≡ JournalFault.DiskFault
+            → Rose (D.faults disk) (D.faults refused.1)) }
+        ensures refused { IfErr result (λ refused. ForSome (D.content disk)
+            (λ file. Refuses refused.0 (meaning file))) }
+        ensures disk { MatchResult result
+            (λ running. Opens D.content D.moment D.images D.images_since D.faults disk
+            running.side.log.disk)
             (λ refused. Opens D.content D.moment D.images D.images_since D.faults disk refused.1) }
     {
         match new_sessions(alloc) {
@@ -131,13 +147,19 @@ impl<D: Disk, C: Clock> Running<D, C> {
     ) -> Result<Running<D, C>, (JournalFault, D, C)>
         requires many { length held.items ≡ 64 }
         requires new { AllByRecursion IsNew held.items }
-        ensures opened { IfOk result (λ running. core_state running ≡ core.opened running.side.history.loaded) }
-        ensures begins { IfOk result (λ running. Begins (D.content disk) (C.may clock) C.may running.side) }
+        ensures opened { IfOk result (λ running. core_state running
+            ≡ core.opened running.side.history.loaded) }
+        ensures begins { IfOk result (λ running. Begins (D.content disk) (C.may clock) C.may
+            running.side) }
         ensures held { IfOk result (λ running. running.held ≡ held.items) }
         ensures clock { IfErr result (λ refused. refused.2 ≡ clock) }
-        ensures cause { IfErr result (λ refused. refused.0 ≡ JournalFault.DiskFault → Rose (D.faults disk) (D.faults refused.1)) }
-        ensures refused { IfErr result (λ refused. ForSome (D.content disk) (λ file. Refuses refused.0 (meaning file))) }
-        ensures disk { MatchResult result (λ running. Opens D.content D.moment D.images D.images_since D.faults disk running.side.log.disk)
+        ensures cause { IfErr result (λ refused. refused.0 ≡ JournalFault.DiskFault
+            → Rose (D.faults disk) (D.faults refused.1)) }
+        ensures refused { IfErr result (λ refused. ForSome (D.content disk)
+            (λ file. Refuses refused.0 (meaning file))) }
+        ensures disk { MatchResult result
+            (λ running. Opens D.content D.moment D.images D.images_since D.faults disk
+            running.side.log.disk)
             (λ refused. Opens D.content D.moment D.images D.images_since D.faults disk refused.1) }
     {
         match WriteSide::start(rt, alloc, disk, clock) {
@@ -158,17 +180,27 @@ impl<D: Disk, C: Clock> Running<D, C> {
         line: u64,
     ) -> Result<(Running<D, C>, Result<Reply, Memory>), (JournalFault, D, C)>
         requires { line < 2 ^ 63 }
-        ensures takes { IfOk result (λ both. Tells (D.content self.side.log.disk) → (members : MembersOf) (may : ℕ → Bool) (bytes : ℕ)
-            → Answers (λ reply. Takes members may (core_state self) line bytes core.reopen reply (core_state both.0)) both.1) }
+        ensures takes { IfOk result (λ both. Tells (D.content self.side.log.disk)
+            → (members : MembersOf) (may : ℕ → Bool) (bytes : ℕ)
+            → Answers (λ reply. Takes members may (core_state self) line bytes core.reopen reply
+            (core_state both.0)) both.1) }
         ensures clock { IfOk result (λ both. C.may both.0.side.clock ≡ C.may self.side.clock) }
 
         // Its state is that of a store that was just opened, or nothing was done.
-        ensures anew { IfOk result (λ both. (core_state both.0 ≡ core.opened both.0.side.history.loaded) ⊎ (core_state both.0 ≡ core_state self)) }
-        ensures cause { IfErr result (λ refused. refused.0 ≡ JournalFault.DiskFault → Rose (D.faults self.side.log.disk) (D.faults refused.1)) }
-        ensures refused { IfErr result (λ refused. ForSome (D.content self.side.log.disk) (λ file. Refuses refused.0 (meaning file))) }
-        ensures holds { IfErr result (λ refused. Tells (D.content self.side.log.disk) → (file : List ℕ) → D.images refused.1 file → StandsForState (core_state self) file) }
-        ensures disk { MatchResult result (λ both. Opens D.content D.moment D.images D.images_since D.faults self.side.log.disk both.0.side.log.disk)
-            (λ refused. Opens D.content D.moment D.images D.images_since D.faults self.side.log.disk refused.1) }
+        ensures anew { IfOk result (λ both.
+            (core_state both.0 ≡ core.opened both.0.side.history.loaded)
+            ⊎ (core_state both.0 ≡ core_state self)) }
+        ensures cause { IfErr result (λ refused. refused.0 ≡ JournalFault.DiskFault
+            → Rose (D.faults self.side.log.disk) (D.faults refused.1)) }
+        ensures refused { IfErr result (λ refused. ForSome (D.content self.side.log.disk)
+            (λ file. Refuses refused.0 (meaning file))) }
+        ensures holds { IfErr result (λ refused. Tells (D.content self.side.log.disk)
+            → (file : List ℕ) → D.images refused.1 file → StandsForState (core_state self) file) }
+        ensures disk { MatchResult result
+            (λ both. Opens D.content D.moment D.images D.images_since D.faults self.side.log.disk
+            both.0.side.log.disk)
+            (λ refused. Opens D.content D.moment D.images D.images_since D.faults self.side.log.disk
+            refused.1) }
     {
         match new_sessions(alloc) {
             Ok(held) => self.open_again(rt, alloc, line, held),
@@ -188,14 +220,22 @@ impl<D: Disk, C: Clock> Running<D, C> {
         requires many { length held.items ≡ 64 }
         requires new { AllByRecursion IsNew held.items }
         ensures step { IfOk result (λ both. Tells (D.content self.side.log.disk)
-            → Answers (λ reply. ReopenStep (core_state self) line reply (core_state both.0)) both.1) }
+            → Answers (λ reply. ReopenStep (core_state self) line reply (core_state both.0))
+            both.1) }
         ensures clock { IfOk result (λ both. C.may both.0.side.clock ≡ C.may self.side.clock) }
-        ensures anew { IfOk result (λ both. core_state both.0 ≡ core.opened both.0.side.history.loaded) }
-        ensures cause { IfErr result (λ refused. refused.0 ≡ JournalFault.DiskFault → Rose (D.faults self.side.log.disk) (D.faults refused.1)) }
-        ensures refused { IfErr result (λ refused. ForSome (D.content self.side.log.disk) (λ file. Refuses refused.0 (meaning file))) }
-        ensures holds { IfErr result (λ refused. Tells (D.content self.side.log.disk) → (file : List ℕ) → D.images refused.1 file → StandsForState (core_state self) file) }
-        ensures disk { MatchResult result (λ both. Opens D.content D.moment D.images D.images_since D.faults self.side.log.disk both.0.side.log.disk)
-            (λ refused. Opens D.content D.moment D.images D.images_since D.faults self.side.log.disk refused.1) }
+        ensures anew { IfOk result (λ both. core_state both.0
+            ≡ core.opened both.0.side.history.loaded) }
+        ensures cause { IfErr result (λ refused. refused.0 ≡ JournalFault.DiskFault
+            → Rose (D.faults self.side.log.disk) (D.faults refused.1)) }
+        ensures refused { IfErr result (λ refused. ForSome (D.content self.side.log.disk)
+            (λ file. Refuses refused.0 (meaning file))) }
+        ensures holds { IfErr result (λ refused. Tells (D.content self.side.log.disk)
+            → (file : List ℕ) → D.images refused.1 file → StandsForState (core_state self) file) }
+        ensures disk { MatchResult result
+            (λ both. Opens D.content D.moment D.images D.images_since D.faults self.side.log.disk
+            both.0.side.log.disk)
+            (λ refused. Opens D.content D.moment D.images D.images_since D.faults self.side.log.disk
+            refused.1) }
     {
         // It is said here what the write side keeps.
         let _shown = self.shown();
@@ -230,7 +270,8 @@ impl<D: Disk, C: Clock> Running<D, C> {
     ) -> Result<Vec<u8>, Memory>
         requires line { line < 2 ^ 63 }
         requires sid { sid < SESSIONS }
-        ensures step { IfOk result (λ reply. BeginStep (core_state self.old) line sid (read_view request) reply.items (core_state self.new)) }
+        ensures step { IfOk result (λ reply. BeginStep (core_state self.old) line sid
+            (read_view request) reply.items (core_state self.new)) }
         ensures err { OnErr result (core_state self.new ≡ core_state self.old) }
         ensures side { self.new.side ≡ self.old.side }
         ensures later { steps.old ≤ steps.new }
@@ -253,8 +294,10 @@ impl<D: Disk, C: Clock> Running<D, C> {
         requires line { line < 2 ^ 63 }
         requires sid { sid < SESSIONS }
         requires budget { 0 < budget }
-        ensures step { IfOk result (λ reply. (members : MembersOf) → SliceStep members (core_state self.old) line sid reply.items (core_state self.new)) }
-        ensures err { OnErr result ((core_state self.new ≡ core_state self.old) ⊎ (core_state self.new ≡ entered (core_state self.old) sid None)) }
+        ensures step { IfOk result (λ reply. (members : MembersOf)
+            → SliceStep members (core_state self.old) line sid reply.items (core_state self.new)) }
+        ensures err { OnErr result ((core_state self.new ≡ core_state self.old)
+            ⊎ (core_state self.new ≡ entered (core_state self.old) sid None)) }
         ensures side { self.new.side ≡ self.old.side }
         ensures sliced { IsSliced sid budget self.old self.new steps.old steps.new }
         ensures later { steps.old ≤ steps.new }
@@ -274,7 +317,8 @@ impl<D: Disk, C: Clock> Running<D, C> {
     ) -> Result<Vec<u8>, Memory>
         requires line { line < 2 ^ 63 }
         requires sid { sid < SESSIONS }
-        ensures step { IfOk result (λ reply. LearnStep (core_state self.old) line sid dateline reply.items (core_state self.new)) }
+        ensures step { IfOk result (λ reply. LearnStep (core_state self.old) line sid dateline
+            reply.items (core_state self.new)) }
         ensures err { OnErr result (core_state self.new ≡ core_state self.old) }
         ensures side { self.new.side ≡ self.old.side }
     {
@@ -297,9 +341,12 @@ impl<D: Disk, C: Clock> Running<D, C> {
         requires bytes { bytes ≤ 262_144 }
         requires sid { sid < SESSIONS }
         requires fresh { IsFresh self.old.side.history self.old.side.doubt line }
-        ensures step { WriteStep (C.may self.old.side.clock) (core_state self.old) line bytes sid (write_view request.now) (reply_text result) (core_state self.new) }
-        ensures counted { IsCounted line (reply_text result) (D.faults self.old.side.log.disk) (D.faults self.new.side.log.disk) }
-        ensures goes { GoesOn D.content D.moment D.images D.images_since D.faults C.may self.old.side self.new.side }
+        ensures step { WriteStep (C.may self.old.side.clock) (core_state self.old) line bytes sid
+            (write_view request.now) (reply_text result) (core_state self.new) }
+        ensures counted { IsCounted line (reply_text result) (D.faults self.old.side.log.disk)
+            (D.faults self.new.side.log.disk) }
+        ensures goes { GoesOn D.content D.moment D.images D.images_since D.faults C.may
+            self.old.side self.new.side }
     {
         // It is said here that what is shown is a front of what is stored.
         let _shown = shown_of(&self.side);
@@ -319,7 +366,8 @@ impl<D: Disk, C: Clock> Running<D, C> {
         requires line { line < 2 ^ 63 }
         requires sid { sid < SESSIONS }
         ensures takes { (members : MembersOf) (may : ℕ → Bool) (bytes : ℕ)
-            → Takes members may (core_state self.old) line bytes (core.begin sid (read_view request)) (reply_text result) (core_state self.new) }
+            → Takes members may (core_state self.old) line bytes
+            (core.begin sid (read_view request)) (reply_text result) (core_state self.new) }
         ensures side { self.new.side ≡ self.old.side }
         ensures later { steps.old ≤ steps.new }
     {
@@ -340,7 +388,8 @@ impl<D: Disk, C: Clock> Running<D, C> {
         requires sid { sid < SESSIONS }
         requires budget { 0 < budget }
         ensures takes { (members : MembersOf) (may : ℕ → Bool) (bytes : ℕ)
-            → Takes members may (core_state self.old) line bytes (core.slice sid budget) (reply_text result) (core_state self.new) }
+            → Takes members may (core_state self.old) line bytes (core.slice sid budget)
+            (reply_text result) (core_state self.new) }
         ensures side { self.new.side ≡ self.old.side }
         ensures sliced { IsSliced sid budget self.old self.new steps.old steps.new }
         ensures later { steps.old ≤ steps.new }
@@ -354,7 +403,8 @@ impl<D: Disk, C: Clock> Running<D, C> {
         requires line { line < 2 ^ 63 }
         requires sid { sid < SESSIONS }
         ensures takes { (members : MembersOf) (may : ℕ → Bool) (bytes : ℕ)
-            → Takes members may (core_state self.old) line bytes (core.learn sid dateline) (reply_text result) (core_state self.new) }
+            → Takes members may (core_state self.old) line bytes (core.learn sid dateline)
+            (reply_text result) (core_state self.new) }
         ensures side { self.new.side ≡ self.old.side }
     {
         let reply = self.try_learn(alloc, line, sid, dateline);
@@ -364,8 +414,10 @@ impl<D: Disk, C: Clock> Running<D, C> {
     /// The refusal of an event that is not built.
     fn refuse(&self, alloc: Global, line: u64) -> Reply
         requires line { line < 2 ^ 63 }
-        ensures { (members : MembersOf) (may : ℕ → Bool) (bytes : ℕ) (event : EventOf) → IsUnbuilt event
-            → Takes members may (core_state self.now) line bytes event (reply_text result) (core_state self.now) }
+        ensures { (members : MembersOf) (may : ℕ → Bool) (bytes : ℕ) (event : EventOf)
+            → IsUnbuilt event
+            → Takes members may (core_state self.now) line bytes event (reply_text result)
+            (core_state self.now) }
     {
         Reply::made(line, unbuilt_line(alloc, line))
     }
@@ -389,12 +441,16 @@ impl<D: Disk, C: Clock> Running<D, C> {
 
         // The reply and the new state are what the event comes to, and the reply tells a failure of
         // the disk only where the disk's count rose.
-        ensures takes { (members : MembersOf) → Takes members (C.may self.old.side.clock) (core_state self.old) line bytes (event_view event) (reply_text result) (core_state self.new) }
-        ensures counted { IsCounted line (reply_text result) (D.faults self.old.side.log.disk) (D.faults self.new.side.log.disk) }
+        ensures takes { (members : MembersOf)
+            → Takes members (C.may self.old.side.clock) (core_state self.old) line bytes
+            (event_view event) (reply_text result) (core_state self.new) }
+        ensures counted { IsCounted line (reply_text result) (D.faults self.old.side.log.disk)
+            (D.faults self.new.side.log.disk) }
 
         // What the disk holds stays what the core has; a stop leaves what it had before or has
         // after.
-        ensures goes { GoesOn D.content D.moment D.images D.images_since D.faults C.may self.old.side self.new.side }
+        ensures goes { GoesOn D.content D.moment D.images D.images_since D.faults C.may
+            self.old.side self.new.side }
 
         // A slice leaves a reading only where its budget was reached, and what is left of the
         // reading falls by its steps.
@@ -420,7 +476,8 @@ impl<D: Disk, C: Clock> Running<D, C> {
 
         // All that a stop leaves of a disk that tells its content is the history, with all or none
         // of the write in doubt.
-        ensures holds { Tells (D.content result.0) → (file : List ℕ) → D.images result.0 file → StandsForState (core_state self) file }
+        ensures holds { Tells (D.content result.0) → (file : List ℕ) → D.images result.0 file
+            → StandsForState (core_state self) file }
     {
         // It is said here what the write side keeps.
         let _shown = self.shown();

@@ -38,8 +38,10 @@ fn tell<D: Disk, C: Clock>(
 ) -> Reply
     requires line { line < 2 ^ 63 }
     requires one { (kept : Kept) × (side.old.outcomes ≡ told_of line kept ∷ []) }
-    ensures told { (kept : Kept) → side.old.outcomes ≡ told_of line kept ∷ [] → IsToldKept kept (length side.old.shown) held.old held.new }
-    ensures reply { (kept : Kept) → side.old.outcomes ≡ told_of line kept ∷ [] → reply_text result ≡ kept_reply line kept }
+    ensures told { (kept : Kept) → side.old.outcomes ≡ told_of line kept ∷ []
+        → IsToldKept kept (length side.old.shown) held.old held.new }
+    ensures reply { (kept : Kept) → side.old.outcomes ≡ told_of line kept ∷ []
+        → reply_text result ≡ kept_reply line kept }
     ensures side { side.new ≡ record side.old { outcomes = [] } }
 {
     let shown = side.shown();
@@ -71,8 +73,10 @@ pub(crate) fn write<R: Wait, D: Disk, C: Clock>(
     requires fresh { IsFresh side.old.history side.old.doubt line }
     requires bytes { bytes ≤ 262_144 }
     requires line { line < 2 ^ 63 }
-    ensures writes { WritesFor (C.may side.old.clock) D.faults side.old line bytes (write_view request.now) side.new held.old held.new (reply_text result) }
-    ensures goes { GoesOn D.content D.moment D.images D.images_since D.faults C.may side.old side.new }
+    ensures writes { WritesFor (C.may side.old.clock) D.faults side.old line bytes
+        (write_view request.now) side.new held.old held.new (reply_text result) }
+    ensures goes { GoesOn D.content D.moment D.images D.images_since D.faults C.may side.old
+        side.new }
 {
     match side.write(rt, line, request, bytes) {
         Ok(()) => tell(alloc, side, held, line),

@@ -82,7 +82,8 @@ pub(crate) fn answer_of<'t>(asking: &Asking, tree: &'t Tree) -> Answer<'t>
 
 /// The lists behind that of a member, if it has one.
 pub(crate) fn behind_member<'t>(member: &Member, lists: &'t [Trees]) -> &'t [Trees]
-    ensures { lists_view result.now ≡ behind_first (put member.now defs.no_members) (lists_view lists.now) }
+    ensures { lists_view result.now ≡ behind_first (put member.now defs.no_members)
+        (lists_view lists.now) }
 {
     match member {
         Member::Own { .. } => lists,
@@ -93,7 +94,8 @@ pub(crate) fn behind_member<'t>(member: &Member, lists: &'t [Trees]) -> &'t [Tre
 /// The lists of the sort keys, which stand behind those of the members.
 #[tactic(auto, using(crate::proofs::Members::sort_left))]
 pub(crate) fn sort_lists<'t>(members: &[Member], lists: &'t [Trees]) -> &'t [Trees]
-    ensures { lists_view result.now ≡ shape.sort_lists (members_view members.now) (lists_view lists.now) }
+    ensures { lists_view result.now ≡ shape.sort_lists (members_view members.now)
+        (lists_view lists.now) }
 {
     let mut left = lists;
     for member in members {
@@ -124,7 +126,8 @@ fn key_place(key: &SortKey, object: Id, lists: &[Trees]) -> Option<Id>
 
 /// The lists behind that of a sort key, if it has one.
 fn behind_key<'t>(key: &SortKey, lists: &'t [Trees]) -> &'t [Trees]
-    ensures { lists_view result.now ≡ shape.behind_key (sort_key_view key.now).key (lists_view lists.now) }
+    ensures { lists_view result.now ≡ shape.behind_key (sort_key_view key.now).key
+        (lists_view lists.now) }
 {
     match key {
         SortKey::Value { .. } => lists_behind(lists),
@@ -140,7 +143,8 @@ pub(crate) fn key_places(
     object: Id,
     lists: &[Trees],
 ) -> Result<Vec<Option<Id>>, Memory>
-    ensures { IfOk result (λ places. places.items ≡ shape.key_places (map sort_key_view sort.now) object (lists_view lists.now)) }
+    ensures { IfOk result (λ places. places.items ≡ shape.key_places (map sort_key_view sort.now)
+        object (lists_view lists.now)) }
 {
     let mut places = Vec::with_capacity(alloc, sort.len())?;
     let mut left = lists;

@@ -90,7 +90,8 @@ fn id_json(sight: &Sight<'_>, ids: &Known, object: Id) -> Result<Json, Lack>
 /// The id of an object, if there is one, else null.
 fn some_id_json(sight: &Sight<'_>, ids: &Known, object: Option<Id>) -> Result<Json, Lack>
     requires { IsKnownOf sight.now ids.now }
-    ensures printed { IfOk result (λ json. view json ≡ reply.id_json sight.now (object_datum object)) }
+    ensures printed { IfOk result (λ json. view json ≡ reply.id_json sight.now
+        (object_datum object)) }
     ensures lacks { IfErr result (λ lack. Lacks ids.now lack) }
 {
     match object {
@@ -155,7 +156,8 @@ pub(crate) fn own_json(
     object: Id,
 ) -> Result<Json, Lack>
     requires { IsKnownOf sight.now ids.now }
-    ensures printed { IfOk result (λ json. view json ≡ reply.own_json sight.now (own_view own) link object) }
+    ensures printed { IfOk result (λ json. view json ≡ reply.own_json sight.now (own_view own) link
+        object) }
     ensures lacks { IfErr result (λ lack. Lacks ids.now lack) }
 {
     match own {
@@ -183,7 +185,8 @@ pub(crate) fn answer_value(
     property: &Property,
     link: Id,
 ) -> Result<Json, Memory>
-    ensures { IfOk result (λ json. view json ≡ datum_json (props.answer_datum sight.now property.now link)) }
+    ensures { IfOk result (λ json. view json
+        ≡ datum_json (props.answer_datum sight.now property.now link)) }
 {
     if holds_values(answers_of(property)) {
         return value_at(alloc, sight, link);
@@ -202,7 +205,8 @@ pub(crate) fn answer_id(
     link: Id,
 ) -> Result<Json, Lack>
     requires { IsKnownOf sight.now ids.now }
-    ensures printed { IfOk result (λ json. view json ≡ reply.id_json sight.now (props.answer_datum sight.now property.now link)) }
+    ensures printed { IfOk result (λ json. view json ≡ reply.id_json sight.now
+        (props.answer_datum sight.now property.now link)) }
     ensures lacks { IfErr result (λ lack. Lacks ids.now lack) }
 {
     if holds_values(answers_of(property)) {

@@ -1,5 +1,5 @@
-//! The objects whose ids a page prints, before it is printed. No clause says that these are all: where one is missing, printing
-//! says whose.
+//! The objects whose ids a page prints, before it is printed. No clause says that these are all:
+//! where one is missing, printing says whose.
 use crate::answer::{Answer, behind_member};
 use crate::cut::cut;
 use crate::lists::first_trees;
@@ -66,7 +66,8 @@ fn push_answer(
     Ok(())
 }
 
-/// Puts the objects whose ids members print of an object behind others, in the order in which they are printed.
+/// Puts the objects whose ids members print of an object behind others, in the order in which they
+/// are printed.
 #[cycle(objects)]
 fn push_members(
     alloc: Global,

@@ -46,9 +46,11 @@ impl Known {
     /// Keeps the id of an object. `Memory`: what is known stays.
     #[tactic(auto, using(crate::proofs::Knowing::as_many_missing))]
     pub fn learn(&mut self, object: Id, text: JsonText) -> Result<(), Memory>
-        ensures known { (prims : List Primitive) → IsKnownOf prims self.old → text ≡ id_text prims object → IsKnownOf prims self.new }
+        ensures known { (prims : List Primitive) → IsKnownOf prims self.old
+            → text ≡ id_text prims object → IsKnownOf prims self.new }
         ensures fewer { (n : ℕ) → missing n self.new ≤ missing n self.old }
-        ensures one { OnOk result ((n : ℕ) → object < n → IsNone (known_at self.old object) → missing n self.new + 1 ≡ missing n self.old) }
+        ensures one { OnOk result ((n : ℕ) → object < n → IsNone (known_at self.old object)
+            → missing n self.new + 1 ≡ missing n self.old) }
     {
         match self.ids.insert(object, text) {
             Ok(_) => Ok(()),

@@ -29,7 +29,9 @@ fn row_json(
     tree: &Tree,
 ) -> Result<Result<Json, Vec<JsonText>>, Lack>
     requires { IsKnownOf sight.now ids.now }
-    ensures printed { IfOk result (λ outcome. seen view outcome ≡ print.as_object (print.object_print sight.now (members_view members.now) 0 (place_of (tree_view tree.now)) (lists_of (tree_view tree.now)))) }
+    ensures printed { IfOk result (λ outcome. seen view outcome
+        ≡ print.as_object (print.object_print sight.now (members_view members.now) 0
+        (place_of (tree_view tree.now)) (lists_of (tree_view tree.now)))) }
     ensures lacks { IfErr result (λ lack. Lacks ids.now lack) }
 {
     let at = Answer {
@@ -51,7 +53,8 @@ fn rows_json(
     trees: &[Tree],
 ) -> Result<Result<Vec<Json>, Vec<JsonText>>, Lack>
     requires { IsKnownOf sight.now ids.now }
-    ensures printed { IfOk result (λ outcome. seen (λ js. items_view js.items) outcome ≡ print.rows_print sight.now (members_view members.now) (map tree_view trees.now)) }
+    ensures printed { IfOk result (λ outcome. seen (λ js. items_view js.items) outcome
+        ≡ print.rows_print sight.now (members_view members.now) (map tree_view trees.now)) }
     ensures lacks { IfErr result (λ lack. Lacks ids.now lack) }
 {
     let mut items = Vec::with_capacity(alloc, trees.len())?;
@@ -64,9 +67,9 @@ fn rows_json(
     Ok(Ok(items))
 }
 
-/// What the root of a query prints from the trees of its page's rows: a list, an object or null; or the names of the members
-/// that lead to the first two answers where one is asked. `IdOf`: the id of an object is not among those that are known.
-/// `Memory`: an allocation was refused.
+/// What the root of a query prints from the trees of its page's rows: a list, an object or null; or
+/// the names of the members that lead to the first two answers where one is asked. `IdOf`: the id
+/// of an object is not among those that are known. `Memory`: an allocation was refused.
 pub fn page_json(
     alloc: Global,
     sight: &Sight<'_>,
@@ -75,7 +78,8 @@ pub fn page_json(
     trees: &[Tree],
 ) -> Result<Result<Json, Vec<JsonText>>, Lack>
     requires { IsKnownOf sight.now ids.now }
-    ensures printed { IfOk result (λ outcome. seen view outcome ≡ page_shape sight.now (asked_view asked.now) (map tree_view trees.now) []) }
+    ensures printed { IfOk result (λ outcome. seen view outcome
+        ≡ page_shape sight.now (asked_view asked.now) (map tree_view trees.now) []) }
     ensures lacks { IfErr result (λ lack. Lacks ids.now lack) }
 {
     match rows_json(alloc, sight, ids, asked.members.as_slice(), trees)? {

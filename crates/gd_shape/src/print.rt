@@ -1,5 +1,6 @@
 //! What a clause prints of an object.
-ghost use Rattle.std.specs.Prelude.{◌≡◌, ◌++◌, [], ◌∷◌, Ok, IfErr, IfOk, OnOk, map, option_map, unwrap_or};
+ghost use Rattle.std.specs.Prelude.{◌≡◌, ◌++◌, [], ◌∷◌, Ok, IfErr, IfOk, OnOk, map, option_map};
+ghost use Rattle.std.specs.Prelude.{unwrap_or};
 ghost use Rattle.gd_defs.specs.Asked as defs;
 ghost use Rattle.gd_defs.specs.Reply as reply;
 ghost use Rattle.gd_json.specs.View.{view, items_view, members_view as printed_view, member_view};
@@ -45,7 +46,8 @@ fn name_json(alloc: Global, sight: &Sight<'_>, lists: &[Trees]) -> Result<Json, 
     }
 }
 
-/// What an answer prints in a style that is not its clause's, from its link and the lists of the object there.
+/// What an answer prints in a style that is not its clause's, from its link and the lists of the
+/// object there.
 fn style_json(
     alloc: Global,
     sight: &Sight<'_>,
@@ -55,7 +57,8 @@ fn style_json(
     row: &Ranked<'_>,
 ) -> Result<Json, Lack>
     requires { IsKnownOf sight.now ids.now }
-    ensures printed { IfOk result (λ json. view json ≡ print.style_print sight.now property.now row.now.link (lists_view row.now.lists.now) (style_view style.now)) }
+    ensures printed { IfOk result (λ json. view json ≡ print.style_print sight.now property.now
+        row.now.link (lists_view row.now.lists.now) (style_view style.now)) }
     ensures lacks { IfErr result (λ lack. Lacks ids.now lack) }
 {
     match style {
@@ -135,7 +138,8 @@ fn with_name(name: &JsonText, names: Names) -> Result<Names, Memory>
 
 /// The outcome below a member, whose name begins the path of two answers.
 fn under(name: &JsonText, printed: Result<Json, Names>) -> Result<Result<Json, Names>, Memory>
-    ensures { IfOk result (λ outcome. seen view outcome ≡ reply.under name.now (seen view printed)) }
+    ensures { IfOk result (λ outcome. seen view outcome
+        ≡ reply.under name.now (seen view printed)) }
 {
     match printed {
         Ok(json) => Ok(Ok(json)),
@@ -153,7 +157,8 @@ fn own_or(
     at: &Answer<'_>,
 ) -> Result<Json, Lack>
     requires { IsKnownOf sight.now ids.now }
-    ensures printed { IfOk result (λ json. view json ≡ unwrap_or (option_map view operand.now) (reply.own_json sight.now (own_view own) at.now.link at.now.object)) }
+    ensures printed { IfOk result (λ json. view json ≡ unwrap_or (option_map view operand.now)
+        (reply.own_json sight.now (own_view own) at.now.link at.now.object)) }
     ensures lacks { IfErr result (λ lack. Lacks ids.now lack) }
 {
     match operand {
@@ -174,7 +179,11 @@ fn name_of(member: &Member) -> &JsonText
 
 /// Puts a member behind those that were printed.
 fn push_member(printed: &mut Members, member: &Member, json: Json) -> Result<(), Memory>
-    ensures { OnOk result (map member_view printed.new.items ≡ map member_view printed.old.items ++ (print.first_name (put member.now defs.no_members), view json) ∷ []) }
+    ensures { OnOk result (map member_view printed.new.items
+        ≡ map member_view printed.old.items ++ (
+          print.first_name (put member.now defs.no_members),
+          view json,
+        ) ∷ []) }
 {
     printed.push((name_of(member).copy()?, json))?;
     Ok(())
@@ -191,7 +200,9 @@ pub(crate) fn members_json(
     at: &Answer<'_>,
 ) -> Result<Result<Members, Names>, Lack>
     requires { IsKnownOf sight.now ids.now }
-    ensures printed { IfOk result (λ outcome. seen (λ ms. printed_view ms.items) outcome ≡ print.object_print sight.now (members_view members.now) at.now.link at.now.object (lists_view at.now.lists.now)) }
+    ensures printed { IfOk result (λ outcome. seen (λ ms. printed_view ms.items) outcome
+        ≡ print.object_print sight.now (members_view members.now) at.now.link at.now.object
+        (lists_view at.now.lists.now)) }
     ensures lacks { IfErr result (λ lack. Lacks ids.now lack) }
 {
     let mut printed = Vec::with_capacity(alloc, members.len())?;
@@ -217,7 +228,8 @@ fn member_json(
     lists: &[Trees],
 ) -> Result<Result<Json, Names>, Lack>
     requires { IsKnownOf sight.now ids.now }
-    ensures printed { IfOk result (λ outcome. seen view outcome ≡ print.first_print sight.now (put member.now defs.no_members) at.now.link at.now.object (lists_view lists.now)) }
+    ensures printed { IfOk result (λ outcome. seen view outcome ≡ print.first_print sight.now
+        (put member.now defs.no_members) at.now.link at.now.object (lists_view lists.now)) }
     ensures lacks { IfErr result (λ lack. Lacks ids.now lack) }
 {
     match member {
@@ -245,7 +257,8 @@ fn asks_json(
     trees: &[Tree],
 ) -> Result<Result<Json, Names>, Lack>
     requires { IsKnownOf sight.now ids.now }
-    ensures printed { IfOk result (λ outcome. seen view outcome ≡ print.asks_print sight.now (asking_view asking.now) (members_view clause.now) (map tree_view trees.now)) }
+    ensures printed { IfOk result (λ outcome. seen view outcome ≡ print.asks_print sight.now
+        (asking_view asking.now) (members_view clause.now) (map tree_view trees.now)) }
     ensures lacks { IfErr result (λ lack. Lacks ids.now lack) }
 {
     if let Some(json) = operand(&asking.style) {
@@ -273,7 +286,9 @@ fn each_json(
     rows: &[Ranked<'_>],
 ) -> Result<Result<Vec<Json>, Names>, Lack>
     requires { IsKnownOf sight.now ids.now }
-    ensures printed { IfOk result (λ outcome. seen (λ js. items_view js.items) outcome ≡ print.each_print (print.answer_print sight.now (asking_view asking.now) (members_view clause.now)) (map ranked_view rows.now)) }
+    ensures printed { IfOk result (λ outcome. seen (λ js. items_view js.items) outcome
+        ≡ print.each_print (print.answer_print sight.now (asking_view asking.now)
+        (members_view clause.now)) (map ranked_view rows.now)) }
     ensures lacks { IfErr result (λ lack. Lacks ids.now lack) }
 {
     let mut items = Vec::with_capacity(alloc, rows.len())?;
@@ -297,7 +312,8 @@ fn answer_json(
     row: &Ranked<'_>,
 ) -> Result<Result<Json, Names>, Lack>
     requires { IsKnownOf sight.now ids.now }
-    ensures printed { IfOk result (λ outcome. seen view outcome ≡ print.answer_print sight.now (asking_view asking.now) (members_view clause.now) (ranked_view row.now)) }
+    ensures printed { IfOk result (λ outcome. seen view outcome ≡ print.answer_print sight.now
+        (asking_view asking.now) (members_view clause.now) (ranked_view row.now)) }
     ensures lacks { IfErr result (λ lack. Lacks ids.now lack) }
 {
     if !is_clause(&asking.style) {

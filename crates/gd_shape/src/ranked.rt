@@ -12,8 +12,8 @@ use gd_plan::asked::{Asking, Member};
 use gd_trees::tree::{Tree, Trees};
 use std::alloc::Global;
 
-/// An answer as a row, by which it is sorted: the object at the other end of its link, the link, the places of its sort keys,
-/// and the lists of the object's clauses.
+/// An answer as a row, by which it is sorted: the object at the other end of its link, the link,
+/// the places of its sort keys, and the lists of the object's clauses.
 #[derive(Drop)]
 pub(crate) struct Ranked<'t> {
     pub(crate) object: Id,
@@ -29,7 +29,9 @@ pub(crate) fn row_of<'t>(
     clause: &[Member],
     tree: &'t Tree,
 ) -> Result<Ranked<'t>, Memory>
-    ensures { let a = asking_view asking.now in IfOk result (λ row. ranked_view row ≡ shape.ranked a (members_view clause.now) (shape.answer_of a (view tree.now))) }
+    ensures { let a = asking_view asking.now in IfOk result
+        (λ row. ranked_view row ≡ shape.ranked a (members_view clause.now)
+        (shape.answer_of a (view tree.now))) }
 {
     let answer = answer_of(asking, tree);
     let lists = sort_lists(clause, answer.lists);

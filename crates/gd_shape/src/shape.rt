@@ -1,5 +1,6 @@
 //! A page that is printed in slices.
-ghost use Rattle.std.specs.Prelude.{◌≡◌, ◌+◌, ◌-◌, ◌^◌, ◌<◌, ◌≤◌, ℕ, [], List, Ok, Result, min, map, false, IfOk, IfErr, IfSome, IsNone, IsOk, IsTrue, OnOk};
+ghost use Rattle.std.specs.Prelude.{◌≡◌, ◌+◌, ◌-◌, ◌^◌, ◌<◌, ◌≤◌, ℕ, [], List, Ok, Result, min};
+ghost use Rattle.std.specs.Prelude.{map, false, IfOk, IfErr, IfSome, IsNone, IsOk, IsTrue, OnOk};
 ghost use Rattle.gd_base.specs.Counts.{Rose};
 ghost use Rattle.gd_prim.specs.History.{prims_of};
 ghost use Rattle.gd_prim.specs.declared.Primitive.{Primitive};
@@ -13,7 +14,9 @@ ghost use Rattle.gd_shape.specs.Knowing.{known_at, missing, IsKnownOf};
 ghost use Rattle.gd_shape.specs.Outcome.{seen, Lacks};
 ghost use Rattle.gd_shape.specs.declared.shape.Shape.{Shape};
 ghost use Rattle.gd_shape.specs.declared.shape.ShapeFault.TheVariants.{Memory as no_memory};
-ghost use Rattle.gd_shape.specs.Shaping.{asked_of, trees_in, page_of, body_print, steps_left, shape_left, shape_most, IsOf, IsSamePage, IsWanted, IsNext, Tells, Refuses, is_unfinished};
+ghost use Rattle.gd_shape.specs.Shaping.{asked_of, trees_in, page_of, body_print, steps_left};
+ghost use Rattle.gd_shape.specs.Shaping.{shape_left, shape_most, IsOf, IsSamePage, IsWanted};
+ghost use Rattle.gd_shape.specs.Shaping.{IsNext, Tells, Refuses, is_unfinished};
 
 use crate::gather::objects_printed;
 use crate::known::Known;
@@ -70,7 +73,8 @@ impl From<Memory> for ShapeFault {
     }
 }
 
-/// A page that is being printed: what is asked, the trees of its rows, and the ids that were found so far.
+/// A page that is being printed: what is asked, the trees of its rows, and the ids that were found
+/// so far.
 #[derive(Drop)]
 pub struct Shape {
     asked: Asked,
@@ -106,7 +110,8 @@ enum Next {
 
 /// What is next where something is lacking.
 fn lacking(lack: Lack) -> Result<Next, Memory>
-    ensures { (expected : Result tree.Json Path) (s : Shape) → Lacks s.ids lack → IfOk result (λ next. IsNext expected s next) }
+    ensures { (expected : Result tree.Json Path) (s : Shape) → Lacks s.ids lack
+        → IfOk result (λ next. IsNext expected s next) }
 {
     match lack {
         Lack::IdOf(object) => Ok(Next::Look(Wanted::IdOf(object))),
@@ -114,7 +119,8 @@ fn lacking(lack: Lack) -> Result<Next, Memory>
     }
 }
 
-/// The next of these objects, from the last one, whose id is not known; those behind it are passed over.
+/// The next of these objects, from the last one, whose id is not known; those behind it are passed
+/// over.
 fn unknown(objects: &mut Vec<Id>, ids: &Known) -> Option<Id>
     ensures { IfSome result (λ object. IsNone (known_at ids.now object)) }
 {
@@ -154,13 +160,15 @@ fn left_of(budget: u64, before: u64, after: u64) -> u64
     requires later { before ≤ after }
     ensures less { result < budget }
     ensures spent { 0 < result → after + result ≤ before + budget }
-    ensures counted { min (before + 1) (2 ^ 64 - 1) ≤ after → min (before + (budget - result)) (2 ^ 64 - 1) ≤ after }
+    ensures counted { min (before + 1) (2 ^ 64 - 1) ≤ after
+        → min (before + (budget - result)) (2 ^ 64 - 1) ≤ after }
 {
     let spent = (after - before).max(1);
     budget.saturating_sub(spent)
 }
 
-/// A shape of trees or of a count, of which nothing is looked at yet, with so many places for which a step is to be counted.
+/// A shape of trees or of a count, of which nothing is looked at yet, with so many places for which
+/// a step is to be counted.
 #[tactic(auto, using(crate::proofs::Knowing::most_left))]
 fn begun(alloc: Global, asked: Asked, trees: Vec<Tree>, count: Option<u32>, places: u64) -> Shape
     requires { places ≤ 262_144 }
@@ -184,10 +192,12 @@ fn begun(alloc: Global, asked: Asked, trees: Vec<Tree>, count: Option<u32>, plac
 }
 
 impl Shape {
-    /// The page of a query with this body, of which nothing is looked at yet. `Memory`: an allocation was refused.
+    /// The page of a query with this body, of which nothing is looked at yet. `Memory`: an
+    /// allocation was refused.
     #[tactic(auto, using(crate::proofs::InTrees::list_seen))]
     pub fn start(alloc: Global, asked: Asked, body: PageBody) -> Result<Shape, Memory>
-        ensures page { IfOk result (λ shape. (prims : List Primitive) → page_of prims shape ≡ body_print prims (asked_view asked) body) }
+        ensures page { IfOk result (λ shape. (prims : List Primitive)
+            → page_of prims shape ≡ body_print prims (asked_view asked) body) }
         ensures of { IfOk result (λ shape. (prims : List Primitive) → IsOf prims shape) }
         ensures left { IfOk result (λ shape. (n : ℕ) → shape_left n shape ≤ shape_most n) }
     {
@@ -220,7 +230,9 @@ impl Shape {
     /// What the page prints, or the object whose id is not known.
     fn attempt(&self, alloc: Global, view: &View<'_>) -> Result<Next, Memory>
         requires { IsOf (prims_of view.now) self.now }
-        ensures { IfOk result (λ next. IsNext (page_shape (prims_of view.now) (asked_of self.now) (trees_in self.now) []) self.now next) }
+        ensures { IfOk result (λ next. IsNext
+            (page_shape (prims_of view.now) (asked_of self.now) (trees_in self.now) []) self.now
+            next) }
     {
         let sight = Sight::new(view);
         match page_json(alloc, &sight, &self.ids, &self.asked, self.trees.as_slice()) {
@@ -232,7 +244,9 @@ impl Shape {
     /// What is next: a place, an id that is not known, or the page, which is printed.
     fn next(&mut self, alloc: Global, view: &View<'_>) -> Result<Next, Memory>
         requires { IsOf (prims_of view.now) self.old }
-        ensures next { IfOk result (λ next. IsNext (page_shape (prims_of view.now) (asked_of self.old) (trees_in self.old) []) self.new next) }
+        ensures next { IfOk result (λ next. IsNext
+            (page_shape (prims_of view.now) (asked_of self.old) (trees_in self.old) []) self.new
+            next) }
         ensures page { IsSamePage self.old self.new }
         ensures still { IsOf (prims_of view.now) self.new }
         ensures left { (n : ℕ) → steps_left n self.new ≡ steps_left n self.old }
@@ -259,7 +273,8 @@ impl Shape {
         ensures page { IsSamePage self.old self.new }
         ensures still { IsOf (prims_of view.now) self.old → IsOf (prims_of view.now) self.new }
         ensures within { (n : ℕ) → 2 ^ 32 ≤ n → steps.new ≤ steps.old + steps_left n self.old }
-        ensures less { OnOk result ((n : ℕ) → 2 ^ 32 ≤ n → steps.new + steps_left n self.new ≤ steps.old + steps_left n self.old) }
+        ensures less { OnOk result ((n : ℕ) → 2 ^ 32 ≤ n → steps.new + steps_left n self.new
+            ≤ steps.old + steps_left n self.old) }
         ensures work { steps.new ≤ steps.old + 1025 }
         ensures later { steps.old ≤ steps.new }
         ensures counted { Rose steps.old steps.new }
@@ -284,13 +299,18 @@ impl Shape {
     ) -> Result<ShapeTurn, ShapeFault>
         requires budget { 0 < budget }
         requires of { IsOf (prims_of view.now) self.old }
-        ensures reply { IfOk result (λ turn. Tells (page_shape (prims_of view.now) (asked_of self.old) (trees_in self.old) []) turn) }
-        ensures refused { IfErr result (λ fault. Refuses (page_shape (prims_of view.now) (asked_of self.old) (trees_in self.old) []) fault) }
-        ensures unfinished { IfOk result (λ turn. IsTrue (is_unfinished turn) → min (steps.old + budget) (2 ^ 64 - 1) ≤ steps.new) }
+        ensures reply { IfOk result (λ turn. Tells
+            (page_shape (prims_of view.now) (asked_of self.old) (trees_in self.old) []) turn) }
+        ensures refused { IfErr result (λ fault. Refuses
+            (page_shape (prims_of view.now) (asked_of self.old) (trees_in self.old) []) fault) }
+        ensures unfinished { IfOk result
+            (λ turn. IsTrue (is_unfinished turn) → min (steps.old + budget) (2 ^ 64 - 1)
+            ≤ steps.new) }
         ensures page { IsSamePage self.old self.new }
         ensures still { IsOf (prims_of view.now) self.new }
         ensures within { (n : ℕ) → 2 ^ 32 ≤ n → steps.new ≤ steps.old + steps_left n self.old }
-        ensures less { IsOk result → (n : ℕ) → 2 ^ 32 ≤ n → steps.new + steps_left n self.new ≤ steps.old + steps_left n self.old }
+        ensures less { IsOk result → (n : ℕ) → 2 ^ 32 ≤ n → steps.new + steps_left n self.new
+            ≤ steps.old + steps_left n self.old }
         ensures work { steps.new ≤ steps.old + budget + 1024 }
         ensures later { steps.old ≤ steps.new }
     {
@@ -319,12 +339,17 @@ impl Shape {
         requires budget { 0 < budget }
         requires of { IsOf (prims_of view.now) self.old }
         requires going { self.old.stopped ≡ false }
-        ensures reply { IfOk result (λ turn. Tells (page_shape (prims_of view.now) (asked_of self.old) (trees_in self.old) []) turn) }
-        ensures refused { IfErr result (λ fault. Refuses (page_shape (prims_of view.now) (asked_of self.old) (trees_in self.old) []) fault) }
-        ensures unfinished { IfOk result (λ turn. IsTrue (is_unfinished turn) → min (steps.old + budget) (2 ^ 64 - 1) ≤ steps.new) }
+        ensures reply { IfOk result (λ turn. Tells
+            (page_shape (prims_of view.now) (asked_of self.old) (trees_in self.old) []) turn) }
+        ensures refused { IfErr result (λ fault. Refuses
+            (page_shape (prims_of view.now) (asked_of self.old) (trees_in self.old) []) fault) }
+        ensures unfinished { IfOk result
+            (λ turn. IsTrue (is_unfinished turn) → min (steps.old + budget) (2 ^ 64 - 1)
+            ≤ steps.new) }
         ensures page { IsSamePage self.old self.new }
         ensures still { IsOf (prims_of view.now) self.new }
-        ensures less { (n : ℕ) → 2 ^ 32 ≤ n → steps.new + shape_left n self.new ≤ steps.old + shape_left n self.old }
+        ensures less { (n : ℕ) → 2 ^ 32 ≤ n → steps.new + shape_left n self.new
+            ≤ steps.old + shape_left n self.old }
         ensures work { steps.new ≤ steps.old + budget + 1024 }
         ensures later { steps.old ≤ steps.new }
     {
@@ -333,11 +358,13 @@ impl Shape {
         turn
     }
 
-    /// Goes on over a view, until the budget of steps is reached or the page is printed: what the root of the query prints
-    /// from the body, by the list of primitives below the view. It takes at most 1,024 steps more than the budget, and no more
-    /// than those by which it lowers the number that is left (`shape_left`): so after finitely many calls the page is printed.
-    /// `NotUnique`: two answers were found where one is asked; the path is the first such one. `Memory`: an allocation was
-    /// refused, or a call before it came to a fault. After a reply nothing more is to be asked.
+    /// Goes on over a view, until the budget of steps is reached or the page is printed: what the
+    /// root of the query prints from the body, by the list of primitives below the view. It takes
+    /// at most 1,024 steps more than the budget, and no more than those by which it lowers the
+    /// number that is left (`shape_left`): so after finitely many calls the page is printed.
+    /// `NotUnique`: two answers were found where one is asked; the path is the first such one.
+    /// `Memory`: an allocation was refused, or a call before it came to a fault. After a reply
+    /// nothing more is to be asked.
     pub fn resume<L>(
         &mut self,
         alloc: Global,
@@ -350,13 +377,18 @@ impl Shape {
         // The view stands for the list of which the shape knows something.
         requires of { IsOf (prims_of view.now) self.old }
         ensures reply { IfOk result (λ turn. Tells (page_of (prims_of view.now) self.old) turn) }
-        ensures refused { IfErr result (λ fault. Refuses (page_of (prims_of view.now) self.old) fault) }
-        ensures unfinished { IfOk result (λ turn. IsTrue (is_unfinished turn) → min (steps.old + budget) (2 ^ 64 - 1) ≤ steps.new) }
+        ensures refused { IfErr result (λ fault. Refuses (page_of (prims_of view.now) self.old)
+            fault) }
+        ensures unfinished { IfOk result
+            (λ turn. IsTrue (is_unfinished turn) → min (steps.old + budget) (2 ^ 64 - 1)
+            ≤ steps.new) }
         ensures page { IsSamePage self.old self.new }
         ensures still { IsOf (prims_of view.now) self.new }
 
-        // Each call lowers the steps that are left, at most, by those that it takes, whatever it comes to. Each place is below 2^32.
-        ensures less { (n : ℕ) → 2 ^ 32 ≤ n → steps.new + shape_left n self.new ≤ steps.old + shape_left n self.old }
+        // Each call lowers the steps that are left, at most, by those that it takes, whatever it
+        // comes to. Each place is below 2^32.
+        ensures less { (n : ℕ) → 2 ^ 32 ≤ n → steps.new + shape_left n self.new
+            ≤ steps.old + shape_left n self.old }
         ensures work { steps.new ≤ steps.old + budget + 1024 }
         ensures later { steps.old ≤ steps.new }
     {

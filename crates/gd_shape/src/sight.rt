@@ -77,7 +77,8 @@ impl<'a> Sight<'a> {
         Sight { view }
     }
 
-    /// The primitive at a place, if there is one. It takes no memory, and no step: the places of the trees were counted.
+    /// The primitive at a place, if there is one. It takes no memory, and no step: the places of
+    /// the trees were counted.
     pub(crate) fn prim(&self, place: Id) -> Option<&Primitive>
         ensures prim { option_copied result ≡ slice_get self.now place }
         ensures held { IfSome result (λ prim. IsTrue (may_hold prim.now.value)) }

@@ -1,8 +1,10 @@
 //! The history of batches that all threads know, and fronts of it.
 //!
-//! The history only grows, and exists in proofs alone. It stands in groups, one for each publishing; at run time one word
-//! counts the groups. A front is a token that the history has begun with some list.
-ghost use Rattle.std.specs.Prelude.{◌≡◌, ◌+◌, ◌<◌, ◌^◌, ◌++◌, [], length, None, MatchBool, OnOk, OnErr};
+//! The history only grows, and exists in proofs alone. It stands in groups, one for each
+//! publishing; at run time one word counts the groups. A front is a token that the history has
+//! begun with some list.
+ghost use Rattle.std.specs.Prelude.{◌≡◌, ◌+◌, ◌<◌, ◌^◌, ◌++◌, [], length, None, MatchBool, OnOk};
+ghost use Rattle.std.specs.Prelude.{OnErr};
 ghost use mathlib.Core.List.{IsPrefix};
 ghost use Rattle.gd_shared.specs.History.{counter_of};
 
@@ -68,7 +70,8 @@ impl Plain<Store, Group, u64> for WholeStore {
     ghost state = { λ store. None };
 }
 
-/// A front of the history: the history begins with its list. Contracts see which history it is of, and the list.
+/// A front of the history: the history begins with its list. Contracts see which history it is of,
+/// and the list.
 #[derive(Drop)]
 pub struct Front {
     batches: u32,
@@ -84,7 +87,8 @@ impl Model for Front {
 
     ghost view = { λ front. record { history = front.seen.book; list = batches_of front.seen.log } };
 
-    ghost invariant = { λ front. (front.batches ≡ length (batches_of front.seen.log)) × (front.groups ≡ length front.seen.log) };
+    ghost invariant = { λ front. (front.batches ≡ length (batches_of front.seen.log))
+        × (front.groups ≡ length front.seen.log) };
 }
 
 impl Front {
@@ -120,8 +124,9 @@ impl Front {
         }
     }
 
-    /// Adds to the history, behind this front, the group that `P` asks of a value, which has so many batches. `Memory`: the
-    /// history has no place for a further group, or goes on behind this front already, and the front stays as it was.
+    /// Adds to the history, behind this front, the group that `P` asks of a value, which has so
+    /// many batches. `Memory`: the history has no place for a further group, or goes on behind this
+    /// front already, and the front stays as it was.
     pub(crate) fn extend<X, P: Plain<X, Group, u64>>(
         &mut self,
         counter: &Counter,
@@ -159,12 +164,13 @@ impl Front {
         Ok(())
     }
 
-    /// Whether another front of the history, which is as long or longer, begins with this one. If not, this one is longer and
-    /// begins with the other.
+    /// Whether another front of the history, which is as long or longer, begins with this one. If
+    /// not, this one is longer and begins with the other.
     pub fn begins(&self, other: &Front) -> bool
         requires { other.now.history ≡ self.now.history }
         ensures { MatchBool result (IsPrefix self.now.list other.now.list)
-            (IsPrefix other.now.list self.now.list × (length other.now.list < length self.now.list)) }
+            (IsPrefix other.now.list self.now.list
+            × (length other.now.list < length self.now.list)) }
     {
         let mut both = self.seen.again();
         both.learn(&other.seen);

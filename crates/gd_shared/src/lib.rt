@@ -1,4 +1,5 @@
-//! Two published copies of a store: one writer publishes, and seats read what is published, without a wait.
+//! Two published copies of a store: one writer publishes, and seats read what is published, without
+//! a wait.
 #![tactic(auto)]
 
 mod front;

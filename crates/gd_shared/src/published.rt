@@ -25,7 +25,8 @@ pub enum Op {
     Close(Front),
 }
 
-/// Adds a batch to a copy. A batch that may not follow is refused; the publisher appends none, but a copy cannot know that.
+/// Adds a batch to a copy. A batch that may not follow is refused; the publisher appends none, but
+/// a copy cannot know that.
 fn add(store: &mut Store, batch: &Batch) -> Result<(), AllocError>
     ensures ok { OnOk result (store.new ≡ store.old ++ batch.now ∷ []) }
     ensures err { OnErr result (store.new ≡ store.old) }
@@ -56,7 +57,8 @@ impl Absorb<Op> for Published {
     }
 }
 
-/// The table's rule: the published front is of the published store, and begins with all that any place knows.
+/// The table's rule: the published front is of the published store, and begins with all that any
+/// place knows.
 pub struct KnowsFronts;
 
 impl Protocol<Published, Option<Front>> for KnowsFronts {

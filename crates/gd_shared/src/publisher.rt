@@ -20,13 +20,14 @@ use std::sync::Wait;
 
 pub(crate) type Copies = Writer<Published, Op, Option<Front>, KnowsFronts>;
 
-/// The one writer of the published copies. It is ended by `close` alone. Contracts see the list that is shown, the batches
-/// that are pending behind it, and the list of the history so far.
+/// The one writer of the published copies. It is ended by `close` alone. Contracts see the list
+/// that is shown, the batches that are pending behind it, and the list of the history so far.
 pub struct Publisher {
     // A lock round it does not know how the copies are dropped: `close` takes them out.
     copies: ManuallyDrop<Copies>,
     counter: Counter,
-    // What is shown, and what of the pending batches an earlier publishing has put into the history.
+    // What is shown, and what of the pending batches an earlier publishing has put into the
+    // history.
     front: Front,
     // How many batches are shown or pending.
     total: u32,
@@ -49,7 +50,8 @@ impl Model for Publisher {
     } };
 
     ghost invariant = { λ publisher. let copies = manually_drop_value publisher.copies in
-        IsPublisher copies.desk.shown.value (known copies.desk.place) (drop copies.behind copies.log.items) publisher.counter publisher.front publisher.total };
+        IsPublisher copies.desk.shown.value (known copies.desk.place)
+        (drop copies.behind copies.log.items) publisher.counter publisher.front publisher.total };
 }
 
 /// What a publishing puts into the history: what is pending and not in it yet.
@@ -58,7 +60,8 @@ struct Unrecorded;
 impl Plain<Publisher, Group, u64> for Unrecorded {
     ghost use Rattle.std.specs.Prelude.{◌++◌, length, drop, None};
 
-    ghost ask = { λ publisher. drop (length publisher.recorded) (publisher.shown ++ publisher.pending) };
+    ghost ask = { λ publisher. drop (length publisher.recorded)
+        (publisher.shown ++ publisher.pending) };
 
     ghost state = { λ publisher. None };
 }
@@ -90,10 +93,13 @@ impl Receipt {
 fn turn<R: Wait>(mut copies: Copies, rt: &R, front: Front) -> (Copies, Result<(), Memory>)
     requires shown { copies.desk.shown.value.front.list ≡ copies.desk.shown.value.store }
     requires history { front.history ≡ copies.desk.shown.value.front.history }
-    requires all { front.list ≡ copies.desk.shown.value.store ++ added (drop copies.behind copies.log.items) }
+    requires all { front.list ≡ copies.desk.shown.value.store ++ added
+        (drop copies.behind copies.log.items) }
     ensures { let after = result.0 in MatchResult result.1
-        (λ _. (after.desk.shown.value ≡ record { store = front.list; front = front }) × (drop after.behind after.log.items ≡ []) × (known after.desk.place ≡ Some front))
-        (λ _. (after.desk.shown.value ≡ copies.desk.shown.value) × (added (drop after.behind after.log.items) ≡ added (drop copies.behind copies.log.items))
+        (λ _. (after.desk.shown.value ≡ record { store = front.list; front = front })
+        × (drop after.behind after.log.items ≡ []) × (known after.desk.place ≡ Some front))
+        (λ _. (after.desk.shown.value ≡ copies.desk.shown.value)
+        × (added (drop after.behind after.log.items) ≡ added (drop copies.behind copies.log.items))
         × (known after.desk.place ≡ known copies.desk.place)) }
 {
     if copies.append(Op::Close(front)).is_err() {
@@ -143,8 +149,14 @@ fn show<R: Wait>(publisher: Publisher, rt: &R) -> (Publisher, Result<(), Memory>
 impl Publisher {
     /// A publisher of these copies.
     pub(crate) fn new(copies: Copies, counter: Counter, front: Front, total: u32) -> Publisher
-        requires { IsPublisher copies.desk.shown.value (known copies.desk.place) (drop copies.behind copies.log.items) counter front total }
-        ensures { result ≡ record { history = front.history; shown = copies.desk.shown.value.store; pending = added (drop copies.behind copies.log.items); recorded = front.list } }
+        requires { IsPublisher copies.desk.shown.value (known copies.desk.place)
+            (drop copies.behind copies.log.items) counter front total }
+        ensures { result ≡ record {
+          history = front.history;
+          shown = copies.desk.shown.value.store;
+          pending = added (drop copies.behind copies.log.items);
+          recorded = front.list;
+        } }
     {
         let copies = unsafe { ManuallyDrop::new_unchecked(copies) };
         Publisher {
@@ -155,10 +167,13 @@ impl Publisher {
         }
     }
 
-    /// Puts a batch behind those that are pending; it is not shown before the next publishing. Want of memory hands it back.
+    /// Puts a batch behind those that are pending; it is not shown before the next publishing. Want
+    /// of memory hands it back.
     pub fn append(&mut self, batch: Batch) -> Result<(), Batch>
         requires follows { MayFollow (self.old.shown ++ self.old.pending) batch }
-        ensures pending { MatchResult result (λ _. self.new.pending ≡ self.old.pending ++ batch ∷ []) (λ back. (back ≡ batch) × (self.new.pending ≡ self.old.pending)) }
+        ensures pending { MatchResult result
+            (λ _. self.new.pending ≡ self.old.pending ++ batch ∷ [])
+            (λ back. (back ≡ batch) × (self.new.pending ≡ self.old.pending)) }
         ensures stays { self.new ≡ record self.old { pending = self.new.pending } }
     {
         match self.copies.append(Op::Add(batch)) {
@@ -171,12 +186,13 @@ impl Publisher {
         }
     }
 
-    /// Shows all that is pending at once, and says how many requests are shown then. It waits for readers. `Memory`: nothing
-    /// more is shown, and all that was pending still is.
+    /// Shows all that is pending at once, and says how many requests are shown then. It waits for
+    /// readers. `Memory`: nothing more is shown, and all that was pending still is.
     pub fn publish<R: Wait>(&mut self, rt: &R) -> Result<u32, Memory>
         ensures history { self.new.history ≡ self.old.history }
         ensures shown { MatchResult result
-            (λ requests. (self.new.shown ≡ self.old.shown ++ self.old.pending) × (self.new.pending ≡ []) × (requests ≡ length self.new.shown))
+            (λ requests. (self.new.shown ≡ self.old.shown ++ self.old.pending)
+            × (self.new.pending ≡ []) × (requests ≡ length self.new.shown))
             (λ _. (self.new.shown ≡ self.old.shown) × (self.new.pending ≡ self.old.pending)) }
     {
         replace_with(self, rt, show::<R>)?;
@@ -202,7 +218,13 @@ impl Publisher {
     /// A new seat at the table, which has seen what is shown.
     pub(crate) fn seat(&mut self) -> Result<Seat, Memory>
         ensures stays { self.new ≡ self.old }
-        ensures seat { IfOk result (λ seat. seat ≡ record { history = self.old.history; entered = self.old.shown; told = self.old.shown; turned_away = 0 }) }
+        ensures seat { IfOk result (λ seat. seat
+            ≡ record {
+              history = self.old.history;
+              entered = self.old.shown;
+              told = self.old.shown;
+              turned_away = 0;
+            }) }
     {
         let mut reader = self.copies.factory().reader()?;
         reader.learn::<LearnsAll>(self.copies.tell::<TellsAll>());

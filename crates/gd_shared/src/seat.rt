@@ -11,8 +11,8 @@ use gd_store::store::Store;
 use left_right::reader::{Reader, Reading};
 use std::marker::Model;
 
-/// A place from which one reader at a time enters the published store. Contracts see the list that it entered last, the list
-/// that it was told of, and how often it was turned away.
+/// A place from which one reader at a time enters the published store. Contracts see the list that
+/// it entered last, the list that it was told of, and how often it was turned away.
 #[derive(Drop)]
 pub struct Seat {
     reader: Reader<Published, Option<Front>, KnowsFronts>,
@@ -28,12 +28,18 @@ impl Model for Seat {
 
     ghost Value = { SeatValue };
 
-    ghost view = { λ seat. record { history = seat.entered.history; entered = seat.entered.list; told = seat.told.list; turned_away = seat.turned_away } };
+    ghost view = { λ seat. record {
+      history = seat.entered.history;
+      entered = seat.entered.list;
+      told = seat.told.list;
+      turned_away = seat.turned_away;
+    } };
 
     ghost invariant = { λ seat. IsSeated (known seat.reader.place) seat.entered seat.told };
 }
 
-/// A seat whose reader is in: the store stays as it is until the reader leaves, which `leave` alone does.
+/// A seat whose reader is in: the store stays as it is until the reader leaves, which `leave` alone
+/// does.
 pub struct Entered {
     reading: Reading<Published, Option<Front>, KnowsFronts>,
     turned_away: u64,
@@ -46,16 +52,27 @@ impl Model for Entered {
 
     ghost Value = { EnteredValue };
 
-    ghost view = { λ entered. let copy = entered.reading.part.value in record { history = copy.front.history; list = copy.store; turned_away = entered.turned_away } };
+    ghost view = { λ entered. let copy = entered.reading.part.value
+        in record {
+          history = copy.front.history;
+          list = copy.store;
+          turned_away = entered.turned_away;
+        } };
 
-    ghost invariant = { λ entered. let copy = entered.reading.part.value in (copy.front.list ≡ copy.store) × (known entered.reading.place ≡ Some copy.front) };
+    ghost invariant = { λ entered. let copy = entered.reading.part.value
+        in (copy.front.list ≡ copy.store) × (known entered.reading.place ≡ Some copy.front) };
 }
 
 impl Seat {
     /// A seat of a reader that knows this front.
     pub(crate) fn new(reader: Reader<Published, Option<Front>, KnowsFronts>, front: Front) -> Seat
         requires { known reader.place ≡ Some front }
-        ensures { result ≡ record { history = front.history; entered = front.list; told = front.list; turned_away = 0 } }
+        ensures { result ≡ record {
+          history = front.history;
+          entered = front.list;
+          told = front.list;
+          turned_away = 0;
+        } }
     {
         Seat {
             reader,
@@ -79,11 +96,12 @@ impl Seat {
         self.turned_away
     }
 
-    /// Enters the store that is published, which begins with all that the seat has seen. A refused entry gives the seat back
-    /// as it was, and counts.
+    /// Enters the store that is published, which begins with all that the seat has seen. A refused
+    /// entry gives the seat back as it was, and counts.
     pub fn enter(self) -> Result<Entered, Seat>
         ensures { MatchResult result
-            (λ entered. (entered.history ≡ self.history) × (entered.turned_away ≡ self.turned_away) × IsPrefix self.entered entered.list × IsPrefix self.told entered.list)
+            (λ entered. (entered.history ≡ self.history) × (entered.turned_away ≡ self.turned_away)
+            × IsPrefix self.entered entered.list × IsPrefix self.told entered.list)
             (λ seat. seat ≡ record self { turned_away = one_more self.turned_away }) }
     {
         let Seat {
@@ -124,10 +142,12 @@ impl Seat {
         }
     }
 
-    /// Whether the list of a receipt begins with all that the seat has seen. If not, it is shorter than that.
+    /// Whether the list of a receipt begins with all that the seat has seen. If not, it is shorter
+    /// than that.
     pub fn has_only(&self, receipt: &Receipt) -> bool
         requires table { receipt.now.history ≡ self.now.history }
-        ensures { MatchBool result (IsPrefix self.now.entered receipt.now.list × IsPrefix self.now.told receipt.now.list)
+        ensures { MatchBool result (IsPrefix self.now.entered receipt.now.list
+            × IsPrefix self.now.told receipt.now.list)
             (length receipt.now.list < max (length self.now.entered) (length self.now.told)) }
     {
         self.entered.begins(&receipt.front) && self.told.begins(&receipt.front)
@@ -144,7 +164,12 @@ impl Entered {
 
     /// Leaves the store. The seat has seen what was entered, which began with what it was told of.
     pub fn leave(self) -> Seat
-        ensures { result ≡ record { history = self.history; entered = self.list; told = self.list; turned_away = self.turned_away } }
+        ensures { result ≡ record {
+          history = self.history;
+          entered = self.list;
+          told = self.list;
+          turned_away = self.turned_away;
+        } }
     {
         let Entered {
             reading,

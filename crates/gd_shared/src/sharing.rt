@@ -50,7 +50,8 @@ fn published<R: Wait>(
 fn new_seats(alloc: Global, publisher: &mut Publisher, seats: u32) -> Result<Vec<Seat>, Memory>
     ensures stays { publisher.new ≡ publisher.old }
     ensures count { IfOk result (λ made. vec_len made ≡ seats) }
-    ensures new { IfOk result (λ made. All (IsNewSeat publisher.old.history publisher.old.shown) made.items) }
+    ensures new { IfOk result (λ made. All (IsNewSeat publisher.old.history publisher.old.shown)
+        made.items) }
 {
     let mut made = Vec::new(alloc);
     for _ in 0..seats {
@@ -59,8 +60,8 @@ fn new_seats(alloc: Global, publisher: &mut Publisher, seats: u32) -> Result<Vec
     Ok(made)
 }
 
-/// Publishes two stores that stand for one list, and makes so many seats, from which it is read. `Memory`: an allocation was
-/// refused. It waits for nobody, since there is no reader yet.
+/// Publishes two stores that stand for one list, and makes so many seats, from which it is read.
+/// `Memory`: an allocation was refused. It waits for nobody, since there is no reader yet.
 pub fn share<R: Wait>(
     rt: &R,
     alloc: Global,
@@ -71,7 +72,8 @@ pub fn share<R: Wait>(
     requires alike { first ≡ second }
     requires some { 0 < seats }
     ensures publisher { IfOk result (λ both. (both.0.shown ≡ first) × (both.0.pending ≡ [])) }
-    ensures seats { IfOk result (λ both. (vec_len both.1 ≡ seats) × All (IsNewSeat both.0.history first) both.1.items) }
+    ensures seats { IfOk result (λ both. (vec_len both.1 ≡ seats)
+        × All (IsNewSeat both.0.history first) both.1.items) }
 {
     let mut publisher = published(rt, alloc, first, second, seats)?;
     match new_seats(alloc, &mut publisher, seats) {

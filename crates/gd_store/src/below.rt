@@ -48,7 +48,8 @@ pub(crate) fn count_front<L>(list: &Postings, from: Id, end: Id, steps: &mut Ste
     count_below(list, nearer, steps)
 }
 
-/// The first of the identities that are less than `end` that is not less than `from`, if there is one.
+/// The first of the identities that are less than `end` that is not less than `from`, if there is
+/// one.
 #[tactic(auto, using(crate::proofs::Rising::first_both))]
 pub(crate) fn first_front<L>(list: &Postings, from: Id, end: Id, steps: &mut Steps<L>) -> Option<Id>
     ensures first { result ≡ first_from from (ids_below end list.now.ids) }

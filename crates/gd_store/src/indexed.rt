@@ -1,5 +1,7 @@
 //! A list of primitives with its indexes.
-ghost use Rattle.std.specs.Prelude.{◌≡◌, ℕ, ◌+◌, ◌-◌, ◌^◌, ◌<◌, ◌≤◌, [], ◌++◌, None, Some, true, false, length, take, slice_get, min, nat_le, IsTrue, IfOk, OnOk, OnErr, IfSome};
+ghost use Rattle.std.specs.Prelude.{◌≡◌, ℕ, ◌+◌, ◌-◌, ◌^◌, ◌<◌, ◌≤◌, [], ◌++◌, None, Some, true};
+ghost use Rattle.std.specs.Prelude.{false, length, take, slice_get, min, nat_le, IsTrue, IfOk};
+ghost use Rattle.std.specs.Prelude.{OnOk, OnErr, IfSome};
 ghost use Rattle.std.specs.List.{last_or, list_any};
 ghost use Rattle.gd_base.specs.Counts.{Rose};
 ghost use Rattle.gd_prim.specs.End.{places_with};
@@ -22,8 +24,8 @@ use gd_valueidx::values::Values;
 use std::alloc::Global;
 use std::marker::Model;
 
-/// Primitives in order, and indexes of them. Contracts see the list of the primitives. The previous one of each is
-/// current among those before it.
+/// Primitives in order, and indexes of them. Contracts see the list of the primitives. The previous
+/// one of each is current among those before it.
 #[derive(Drop)]
 pub(crate) struct IndexedPrims {
     prims: Prims,
@@ -59,7 +61,8 @@ fn see_short(value: &Datum)
     }
 }
 
-/// Sees the same of each of these primitives: contracts see a text as a list, of which they don't know how long it is.
+/// Sees the same of each of these primitives: contracts see a text as a list, of which they don't
+/// know how long it is.
 #[tactic(auto, using(crate::proofs::Short::short_left))]
 fn see_all_short(prims: &[Primitive])
     ensures { IsTrue (are_short prims.now) }
@@ -157,8 +160,8 @@ impl IndexedPrims {
         &self.as_slice()[..end as usize]
     }
 
-    /// Whether the primitive at a place below `end` is marked live and none below `end` has it as `previous`. A place
-    /// from `end` on is not live.
+    /// Whether the primitive at a place below `end` is marked live and none below `end` has it as
+    /// `previous`. A place from `end` on is not live.
     pub(crate) fn is_live<L>(&self, id: Id, end: u32, steps: &mut Steps<L>) -> bool
         requires { end ≤ length self.now }
         ensures live { result ≡ graph.is_live (take end self.now) id }
@@ -173,7 +176,8 @@ impl IndexedPrims {
         }
     }
 
-    /// The last place below `end` whose primitive is a link of this key into this namespace, if there is one.
+    /// The last place below `end` whose primitive is a link of this key into this namespace, if
+    /// there is one.
     pub(crate) fn last_key_link<L>(
         &self,
         namespace: Id,
@@ -181,7 +185,8 @@ impl IndexedPrims {
         end: u32,
         steps: &mut Steps<L>,
     ) -> Option<Id>
-        ensures last { result ≡ last_or None (graph.places_where (is_key_link namespace key.now) (take end self.now)) }
+        ensures last { result ≡ last_or None
+            (graph.places_where (is_key_link namespace key.now) (take end self.now)) }
         ensures work { steps.new ≤ steps.old + 24 }
         ensures later { steps.old ≤ steps.new }
         ensures counted { Rose steps.old steps.new }
@@ -190,9 +195,11 @@ impl IndexedPrims {
         self.indexes.last_key_link(namespace, key, Id(end), steps)
     }
 
-    /// The k-th place below `end`, from 0 in rising order, whose primitive is a key link of this object, if there is one.
+    /// The k-th place below `end`, from 0 in rising order, whose primitive is a key link of this
+    /// object, if there is one.
     pub(crate) fn key_of<L>(&self, object: Id, k: u32, end: u32, steps: &mut Steps<L>) -> Option<Id>
-        ensures place { result ≡ slice_get (graph.places_where (is_key_of object) (take end self.now)) k }
+        ensures place { result ≡ slice_get
+            (graph.places_where (is_key_of object) (take end self.now)) k }
         ensures work { steps.new ≤ steps.old + 2 }
         ensures later { steps.old ≤ steps.new }
         ensures counted { Rose steps.old steps.new }
@@ -237,7 +244,8 @@ impl IndexedPrims {
         below: u32,
         steps: &mut Steps<L>,
     ) -> u32
-        ensures count { result ≡ length (ids_below from (places_with end node (take below self.now))) }
+        ensures count { result ≡ length (ids_below from
+            (places_with end node (take below self.now))) }
         ensures work { steps.new ≤ steps.old + 22 }
         ensures later { steps.old ≤ steps.new }
         ensures counted { Rose steps.old steps.new }
@@ -273,9 +281,11 @@ impl IndexedPrims {
         self.indexes.link_at(end, node, k, steps)
     }
 
-    /// Whether a primitive may have this text as its value. False: none has it, since no text is so long.
+    /// Whether a primitive may have this text as its value. False: none has it, since no text is so
+    /// long.
     pub(crate) fn may_have_text(&self, text: &str) -> bool
-        ensures none { result ≡ false → list_any (λ p. graph.is_text text.now p.value) self.now ≡ false }
+        ensures none { result ≡ false → list_any (λ p. graph.is_text text.now p.value) self.now
+            ≡ false }
         ensures short { result ≡ true → length text.now ≤ 4_096 }
     {
         let _list = &self.prims;
@@ -333,7 +343,8 @@ impl IndexedPrims {
         end: u32,
         steps: &mut Steps<L>,
     ) -> u32
-        ensures count { result ≡ length (ids_below from (places_of_number number (take end self.now))) }
+        ensures count { result ≡ length (ids_below from
+            (places_of_number number (take end self.now))) }
         ensures work { steps.new ≤ steps.old + 22 }
         ensures later { steps.old ≤ steps.new }
         ensures counted { Rose steps.old steps.new }

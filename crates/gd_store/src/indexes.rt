@@ -1,6 +1,8 @@
-//! Indexes of a list of primitives: which one succeeds which, where the key links are, which places name a node, and
-//! which have a value.
-ghost use Rattle.std.specs.Prelude.{◌≡◌, ℕ, ◌+◌, ◌-◌, ◌^◌, ◌<◌, ◌≤◌, [], None, Some, length, take, slice_get, min, position, is_some, if◌then◌else◌, IsTrue, OnOk, OnErr, IfSome};
+//! Indexes of a list of primitives: which one succeeds which, where the key links are, which places
+//! name a node, and which have a value.
+ghost use Rattle.std.specs.Prelude.{◌≡◌, ℕ, ◌+◌, ◌-◌, ◌^◌, ◌<◌, ◌≤◌, [], None, Some, length, take};
+ghost use Rattle.std.specs.Prelude.{slice_get, min, position, is_some, if◌then◌else◌, IsTrue, OnOk};
+ghost use Rattle.std.specs.Prelude.{OnErr, IfSome};
 ghost use Rattle.std.specs.List.{last_or};
 ghost use Rattle.std.specs.Option.{option_copied};
 ghost use Rattle.gd_base.specs.Counts.{Rose};
@@ -9,7 +11,8 @@ ghost use Rattle.gd_postings.specs.Postings.{ids_below, first_from};
 ghost use Rattle.gd_versions.specs.Versions.{successor_of};
 ghost use Rattle.gd_keys.specs.Keys.{key_list, object_list};
 ghost use Rattle.gd_linkage.specs.Linkage.{list_of};
-ghost use Rattle.gd_store.specs.Indexed.{AreSuccessors, AreKeys, AreLinks, AreIndexes, may_enter, below_end};
+ghost use Rattle.gd_store.specs.Indexed.{AreSuccessors, AreKeys, AreLinks, AreIndexes, may_enter};
+ghost use Rattle.gd_store.specs.Indexed.{below_end};
 ghost use Rattle.gd_base.specs.Order.{datum_eq};
 ghost use Rattle.gd_valueidx.specs.Values.{value_list, values_in, number_list};
 ghost use Rattle.gd_store.specs.Valued.{AreValues};
@@ -31,7 +34,8 @@ use std::alloc::Global;
 /// The property of key links.
 const KEY: Id = Id(15);
 
-/// Which primitive of a list succeeds which, the places of its key links, and the places by nodes and by values.
+/// Which primitive of a list succeeds which, the places of its key links, and the places by nodes
+/// and by values.
 #[derive(Drop)]
 pub(crate) struct Indexes {
     versions: Versions,
@@ -50,7 +54,8 @@ fn text_of(value: &Datum) -> Option<&Text>
     }
 }
 
-/// Enters the primitive at a place, if it is a key link, or for want of memory leaves each list as it was.
+/// Enters the primitive at a place, if it is a key link, or for want of memory leaves each list as
+/// it was.
 fn enter_key(keys: &mut Keys, prims: &[Primitive], place: usize) -> Result<(), Memory>
     requires there { place < length prims.now }
     requires few { length prims.now ≤ 2_097_151 }
@@ -82,8 +87,8 @@ fn take_out_key(keys: &mut Keys, prims: &[Primitive], place: usize)
     }
 }
 
-/// Enters the primitive at a place in the list of each node that it names, or for want of memory leaves each list as
-/// it was.
+/// Enters the primitive at a place in the list of each node that it names, or for want of memory
+/// leaves each list as it was.
 fn enter_links(linkage: &mut Linkage, prims: &[Primitive], place: usize) -> Result<(), Memory>
     requires there { place < length prims.now }
     requires few { length prims.now ≤ 2_097_151 }
@@ -97,7 +102,8 @@ fn enter_links(linkage: &mut Linkage, prims: &[Primitive], place: usize) -> Resu
     Ok(())
 }
 
-/// Takes the primitive at a place away again from the list of each node that it names. It is the last that was entered.
+/// Takes the primitive at a place away again from the list of each node that it names. It is the
+/// last that was entered.
 fn take_out_links(linkage: &mut Linkage, prims: &[Primitive], place: usize)
     requires there { place < length prims.now }
     requires before { AreLinks linkage.old (take (place + 1) prims.now) }
@@ -106,8 +112,8 @@ fn take_out_links(linkage: &mut Linkage, prims: &[Primitive], place: usize)
     linkage.retract(&prims[place]);
 }
 
-/// Enters the primitive at a place in the lists of key links and of nodes, or for want of memory leaves each list as it
-/// was.
+/// Enters the primitive at a place in the lists of key links and of nodes, or for want of memory
+/// leaves each list as it was.
 fn enter_lists(
     keys: &mut Keys,
     linkage: &mut Linkage,
@@ -131,7 +137,8 @@ fn enter_lists(
     Ok(())
 }
 
-/// Enters the primitive at a place in the list of its value, or for want of memory leaves each list as it was.
+/// Enters the primitive at a place in the list of its value, or for want of memory leaves each list
+/// as it was.
 fn enter_value(values: &mut Values, prims: &[Primitive], place: usize) -> Result<(), Memory>
     requires there { place < length prims.now }
     requires few { length prims.now ≤ 2_097_151 }
@@ -144,7 +151,8 @@ fn enter_value(values: &mut Values, prims: &[Primitive], place: usize) -> Result
     Ok(())
 }
 
-/// Takes the primitive at a place away again from the list of its value. It is the last that was entered.
+/// Takes the primitive at a place away again from the list of its value. It is the last that was
+/// entered.
 fn take_out_value(values: &mut Values, prims: &[Primitive], place: usize)
     requires there { place < length prims.now }
     requires before { AreValues values.old (take (place + 1) prims.now) }
@@ -182,8 +190,8 @@ fn enter_all_lists(
     Ok(())
 }
 
-/// Enters the primitive at a place as the successor of its previous one, or for want of memory leaves each place's
-/// successor as it was.
+/// Enters the primitive at a place as the successor of its previous one, or for want of memory
+/// leaves each place's successor as it was.
 fn enter_version(versions: &mut Versions, prims: &[Primitive], place: usize) -> Result<(), Memory>
     requires there { place < length prims.now }
     requires few { length prims.now ≤ 2_097_151 }
@@ -233,8 +241,8 @@ impl Indexes {
         &self.values
     }
 
-    /// Enters the primitive at a place behind all those before it, or for want of memory leaves the indexes those of
-    /// the ones before it.
+    /// Enters the primitive at a place behind all those before it, or for want of memory leaves the
+    /// indexes those of the ones before it.
     fn enter(&mut self, prims: &[Primitive], place: usize) -> Result<(), Memory>
         requires there { place < length prims.now }
         requires few { length prims.now ≤ 2_097_151 }
@@ -257,7 +265,8 @@ impl Indexes {
         Ok(())
     }
 
-    /// Takes the primitive at a place, which is the last that was entered, away again. It takes no memory.
+    /// Takes the primitive at a place, which is the last that was entered, away again. It takes no
+    /// memory.
     fn take_out(&mut self, prims: &[Primitive], place: usize)
         requires there { place < length prims.now }
         requires entered { IsTrue (may_enter [] prims.now) }
@@ -270,7 +279,8 @@ impl Indexes {
         take_out_version(&mut self.versions, prims, place);
     }
 
-    /// Takes the primitives between two places away again, which are the last that were entered. It takes no memory.
+    /// Takes the primitives between two places away again, which are the last that were entered. It
+    /// takes no memory.
     pub(crate) fn take_out_all(&mut self, prims: &[Primitive], start: usize, end: usize)
         requires order { start ≤ end }
         requires there { end ≤ length prims.now }
@@ -283,7 +293,8 @@ impl Indexes {
         }
     }
 
-    /// Enters the primitives from a place on, or for want of memory leaves the indexes those of the ones before it.
+    /// Enters the primitives from a place on, or for want of memory leaves the indexes those of the
+    /// ones before it.
     pub(crate) fn enter_all(&mut self, prims: &[Primitive], start: usize) -> Result<(), Memory>
         requires start { start ≤ length prims.now }
         requires few { length prims.now ≤ 2_097_151 }
@@ -309,7 +320,8 @@ impl Indexes {
         end: Id,
         steps: &mut Steps<L>,
     ) -> Option<Id>
-        ensures last { result ≡ last_or None (ids_below end (key_list self.now.keys namespace key.now).ids) }
+        ensures last { result ≡ last_or None
+            (ids_below end (key_list self.now.keys namespace key.now).ids) }
         ensures work { steps.new ≤ steps.old + 23 }
         ensures later { steps.old ≤ steps.new }
     {
@@ -318,7 +330,8 @@ impl Indexes {
 
     /// The k-th place below `end`, from 0, that has a key link of this object, if there is one.
     pub(crate) fn key_of<L>(&self, object: Id, k: u32, end: Id, steps: &mut Steps<L>) -> Option<Id>
-        ensures place { result ≡ slice_get (ids_below end (object_list self.now.keys object).ids) k }
+        ensures place { result ≡ slice_get (ids_below end (object_list self.now.keys object).ids)
+            k }
         ensures work { steps.new ≤ steps.old + 1 }
         ensures later { steps.old ≤ steps.new }
     {
@@ -361,7 +374,8 @@ impl Indexes {
         below: Id,
         steps: &mut Steps<L>,
     ) -> u32
-        ensures count { result ≡ length (ids_below from (ids_below below (list_of end node self.now.linkage).ids)) }
+        ensures count { result ≡ length (ids_below from
+            (ids_below below (list_of end node self.now.linkage).ids)) }
         ensures work { steps.new ≤ steps.old + 22 }
         ensures later { steps.old ≤ steps.new }
         ensures counted { Rose steps.old steps.new }
@@ -369,7 +383,8 @@ impl Indexes {
         count_front(self.linkage.list(end, node), from, below, steps)
     }
 
-    /// The first of the places below `below` that name this node at this end that is `from` or greater, if there is one.
+    /// The first of the places below `below` that name this node at this end that is `from` or
+    /// greater, if there is one.
     pub(crate) fn first_link<L>(
         &self,
         end: End,
@@ -378,7 +393,8 @@ impl Indexes {
         below: Id,
         steps: &mut Steps<L>,
     ) -> Option<Id>
-        ensures first { result ≡ first_from from (ids_below below (list_of end node self.now.linkage).ids) }
+        ensures first { result ≡ first_from from
+            (ids_below below (list_of end node self.now.linkage).ids) }
         ensures below { IfSome result (λ place. place < below) }
         ensures work { steps.new ≤ steps.old + 22 }
         ensures later { steps.old ≤ steps.new }
@@ -399,7 +415,9 @@ impl Indexes {
 
     /// The number of a value that has a place below `end`.
     pub(crate) fn number_of<L>(&self, value: &Datum, end: Id, steps: &mut Steps<L>) -> Option<usize>
-        ensures number { result ≡ (if is_some (slice_get (ids_below end (value_list value.now self.now.values).ids) 0) then position (datum_eq value.now) (values_in self.now.values) else None) }
+        ensures number { result ≡ (if is_some
+            (slice_get (ids_below end (value_list value.now self.now.values).ids) 0) then position
+            (datum_eq value.now) (values_in self.now.values) else None) }
         ensures work { steps.new ≤ steps.old + 1 }
         ensures later { steps.old ≤ steps.new }
     {
@@ -437,7 +455,8 @@ impl Indexes {
         end: Id,
         steps: &mut Steps<L>,
     ) -> u32
-        ensures count { result ≡ length (ids_below from (ids_below end (number_list number self.now.values).ids)) }
+        ensures count { result ≡ length (ids_below from
+            (ids_below end (number_list number self.now.values).ids)) }
         ensures work { steps.new ≤ steps.old + 22 }
         ensures later { steps.old ≤ steps.new }
         ensures counted { Rose steps.old steps.new }
@@ -445,8 +464,8 @@ impl Indexes {
         count_front(self.values.list_at(number as usize), from, end, steps)
     }
 
-    /// The first of the places below `end` that have the value with this number that is `from` or greater, if there is
-    /// one.
+    /// The first of the places below `end` that have the value with this number that is `from` or
+    /// greater, if there is one.
     pub(crate) fn first_of_value<L>(
         &self,
         number: u32,
@@ -454,7 +473,8 @@ impl Indexes {
         end: Id,
         steps: &mut Steps<L>,
     ) -> Option<Id>
-        ensures first { result ≡ first_from from (ids_below end (number_list number self.now.values).ids) }
+        ensures first { result ≡ first_from from
+            (ids_below end (number_list number self.now.values).ids) }
         ensures below { IfSome result (λ place. place < end) }
         ensures work { steps.new ≤ steps.old + 22 }
         ensures later { steps.old ≤ steps.new }

@@ -1,4 +1,5 @@
-//! The store: a list of primitives, as the requests wrote them, and views of what it was at a dateline.
+//! The store: a list of primitives, as the requests wrote them, and views of what it was at a
+//! dateline.
 #![tactic(auto)]
 
 mod below;

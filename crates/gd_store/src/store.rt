@@ -1,5 +1,8 @@
 //! The store.
-ghost use Rattle.std.specs.Prelude.{◌≡◌, ℕ, ◌^◌, ◌+◌, ◌-◌, ◌<◌, ◌≤◌, [], ◌∷◌, ◌++◌, None, Some, true, false, length, take, drop, slice_get, min, option_map, sum_by, nat_lt, if◌then◌else◌, Ok, Err, IsTrue, IfOk, IfErr, OnOk, OnErr, MatchResult, IfSome};
+ghost use Rattle.std.specs.Prelude.{◌≡◌, ℕ, ◌^◌, ◌+◌, ◌-◌, ◌<◌, ◌≤◌, [], ◌∷◌, ◌++◌, None, Some};
+ghost use Rattle.std.specs.Prelude.{true, false, length, take, drop, slice_get, min, option_map};
+ghost use Rattle.std.specs.Prelude.{sum_by, nat_lt, if◌then◌else◌, Ok, Err, IsTrue, IfOk, IfErr};
+ghost use Rattle.std.specs.Prelude.{OnOk, OnErr, MatchResult, IfSome};
 ghost use Rattle.std.specs.List.{last_or, list_any};
 ghost use Rattle.gd_base.specs.Counts.{Rose};
 ghost use Rattle.gd_prim.specs.End.{places_with};
@@ -47,7 +50,8 @@ pub(crate) struct Request {
     moment: u64,
 }
 
-/// The built-in primitives and those of each request, in one list. Contracts see a store as the list of its batches.
+/// The built-in primitives and those of each request, in one list. Contracts see a store as the
+/// list of its batches.
 #[derive(Drop)]
 pub struct Store {
     prims: IndexedPrims,
@@ -69,7 +73,8 @@ impl Model for Store {
 
 /// Refuses a count above its limit.
 fn within(what: What, count: u64, limit: u64) -> Result<(), Full>
-    ensures { result ≡ (if nat_lt limit count then Err (record { what = what; count = count }) else Ok tt) }
+    ensures { result ≡ (if nat_lt limit count then Err (record { what = what; count = count })
+        else Ok tt) }
 {
     if count > limit {
         return Err(Full { what, count });
@@ -77,7 +82,8 @@ fn within(what: What, count: u64, limit: u64) -> Result<(), Full>
     Ok(())
 }
 
-/// Whether a batch passes no limit behind these primitives, with so many bytes of texts, and so many requests.
+/// Whether a batch passes no limit behind these primitives, with so many bytes of texts, and so
+/// many requests.
 fn fits_behind(
     prims: &[Primitive],
     text: u64,
@@ -120,7 +126,8 @@ fn from_place(prims: &[Primitive], place: usize) -> &[Primitive]
     &prims[place..]
 }
 
-/// Puts a request and its primitives at the ends, or for want of memory leaves both lists as they were.
+/// Puts a request and its primitives at the ends, or for want of memory leaves both lists as they
+/// were.
 fn append(
     prims: &mut IndexedPrims,
     requests: &mut Vec<Request>,
@@ -129,8 +136,10 @@ fn append(
 ) -> Result<(), Memory>
     requires few { length prims.old + length more ≤ 2_097_151 }
     requires entered { IsTrue (may_enter prims.old more) }
-    ensures prims { MatchResult result (λ _. prims.new ≡ prims.old ++ more) (λ _. prims.new ≡ prims.old) }
-    ensures requests { MatchResult result (λ _. requests.new.items ≡ requests.old.items ++ request ∷ [])
+    ensures prims { MatchResult result (λ _. prims.new ≡ prims.old ++ more)
+        (λ _. prims.new ≡ prims.old) }
+    ensures requests { MatchResult result
+        (λ _. requests.new.items ≡ requests.old.items ++ request ∷ [])
         (λ _. requests.new.items ≡ requests.old.items) }
 {
     requests.push(request)?;
@@ -200,8 +209,8 @@ impl Store {
         self.text
     }
 
-    /// Whether the batch may follow what is stored, as `is_well_formed` says of the list of all primitives. What succeeds
-    /// a place is looked up, not searched for. It takes no memory.
+    /// Whether the batch may follow what is stored, as `is_well_formed` says of the list of all
+    /// primitives. What succeeds a place is looked up, not searched for. It takes no memory.
     pub fn check(&self, batch: &Batch) -> Result<(), BadBatch>
         ensures { MatchResult result (λ _. bad_place (prims_of self.now) batch.now ≡ None)
             (λ bad. bad_place (prims_of self.now) batch.now ≡ Some bad.place) }
@@ -209,11 +218,14 @@ impl Store {
         is_well_formed_behind(&self.prims, batch)
     }
 
-    /// Whether no limit is passed with the batch. `Full`: one is, with the number that would be reached. The limits are
-    /// tested in the order primitives of the batch, all primitives, bytes of texts, requests. It takes no memory.
+    /// Whether no limit is passed with the batch. `Full`: one is, with the number that would be
+    /// reached. The limits are tested in the order primitives of the batch, all primitives, bytes
+    /// of texts, requests. It takes no memory.
     pub fn fits(&self, batch: &Batch) -> Result<(), Full>
-        ensures full { MatchResult result (λ _. first_full (limits (prims_of self.now) (length self.now) batch.now.prims) ≡ None)
-            (λ full. first_full (limits (prims_of self.now) (length self.now) batch.now.prims) ≡ Some (full.what, full.count)) }
+        ensures full { MatchResult result
+            (λ _. first_full (limits (prims_of self.now) (length self.now) batch.now.prims) ≡ None)
+            (λ full. first_full (limits (prims_of self.now) (length self.now) batch.now.prims)
+            ≡ Some (full.what, full.count)) }
         ensures small { IfErr result (λ full. full.count < 2 ^ 63) }
     {
         fits_behind(
@@ -224,10 +236,12 @@ impl Store {
         )
     }
 
-    /// Stores the batch as one request more, or for want of memory leaves all as it was. `check` and `fits` accept it.
+    /// Stores the batch as one request more, or for want of memory leaves all as it was. `check`
+    /// and `fits` accept it.
     pub fn absorb(&mut self, batch: &Batch) -> Result<(), Memory>
         requires well_formed { bad_place (prims_of self.old) batch.now ≡ None }
-        requires fits { first_full (limits (prims_of self.old) (length self.old) batch.now.prims) ≡ None }
+        requires fits { first_full (limits (prims_of self.old) (length self.old) batch.now.prims)
+            ≡ None }
         ensures ok { OnOk result (self.new ≡ self.old ++ batch.now ∷ []) }
         ensures err { OnErr result (self.new ≡ self.old) }
     {
@@ -270,12 +284,14 @@ impl Store {
     fn request(&self, n: u32) -> Request
         requires { n < length self.now }
         ensures end { result.end ≡ length (prims_at self.now (n + 1)) }
-        ensures moment { option_map (λ batch. batch.moment) (slice_get self.now n) ≡ Some result.moment }
+        ensures moment { option_map (λ batch. batch.moment) (slice_get self.now n)
+            ≡ Some result.moment }
     {
         self.requests[n as usize]
     }
 
-    /// The first place behind the primitives of the n-th request, counted from 0. It takes no memory.
+    /// The first place behind the primitives of the n-th request, counted from 0. It takes no
+    /// memory.
     pub fn request_end(&self, n: u32) -> Id
         requires { n < length self.now }
         ensures { result ≡ length (prims_at self.now (n + 1)) }
@@ -283,7 +299,8 @@ impl Store {
         Id(self.request(n).end)
     }
 
-    /// The moment of the n-th request, counted from 0, in milliseconds since 1970-01-01 in UTC. It takes no memory.
+    /// The moment of the n-th request, counted from 0, in milliseconds since 1970-01-01 in UTC. It
+    /// takes no memory.
     pub fn request_moment(&self, n: u32) -> u64
         requires { n < length self.now }
         ensures { option_map (λ batch. batch.moment) (slice_get self.now n) ≡ Some result }
@@ -303,7 +320,8 @@ impl Store {
         }
     }
 
-    /// The primitives below a dateline: the built-in ones and those of the first `dateline` requests.
+    /// The primitives below a dateline: the built-in ones and those of the first `dateline`
+    /// requests.
     #[tactic(auto, using(crate::proofs::History::front_of_all))]
     pub fn below(&self, dateline: u32) -> &[Primitive]
         requires { dateline ≤ length self.now }
@@ -311,12 +329,14 @@ impl Store {
         ensures few { length result.now ≤ 2_097_151 }
 
         // They are a front of all primitives.
-        ensures front { take (length (prims_at self.now dateline)) (prims_of self.now) ≡ prims_at self.now dateline }
+        ensures front { take (length (prims_at self.now dateline)) (prims_of self.now)
+            ≡ prims_at self.now dateline }
     {
         &self.primitives()[..self.end(dateline) as usize]
     }
 
-    /// Whether the primitive at a place below a dateline is marked live and none below it has it as `previous`.
+    /// Whether the primitive at a place below a dateline is marked live and none below it has it as
+    /// `previous`.
     #[tactic(auto, using(crate::proofs::Stored::all_of_batches, crate::proofs::History::front_of_all, crate::proofs::History::front_le_all))]
     pub(crate) fn is_live<L>(&self, dateline: u32, id: Id, steps: &mut Steps<L>) -> bool
         requires { dateline ≤ length self.now }
@@ -348,7 +368,8 @@ impl Store {
         steps: &mut Steps<L>,
     ) -> Option<Id>
         requires { dateline ≤ length self.now }
-        ensures last { result ≡ last_or None (graph.places_where (is_key_link namespace key.now) (prims_at self.now dateline)) }
+        ensures last { result ≡ last_or None
+            (graph.places_where (is_key_link namespace key.now) (prims_at self.now dateline)) }
         ensures work { steps.new ≤ steps.old + 24 }
         ensures later { steps.old ≤ steps.new }
         ensures counted { Rose steps.old steps.new }
@@ -366,7 +387,8 @@ impl Store {
         steps: &mut Steps<L>,
     ) -> Option<Id>
         requires { dateline ≤ length self.now }
-        ensures place { result ≡ slice_get (graph.places_where (is_key_of object) (prims_at self.now dateline)) k }
+        ensures place { result ≡ slice_get
+            (graph.places_where (is_key_of object) (prims_at self.now dateline)) k }
         ensures work { steps.new ≤ steps.old + 2 }
         ensures later { steps.old ≤ steps.new }
         ensures counted { Rose steps.old steps.new }
@@ -398,9 +420,11 @@ impl Store {
         self.prims.most(end)
     }
 
-    /// Whether a primitive may have this text as its value. False: none has it, since no text is so long.
+    /// Whether a primitive may have this text as its value. False: none has it, since no text is so
+    /// long.
     pub(crate) fn may_have_text(&self, text: &str) -> bool
-        ensures none { result ≡ false → list_any (λ p. graph.is_text text.now p.value) (prims_of self.now) ≡ false }
+        ensures none { result ≡ false → list_any (λ p. graph.is_text text.now p.value)
+            (prims_of self.now) ≡ false }
         ensures short { result ≡ true → length text.now ≤ 4_096 }
     {
         self.prims.may_have_text(text)
@@ -427,7 +451,8 @@ impl Store {
         steps: &mut Steps<L>,
     ) -> u32
         requires { dateline ≤ length self.now }
-        ensures count { result ≡ length (ids_below from (places_with end node (prims_at self.now dateline))) }
+        ensures count { result ≡ length (ids_below from
+            (places_with end node (prims_at self.now dateline))) }
         ensures work { steps.new ≤ steps.old + 22 }
         ensures later { steps.old ≤ steps.new }
         ensures counted { Rose steps.old steps.new }
@@ -446,7 +471,8 @@ impl Store {
         steps: &mut Steps<L>,
     ) -> Option<Id>
         requires { dateline ≤ length self.now }
-        ensures first { result ≡ first_from from (places_with end node (prims_at self.now dateline)) }
+        ensures first { result ≡ first_from from
+            (places_with end node (prims_at self.now dateline)) }
         ensures below { IfSome result (λ place. place < length (prims_at self.now dateline)) }
         ensures work { steps.new ≤ steps.old + 22 }
         ensures later { steps.old ≤ steps.new }
@@ -456,7 +482,8 @@ impl Store {
             .first_link(end, node, from, self.end(dateline), steps)
     }
 
-    /// The k-th place below a dateline, from 0 in rising order, whose primitive has this node at the end.
+    /// The k-th place below a dateline, from 0 in rising order, whose primitive has this node at
+    /// the end.
     pub(crate) fn link_at<L>(
         &self,
         dateline: u32,
@@ -467,7 +494,8 @@ impl Store {
     ) -> Id
         requires there { dateline ≤ length self.now }
         requires within { k < length (places_with end node (prims_at self.now dateline)) }
-        ensures place { slice_get (places_with end node (prims_at self.now dateline)) k ≡ Some result }
+        ensures place { slice_get (places_with end node (prims_at self.now dateline)) k
+            ≡ Some result }
         ensures work { steps.new ≡ min (steps.old + 1) (2 ^ 64 - 1) }
         ensures later { steps.old ≤ steps.new }
     {
@@ -524,7 +552,8 @@ impl Store {
         steps: &mut Steps<L>,
     ) -> u32
         requires { dateline ≤ length self.now }
-        ensures count { result ≡ length (ids_below from (places_of_number number (prims_at self.now dateline))) }
+        ensures count { result ≡ length (ids_below from
+            (places_of_number number (prims_at self.now dateline))) }
         ensures work { steps.new ≤ steps.old + 22 }
         ensures later { steps.old ≤ steps.new }
         ensures counted { Rose steps.old steps.new }
@@ -542,7 +571,8 @@ impl Store {
         steps: &mut Steps<L>,
     ) -> Option<Id>
         requires { dateline ≤ length self.now }
-        ensures first { result ≡ first_from from (places_of_number number (prims_at self.now dateline)) }
+        ensures first { result ≡ first_from from
+            (places_of_number number (prims_at self.now dateline)) }
         ensures below { IfSome result (λ place. place < length (prims_at self.now dateline)) }
         ensures work { steps.new ≤ steps.old + 22 }
         ensures later { steps.old ≤ steps.new }
@@ -552,7 +582,8 @@ impl Store {
             .first_of_value(number, from, self.end(dateline), steps)
     }
 
-    /// The k-th place below a dateline, from 0 in rising order, whose primitive has the value with a number.
+    /// The k-th place below a dateline, from 0 in rising order, whose primitive has the value with
+    /// a number.
     pub(crate) fn value_place<L>(
         &self,
         dateline: u32,
@@ -562,7 +593,8 @@ impl Store {
     ) -> Id
         requires there { dateline ≤ length self.now }
         requires within { k < length (places_of_number number (prims_at self.now dateline)) }
-        ensures place { slice_get (places_of_number number (prims_at self.now dateline)) k ≡ Some result }
+        ensures place { slice_get (places_of_number number (prims_at self.now dateline)) k
+            ≡ Some result }
         ensures work { steps.new ≡ min (steps.old + 1) (2 ^ 64 - 1) }
         ensures later { steps.old ≤ steps.new }
     {

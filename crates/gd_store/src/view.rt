@@ -1,5 +1,6 @@
 //! Views of a store.
-ghost use Rattle.std.specs.Prelude.{◌≡◌, ℕ, ◌+◌, ◌-◌, ◌^◌, ◌<◌, ◌≤◌, None, Some, true, false, length, take, slice_get, min, IfSome, IsTrue};
+ghost use Rattle.std.specs.Prelude.{◌≡◌, ℕ, ◌+◌, ◌-◌, ◌^◌, ◌<◌, ◌≤◌, None, Some, true, false};
+ghost use Rattle.std.specs.Prelude.{length, take, slice_get, min, IfSome, IsTrue};
 ghost use Rattle.std.specs.List.{last_or, list_any};
 ghost use Rattle.gd_base.specs.Counts.{Rose};
 ghost use Rattle.gd_prim.specs.End.{places_with};
@@ -18,8 +19,8 @@ use gd_base::text::Text;
 use gd_prim::{End, Primitive};
 use std::marker::Model;
 
-/// A store as it was at a dateline, which is a number of whole requests. Contracts see a view as the list of the
-/// batches of these, so its primitives are the built-in ones and theirs.
+/// A store as it was at a dateline, which is a number of whole requests. Contracts see a view as
+/// the list of the batches of these, so its primitives are the built-in ones and theirs.
 #[derive(Drop)]
 pub struct View<'a> {
     store: &'a Store,
@@ -110,8 +111,8 @@ impl<'a> View<'a> {
         &self.primitives()[id.place() as usize]
     }
 
-    /// Whether the primitive at a place is marked live and no primitive below the dateline has it as `previous`. A place
-    /// above the dateline is not live. It takes no memory.
+    /// Whether the primitive at a place is marked live and no primitive below the dateline has it
+    /// as `previous`. A place above the dateline is not live. It takes no memory.
     pub fn is_live<L>(&self, id: Id, steps: &mut Steps<L>) -> bool
         ensures live { result ≡ graph.is_live (prims_of self.now) id }
         ensures work { steps.new ≤ steps.old + 2 }
@@ -122,7 +123,8 @@ impl<'a> View<'a> {
         store.is_live(self.dateline, id, steps)
     }
 
-    /// The primitive below the dateline that has this place as `previous`, if there is one. It takes no memory.
+    /// The primitive below the dateline that has this place as `previous`, if there is one. It
+    /// takes no memory.
     pub fn successor<L>(&self, id: Id, steps: &mut Steps<L>) -> Option<Id>
         ensures successor { result ≡ graph.successor (prims_of self.now) id }
         ensures below { IfSome result (λ next. next < length (prims_of self.now)) }
@@ -134,10 +136,12 @@ impl<'a> View<'a> {
         store.successor(self.dateline, id, steps)
     }
 
-    /// The last place below the dateline whose primitive is a link of this key into this namespace, if there is one. The
-    /// link may be dead: whether it is live is the caller's to ask. It takes no memory.
+    /// The last place below the dateline whose primitive is a link of this key into this namespace,
+    /// if there is one. The link may be dead: whether it is live is the caller's to ask. It takes
+    /// no memory.
     pub fn by_key<L>(&self, namespace: Id, key: &Text, steps: &mut Steps<L>) -> Option<Id>
-        ensures last { result ≡ last_or None (graph.places_where (is_key_link namespace key.now) (prims_of self.now)) }
+        ensures last { result ≡ last_or None
+            (graph.places_where (is_key_link namespace key.now) (prims_of self.now)) }
         ensures below { IfSome result (λ link. link < length (prims_of self.now)) }
         ensures work { steps.new ≤ steps.old + 24 }
         ensures later { steps.old ≤ steps.new }
@@ -147,10 +151,11 @@ impl<'a> View<'a> {
         store.last_key_link(self.dateline, namespace, key, steps)
     }
 
-    /// The k-th place below the dateline, from 0 in rising order, whose primitive is a key link of this object, if there
-    /// is one. The link may be dead. It takes no memory.
+    /// The k-th place below the dateline, from 0 in rising order, whose primitive is a key link of
+    /// this object, if there is one. The link may be dead. It takes no memory.
     pub fn key_at<L>(&self, object: Id, k: u32, steps: &mut Steps<L>) -> Option<Id>
-        ensures place { result ≡ slice_get (graph.places_where (is_key_of object) (prims_of self.now)) k }
+        ensures place { result ≡ slice_get
+            (graph.places_where (is_key_of object) (prims_of self.now)) k }
         ensures below { IfSome result (λ link. link < length (prims_of self.now)) }
         ensures work { steps.new ≤ steps.old + 3 }
         ensures later { steps.old ≤ steps.new }
@@ -172,7 +177,8 @@ impl<'a> View<'a> {
         store.link_count(self.dateline, end, node, steps)
     }
 
-    /// The k-th place, from 0 in rising order, whose primitive has this node at the end. It takes no memory.
+    /// The k-th place, from 0 in rising order, whose primitive has this node at the end. It takes
+    /// no memory.
     pub fn list_at<L>(&self, end: End, node: Id, k: u32, steps: &mut Steps<L>) -> Id
         requires { k < length (places_with end node (prims_of self.now)) }
         ensures place { slice_get (places_with end node (prims_of self.now)) k ≡ Some result }
@@ -186,11 +192,12 @@ impl<'a> View<'a> {
         store.link_at(self.dateline, end, node, k, steps)
     }
 
-    /// The places whose primitive has this node at the end, in rising order. They are found in at most 22 steps, and to go
-    /// over them takes none. It takes no memory.
+    /// The places whose primitive has this node at the end, in rising order. They are found in at
+    /// most 22 steps, and to go over them takes none. It takes no memory.
     pub fn links<L>(&self, end: End, node: Id, steps: &mut Steps<L>) -> &'a [Id]
         ensures places { result.now ≡ places_with end node (prims_of self.now) }
-        ensures below { (k place : ℕ) → slice_get result.now k ≡ Some place → place < length (prims_of self.now) }
+        ensures below { (k place : ℕ) → slice_get result.now k ≡ Some place
+            → place < length (prims_of self.now) }
         ensures work { steps.new ≤ steps.old + 22 }
         ensures later { steps.old ≤ steps.new }
         ensures counted { Rose steps.old steps.new }
@@ -199,8 +206,9 @@ impl<'a> View<'a> {
         store.links(self.dateline, end, node, steps)
     }
 
-    /// A number such that no node is at this end of more primitives: those that came after the view are counted too, so
-    /// two views of equal batches may give different numbers. It takes no steps and no memory.
+    /// A number such that no node is at this end of more primitives: those that came after the view
+    /// are counted too, so two views of equal batches may give different numbers. It takes no steps
+    /// and no memory.
     pub fn most(&self, end: End) -> u32
         ensures { (node : ℕ) → length (places_with end node (prims_of self.now)) ≤ result }
     {
@@ -208,10 +216,11 @@ impl<'a> View<'a> {
         store.most(end)
     }
 
-    /// How many of the places whose primitive has this node at the end are less than `from`: so this is the index among
-    /// them of the first that is `from` or greater. It takes no memory.
+    /// How many of the places whose primitive has this node at the end are less than `from`: so
+    /// this is the index among them of the first that is `from` or greater. It takes no memory.
     pub fn list_from<L>(&self, end: End, node: Id, from: Id, steps: &mut Steps<L>) -> u32
-        ensures index { result ≡ length (ids_below from (places_with end node (prims_of self.now))) }
+        ensures index { result ≡ length (ids_below from
+            (places_with end node (prims_of self.now))) }
         ensures work { steps.new ≤ steps.old + 22 }
         ensures later { steps.old ≤ steps.new }
         ensures counted { Rose steps.old steps.new }
@@ -220,8 +229,8 @@ impl<'a> View<'a> {
         store.links_before(self.dateline, end, node, from, steps)
     }
 
-    /// The first place that is `from` or greater whose primitive has this node at the end, if there is one. It takes no
-    /// memory.
+    /// The first place that is `from` or greater whose primitive has this node at the end, if there
+    /// is one. It takes no memory.
     pub fn first_link<L>(&self, end: End, node: Id, from: Id, steps: &mut Steps<L>) -> Option<Id>
         ensures first { result ≡ first_from from (places_with end node (prims_of self.now)) }
         ensures below { IfSome result (λ place. place < length (prims_of self.now)) }
@@ -233,18 +242,19 @@ impl<'a> View<'a> {
         store.first_link(self.dateline, end, node, from, steps)
     }
 
-    /// Whether a primitive below the dateline may have this text as its value. False: none has it, since no text is so long.
-    /// It takes no steps and no memory.
+    /// Whether a primitive below the dateline may have this text as its value. False: none has it,
+    /// since no text is so long. It takes no steps and no memory.
     pub fn may_have_text(&self, text: &str) -> bool
-        ensures none { result ≡ false → list_any (λ p. graph.is_text text.now p.value) (prims_of self.now) ≡ false }
+        ensures none { result ≡ false → list_any (λ p. graph.is_text text.now p.value)
+            (prims_of self.now) ≡ false }
         ensures short { result ≡ true → length text.now ≤ 4_096 }
     {
         let store = self.store;
         store.may_have_text(text)
     }
 
-    /// The number of a value that a primitive below the dateline has: values are numbered from 0 in the order in which
-    /// they first come. None where no primitive has it. It takes no memory.
+    /// The number of a value that a primitive below the dateline has: values are numbered from 0 in
+    /// the order in which they first come. None where no primitive has it. It takes no memory.
     pub fn number_of<L>(&self, value: &Datum, steps: &mut Steps<L>) -> Option<u32>
         ensures number { result ≡ number_in value.now (prims_of self.now) }
         ensures work { steps.new ≤ steps.old + 2 }
@@ -255,8 +265,8 @@ impl<'a> View<'a> {
         store.number_of(self.dateline, value, steps)
     }
 
-    /// How many primitives below the dateline have the value with this number: none where the number was not given. It
-    /// takes no memory.
+    /// How many primitives below the dateline have the value with this number: none where the
+    /// number was not given. It takes no memory.
     pub fn value_len<L>(&self, number: u32, steps: &mut Steps<L>) -> u32
         ensures len { result ≡ length (places_of_number number (prims_of self.now)) }
         ensures work { steps.new ≤ steps.old + 22 }
@@ -267,7 +277,8 @@ impl<'a> View<'a> {
         store.value_count(self.dateline, number, steps)
     }
 
-    /// The k-th place, from 0 in rising order, whose primitive has the value with this number. It takes no memory.
+    /// The k-th place, from 0 in rising order, whose primitive has the value with this number. It
+    /// takes no memory.
     pub fn value_entry<L>(&self, number: u32, k: u32, steps: &mut Steps<L>) -> Id
         requires { k < length (places_of_number number (prims_of self.now)) }
         ensures place { slice_get (places_of_number number (prims_of self.now)) k ≡ Some result }
@@ -279,11 +290,13 @@ impl<'a> View<'a> {
         store.value_place(self.dateline, number, k, steps)
     }
 
-    /// The places whose primitive has the value with this number, in rising order: none where the number was not given.
-    /// They are found in at most 22 steps, and to go over them takes none. It takes no memory.
+    /// The places whose primitive has the value with this number, in rising order: none where the
+    /// number was not given. They are found in at most 22 steps, and to go over them takes none. It
+    /// takes no memory.
     pub fn value_places<L>(&self, number: u32, steps: &mut Steps<L>) -> &'a [Id]
         ensures places { result.now ≡ places_of_number number (prims_of self.now) }
-        ensures below { (k place : ℕ) → slice_get result.now k ≡ Some place → place < length (prims_of self.now) }
+        ensures below { (k place : ℕ) → slice_get result.now k ≡ Some place
+            → place < length (prims_of self.now) }
         ensures work { steps.new ≤ steps.old + 22 }
         ensures later { steps.old ≤ steps.new }
         ensures counted { Rose steps.old steps.new }
@@ -292,10 +305,11 @@ impl<'a> View<'a> {
         store.value_places(self.dateline, number, steps)
     }
 
-    /// How many of the places whose primitive has the value with this number are less than `from`: so this is the index
-    /// among them of the first that is `from` or greater. It takes no memory.
+    /// How many of the places whose primitive has the value with this number are less than `from`:
+    /// so this is the index among them of the first that is `from` or greater. It takes no memory.
     pub fn value_from<L>(&self, number: u32, from: Id, steps: &mut Steps<L>) -> u32
-        ensures index { result ≡ length (ids_below from (places_of_number number (prims_of self.now))) }
+        ensures index { result ≡ length (ids_below from
+            (places_of_number number (prims_of self.now))) }
         ensures work { steps.new ≤ steps.old + 22 }
         ensures later { steps.old ≤ steps.new }
         ensures counted { Rose steps.old steps.new }
@@ -304,8 +318,8 @@ impl<'a> View<'a> {
         store.values_before(self.dateline, number, from, steps)
     }
 
-    /// The first place that is `from` or greater whose primitive has the value with this number, if there is one. It takes
-    /// no memory.
+    /// The first place that is `from` or greater whose primitive has the value with this number, if
+    /// there is one. It takes no memory.
     pub fn first_of_value<L>(&self, number: u32, from: Id, steps: &mut Steps<L>) -> Option<Id>
         ensures first { result ≡ first_from from (places_of_number number (prims_of self.now)) }
         ensures below { IfSome result (λ place. place < length (prims_of self.now)) }

@@ -1,4 +1,5 @@
-//! Iterators over the built-in list, called at these types, with one step a call where a budget counts.
+//! Iterators over the built-in list, called at these types, with one step a call where a budget
+//! counts.
 use gd_and::and::And;
 use gd_base::id::Id;
 use gd_base::memory::Memory;
@@ -16,7 +17,8 @@ use std::alloc::Global;
 /// The run that steps are counted for.
 struct Run;
 
-/// The sum of the places that the iterator gives within so many calls, each with a budget of one step.
+/// The sum of the places that the iterator gives within so many calls, each with a budget of one
+/// step.
 fn sum_of<'a, I: Iter<View<'a>>>(iter: &mut I, view: &View<'a>, calls: u32) -> u64 {
     let mut steps: Steps<Run> = Steps::new();
     let mut sum: u64 = 0;

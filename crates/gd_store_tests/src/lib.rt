@@ -1,4 +1,5 @@
-//! Tests of what no clause says: that each call that may want memory succeeds where there is plenty, and printed texts.
+//! Tests of what no clause says: that each call that may want memory succeeds where there is
+//! plenty, and printed texts.
 #![tactic(auto)]
 
 #[cfg(test)]

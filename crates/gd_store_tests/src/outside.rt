@@ -7,7 +7,8 @@ use std::io;
 use std::io::{Read, Write};
 use std::time::Duration;
 
-/// Reads or takes one byte, fails, and then reads and takes nothing. It tells no content, and cannot flush.
+/// Reads or takes one byte, fails, and then reads and takes nothing. It tells no content, and
+/// cannot flush.
 #[derive(Drop)]
 struct Flaky(u8);
 

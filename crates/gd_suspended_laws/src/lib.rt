@@ -1,8 +1,15 @@
-//! Readings that are suspended: from scanning to building to printing they owe the same line. Each law is the contract of a
-//! function that does nothing: whoever calls it may use the law, and code above cites its statement from `specs/Laws.antt`.
+//! Readings that are suspended: from scanning to building to printing they owe the same line. Each
+//! law is the contract of a function that does nothing: whoever calls it may use the law, and code
+//! above cites its statement from `specs/Laws.antt`.
 #![tactic(auto)]
 
-ghost use Rattle.gd_suspended_laws.specs.Laws.{BuildsGo, EverythingIs, FewerAre, FullAre, HeavyBuildsRefuse, HeavyPagesRefuse, HeavyScansRefuse, LinksAreDefined, ManyRefuse, NamedAre, OrdersAre, PagesPrint, PrintsOwe, ScansEndEarly, ScansKeep, ScansOwe, StartsOwe, ThenBuilds, ThenCounts, ThenPrints, TreesTellKeys, VisitsEnd};
+ghost use Rattle.gd_suspended_laws.specs.Laws.{BuildsGo, EverythingIs, FewerAre, FullAre};
+ghost use Rattle.gd_suspended_laws.specs.Laws.{HeavyBuildsRefuse, HeavyPagesRefuse};
+ghost use Rattle.gd_suspended_laws.specs.Laws.{HeavyScansRefuse, LinksAreDefined, ManyRefuse};
+ghost use Rattle.gd_suspended_laws.specs.Laws.{NamedAre, OrdersAre, PagesPrint, PrintsOwe};
+ghost use Rattle.gd_suspended_laws.specs.Laws.{ScansEndEarly, ScansKeep, ScansOwe, StartsOwe};
+ghost use Rattle.gd_suspended_laws.specs.Laws.{ThenBuilds, ThenCounts, ThenPrints, TreesTellKeys};
+ghost use Rattle.gd_suspended_laws.specs.Laws.{VisitsEnd};
 
 /// The sort keys of an object stand where its tree tells.
 pub fn trees_tell_keys()
@@ -19,7 +26,8 @@ pub fn everything_is()
     ensures { EverythingIs }
 {}
 
-/// The order of places that are named has each candidate once, if each place that passes is one of them.
+/// The order of places that are named has each candidate once, if each place that passes is one of
+/// them.
 pub fn named_are()
     ensures { NamedAre }
 {}
@@ -29,7 +37,8 @@ pub fn full_are()
     ensures { FullAre }
 {}
 
-/// The order of links by the template of a member's links is the one in which the definitions scan them, as far as objects go.
+/// The order of links by the template of a member's links is the one in which the definitions scan
+/// them, as far as objects go.
 pub fn links_are_defined()
     ensures { LinksAreDefined }
 {}
@@ -59,7 +68,8 @@ pub fn scans_end_early()
     ensures { ScansEndEarly }
 {}
 
-/// Where places were visited among which each that passes is, the scan of these may go to its end with the window that it has.
+/// Where places were visited among which each that passes is, the scan of these may go to its end
+/// with the window that it has.
 pub fn visits_end()
     ensures { VisitsEnd }
 {}
@@ -79,17 +89,20 @@ pub fn builds_go()
     ensures { BuildsGo }
 {}
 
-/// The trees of the rows of a page may be printed at once, where these do not weigh too much together.
+/// The trees of the rows of a page may be printed at once, where these do not weigh too much
+/// together.
 pub fn pages_print()
     ensures { PagesPrint }
 {}
 
-/// Where a row that is still to be built weighs too much, the reading owes the refusal that says so.
+/// Where a row that is still to be built weighs too much, the reading owes the refusal that says
+/// so.
 pub fn heavy_builds_refuse()
     ensures { HeavyBuildsRefuse }
 {}
 
-/// Where the rows that were built weigh too much together, the reading owes the refusal that says so.
+/// Where the rows that were built weigh too much together, the reading owes the refusal that says
+/// so.
 pub fn heavy_pages_refuse()
     ensures { HeavyPagesRefuse }
 {}

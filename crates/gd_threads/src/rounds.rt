@@ -1,5 +1,6 @@
 //! A run that is served round by round, on threads.
-ghost use Rattle.std.specs.Prelude.{◌≡◌, ◌≤◌, ◌<◌, ◌+◌, ◌^◌, ℕ, List, [], length, map, vec_len, vec_capacity, IfOk, IfErr, MatchResult, true};
+ghost use Rattle.std.specs.Prelude.{◌≡◌, ◌≤◌, ◌<◌, ◌+◌, ◌^◌, ℕ, List, [], length, map, vec_len};
+ghost use Rattle.std.specs.Prelude.{vec_capacity, IfOk, IfErr, MatchResult, true};
 ghost use Rattle.std.specs.List.{All};
 ghost use Rattle.std.specs.Option.{ForSome};
 ghost use Rattle.gd_base.specs.Counts.{Rose};
@@ -85,7 +86,8 @@ struct Run;
 fn idle_sessions(mut seats: Vec<Seat>, mut sessions: Vec<Session>) -> Vec<Session>
     requires none { sessions.items ≡ [] }
     requires room { vec_len seats ≤ vec_capacity sessions }
-    ensures idle { (table : Book) (shown : List Batch) → All (IsNewSeat table shown) seats.items → All (IsIdle table) result.items }
+    ensures idle { (table : Book) (shown : List Batch) → All (IsNewSeat table shown) seats.items
+        → All (IsIdle table) result.items }
     ensures count { length result.items ≡ vec_len seats }
     ensures capacity { vec_capacity result ≡ vec_capacity sessions }
 {
@@ -110,12 +112,18 @@ impl<D: Disk, C: Clock> Rounds<D, C> {
         workers: NonZeroU32,
     ) -> Result<Rounds<D, C>, (JournalFault, D, C)>
         ensures none { IfOk result (λ rounds. rounds.lines ≡ 0) }
-        ensures begins { IfOk result (λ rounds. Begins (D.content disk) (C.may clock) C.may rounds.side) }
-        ensures follow { IfOk result (λ rounds. all_follow builtin 0 rounds.side.history.loaded ≡ true) }
+        ensures begins { IfOk result (λ rounds. Begins (D.content disk) (C.may clock) C.may
+            rounds.side) }
+        ensures follow { IfOk result (λ rounds. all_follow builtin 0 rounds.side.history.loaded
+            ≡ true) }
         ensures clock { IfErr result (λ refused. refused.2 ≡ clock) }
-        ensures cause { IfErr result (λ refused. refused.0 ≡ JournalFault.DiskFault → Rose (D.faults disk) (D.faults refused.1)) }
-        ensures refused { IfErr result (λ refused. ForSome (D.content disk) (λ file. Refuses refused.0 (meaning file))) }
-        ensures disk { MatchResult result (λ rounds. Opens D.content D.moment D.images D.images_since D.faults disk rounds.side.log.disk)
+        ensures cause { IfErr result (λ refused. refused.0 ≡ JournalFault.DiskFault
+            → Rose (D.faults disk) (D.faults refused.1)) }
+        ensures refused { IfErr result (λ refused. ForSome (D.content disk)
+            (λ file. Refuses refused.0 (meaning file))) }
+        ensures disk { MatchResult result
+            (λ rounds. Opens D.content D.moment D.images D.images_since D.faults disk
+            rounds.side.log.disk)
             (λ refused. Opens D.content D.moment D.images D.images_since D.faults disk refused.1) }
     {
         let sessions = match Vec::with_capacity(alloc, SEATS as usize) {
@@ -162,7 +170,8 @@ impl<D: Disk, C: Clock> Rounds<D, C> {
 
         // All that a stop leaves of a disk that tells its content is the history, with all or none
         // of the write in doubt.
-        ensures holds { Tells (D.content result.0) → (file : List ℕ) → D.images result.0 file → StandsForState (state_at self.side) file }
+        ensures holds { Tells (D.content result.0) → (file : List ℕ) → D.images result.0 file
+            → StandsForState (state_at self.side) file }
     {
         // A side says here what it keeps.
         let _stored = self.side.stored();
@@ -194,7 +203,8 @@ impl<D: Disk + Send, C: Clock + Send> Rounds<D, C> {
     ) -> Replies
         requires lines { self.old.lines + length lines.now < 2 ^ 63 }
         requires short { All IsShort lines.now }
-        ensures { AnswersRound D.content D.moment D.images D.images_since D.faults C.may lines.now self.old self.new (reply_texts result) }
+        ensures { AnswersRound D.content D.moment D.images D.images_since D.faults C.may lines.now
+            self.old self.new (reply_texts result) }
     {
         match read_lines(rt, alloc, self.workers, self.lines, lines) {
             Ok(works) => Replies::Made(self.answer_works(rt, alloc, gate, lines, works)),
@@ -213,9 +223,11 @@ impl<D: Disk + Send, C: Clock + Send> Rounds<D, C> {
     ) -> Vec<Reply>
         requires lines { self.old.lines + length lines.now < 2 ^ 63 }
         requires short { All IsShort lines.now }
-        requires read { (given : List Numbered) → AreKept lines.now (texts_of given) → AreRead self.old.lines given works }
+        requires read { (given : List Numbered) → AreKept lines.now (texts_of given)
+            → AreRead self.old.lines given works }
         requires within { AreWithin self.old.lines (self.old.lines + length lines.now) works }
-        ensures { AnswersRound D.content D.moment D.images D.images_since D.faults C.may lines.now self.old self.new (map reply_text result.items) }
+        ensures { AnswersRound D.content D.moment D.images D.images_since D.faults C.may lines.now
+            self.old self.new (map reply_text result.items) }
     {
         let begun = show(rt, &mut self.side);
         let hired = hire(

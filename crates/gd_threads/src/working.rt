@@ -1,5 +1,6 @@
 //! The writes of a round are run: by workers side by side, and what they leave by their caller.
-ghost use Rattle.std.specs.Prelude.{◌≡◌, ◌≤◌, ◌<◌, ◌+◌, ◌^◌, ℕ, List, [], length, map, vec_capacity, false};
+ghost use Rattle.std.specs.Prelude.{◌≡◌, ◌≤◌, ◌<◌, ◌+◌, ◌^◌, ℕ, List, [], length, map};
+ghost use Rattle.std.specs.Prelude.{vec_capacity, false};
 ghost use Rattle.std.specs.List.{All};
 ghost use Rattle.std.specs.Thread.{IsSend, IsSync};
 ghost use Rattle.gd_input.specs.Line.{IsShort};
@@ -94,9 +95,11 @@ fn run_handed<'a, R: Threads + Wait + Sync, D: Disk + Send, C: Clock + Send, G: 
     requires none { side.outcomes ≡ [] }
     requires fresh { IsFreshFrom handed.first side.history side.doubt }
     requires short { All IsShort handed.lines.now }
-    requires writes { (given : List Numbered) → AreKept handed.lines.now (texts_of given) → map write_of handed.works.now.writes.items ≡ write_lines handed.first given }
+    requires writes { (given : List Numbered) → AreKept handed.lines.now (texts_of given)
+        → map write_of handed.works.now.writes.items ≡ write_lines handed.first given }
     requires manned { All (IsManned side.table handed.works.now) handed.workers.items }
-    ensures joined { IsJoined D.content D.moment D.images D.images_since D.faults C.may (map write_of handed.entry.works.now.writes.items) side result.0 }
+    ensures joined { IsJoined D.content D.moment D.images D.images_since D.faults C.may
+        (map write_of handed.entry.works.now.writes.items) side result.0 }
     ensures worked { All (HasWorked side.table handed.entry.works.now.reads.items) result.1.items }
     ensures lent { lent result.1.items ≡ lent handed.entry.workers.items }
 {
@@ -137,11 +140,13 @@ fn join<'a, R: Threads + Wait + Sync, D: Disk + Send, C: Clock + Send, G: Gate>(
     requires none { side.old.outcomes ≡ [] }
     requires fresh { IsFreshFrom first side.old.history side.old.doubt }
     requires short { All IsShort lines.now }
-    requires read { (given : List Numbered) → AreKept lines.now (texts_of given) → AreRead first given works.now }
+    requires read { (given : List Numbered) → AreKept lines.now (texts_of given)
+        → AreRead first given works.now }
     requires within { AreWithin first (first + length lines.now) works.now }
     requires manned { All (IsManned side.old.table works.now) workers.items }
     requires alone { works.now.whole ≡ false → workers.items ≡ [] }
-    ensures joins { Joins D.content D.moment D.images D.images_since D.faults C.may works.now side.old side.new }
+    ensures joins { Joins D.content D.moment D.images D.images_since D.faults C.may works.now
+        side.old side.new }
     ensures worked { All (HasWorked side.new.table works.now.reads.items) result.items }
     ensures lent { lent result.items ≡ lent workers.entry.items }
 {
@@ -177,11 +182,13 @@ pub(crate) fn run<'a, R: Threads + Wait + Sync, D: Disk + Send, C: Clock + Send,
     requires fresh { IsFreshFrom first side.old.history side.old.doubt }
     requires lines { first + length lines.now < 2 ^ 63 }
     requires short { All IsShort lines.now }
-    requires read { (given : List Numbered) → AreKept lines.now (texts_of given) → AreRead first given works.now }
+    requires read { (given : List Numbered) → AreKept lines.now (texts_of given)
+        → AreRead first given works.now }
     requires within { AreWithin first (first + length lines.now) works.now }
     requires manned { All (IsManned side.old.table works.now) workers.items }
     requires alone { works.now.whole ≡ false → workers.items ≡ [] }
-    ensures runs { RunsWrites D.content D.moment D.images D.images_since D.faults C.may works.now side.old side.new }
+    ensures runs { RunsWrites D.content D.moment D.images D.images_since D.faults C.may works.now
+        side.old side.new }
     ensures worked { All (HasWorked side.new.table works.now.reads.items) result.items }
     ensures lent { lent result.items ≡ lent workers.entry.items }
 {

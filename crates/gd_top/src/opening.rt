@@ -54,11 +54,13 @@ fn run_over<
         (S.left source.old) (S.left source.new) (K.held sink.old) (K.held sink.new) }
     ensures at_end { result.0 ≡ Status.Done → IsAtEnd (S.left source.new) }
     ensures sent { result.0 ≡ Status.Done → K.sent sink.new ≡ true }
-    ensures rounds_sent { verb_in command.now ≡ serves → SendsRounds result.0 K.sent sink.old sink.new }
+    ensures rounds_sent { verb_in command.now ≡ serves
+        → SendsRounds result.0 K.sent sink.old sink.new }
     ensures causes { Causes result.0 (Rose (S.faults source.old) (S.faults source.new))
         (Rose (K.faults sink.old) (K.faults sink.new))
         (Rose (D.faults disk) (D.faults result.1))
-        (TakesAtLeast (2 ^ 40) (S.left source.old) (S.left source.new) (S.given source.old) (S.given source.new))
+        (TakesAtLeast (2 ^ 40) (S.left source.old) (S.left source.new) (S.given source.old)
+        (S.given source.new))
         (MayMean (D.content disk)) (DoesMean (D.content disk)) }
     ensures used { result.0 ≢ Status.Usage }
     ensures kept { Keeps (D.content disk) (D.content result.1)
@@ -99,15 +101,18 @@ fn run_in_file<
         (F.content shelf.old) (F.images shelf.new) (Some path.now)
         (RoseBy (F.faults shelf.old) (F.faults shelf.new))
         (IsIdle source.old source.new sink.old sink.new
-        × StaysAt (F.content shelf.old) (F.content shelf.new) (F.images shelf.old) (F.images shelf.new) (Some path.now))
+        × StaysAt (F.content shelf.old) (F.content shelf.new) (F.images shelf.old)
+        (F.images shelf.new) (Some path.now))
         (S.left source.old) (S.left source.new) (K.held sink.old) (K.held sink.new) }
     ensures at_end { result ≡ Status.Done → IsAtEnd (S.left source.new) }
     ensures sent { result ≡ Status.Done → K.sent sink.new ≡ true }
-    ensures rounds_sent { verb_in command.now ≡ serves → SendsRounds result K.sent sink.old sink.new }
+    ensures rounds_sent { verb_in command.now ≡ serves
+        → SendsRounds result K.sent sink.old sink.new }
     ensures causes { Causes result (Rose (S.faults source.old) (S.faults source.new))
         (Rose (K.faults sink.old) (K.faults sink.new))
         (Rose (F.faults shelf.old) (F.faults shelf.new))
-        (TakesAtLeast (2 ^ 40) (S.left source.old) (S.left source.new) (S.given source.old) (S.given source.new))
+        (TakesAtLeast (2 ^ 40) (S.left source.old) (S.left source.new) (S.given source.old)
+        (S.given source.new))
         (MayMean (F.content shelf.old path.now)) (DoesMean (F.content shelf.old path.now)) }
     ensures used { result ≢ Status.Usage }
     ensures kept { Keeps (F.content shelf.old path.now) (F.content shelf.new path.now)
@@ -143,10 +148,12 @@ fn run_in_memory<R: Threads + Wait + Sync, S: Source, K: Sink, C: Clock + Send +
         (S.left source.old) (S.left source.new) (K.held sink.old) (K.held sink.new) }
     ensures at_end { result ≡ Status.Done → IsAtEnd (S.left source.new) }
     ensures sent { result ≡ Status.Done → K.sent sink.new ≡ true }
-    ensures rounds_sent { verb_in command.now ≡ serves → SendsRounds result K.sent sink.old sink.new }
+    ensures rounds_sent { verb_in command.now ≡ serves
+        → SendsRounds result K.sent sink.old sink.new }
     ensures causes { Causes result (Rose (S.faults source.old) (S.faults source.new))
         (Rose (K.faults sink.old) (K.faults sink.new)) ⊥
-        (TakesAtLeast (2 ^ 40) (S.left source.old) (S.left source.new) (S.given source.old) (S.given source.new)) (λ _. ⊥) (λ _. ⊥) }
+        (TakesAtLeast (2 ^ 40) (S.left source.old) (S.left source.new) (S.given source.old)
+        (S.given source.new)) (λ _. ⊥) (λ _. ⊥) }
     ensures used { result ≢ Status.Usage }
 {
     match SteadyDisk::new(alloc) {
@@ -178,17 +185,20 @@ pub fn run<R: Threads + Wait + Sync, S: Source, K: Sink, F: Shelf, C: Clock + Se
         (F.content shelf.old) (F.images shelf.new) (file_of command.now)
         (RoseBy (F.faults shelf.old) (F.faults shelf.new))
         (IsIdle source.old source.new sink.old sink.new
-        × StaysAt (F.content shelf.old) (F.content shelf.new) (F.images shelf.old) (F.images shelf.new) (file_of command.now))
+        × StaysAt (F.content shelf.old) (F.content shelf.new) (F.images shelf.old)
+        (F.images shelf.new) (file_of command.now))
         (S.left source.old) (S.left source.new) (K.held sink.old) (K.held sink.new) }
     ensures at_end { result ≡ Status.Done → IsAtEnd (S.left source.new) }
     ensures sent { result ≡ Status.Done → K.sent sink.new ≡ true }
-    ensures rounds_sent { verb_in command.now ≡ serves → SendsRounds result K.sent sink.old sink.new }
+    ensures rounds_sent { verb_in command.now ≡ serves
+        → SendsRounds result K.sent sink.old sink.new }
 
     // Each status has its cause, and what is said of the file is so.
     ensures causes { Causes result (Rose (S.faults source.old) (S.faults source.new))
         (Rose (K.faults sink.old) (K.faults sink.new))
         (Rose (F.faults shelf.old) (F.faults shelf.new))
-        (TakesAtLeast (2 ^ 40) (S.left source.old) (S.left source.new) (S.given source.old) (S.given source.new))
+        (TakesAtLeast (2 ^ 40) (S.left source.old) (S.left source.new) (S.given source.old)
+        (S.given source.new))
         (MayMeanAt (F.content shelf.old) (file_of command.now))
         (DoesMean (told_at (F.content shelf.old) (file_of command.now))) }
     ensures used { result ≢ Status.Usage }

@@ -15,8 +15,10 @@ use gd_round_lines::replies::Replies;
 
 /// Prints replies that were made, each with its newline.
 fn print_made<K: Sink>(sink: &mut K, replies: &[Reply]) -> Result<(), Failed>
-    ensures all { OnOk result (Appends (K.held sink.old) (K.held sink.new) (printed (map reply_text replies.now))) }
-    ensures front { OnErr result (GainsFront (K.held sink.old) (K.held sink.new) (printed (map reply_text replies.now))) }
+    ensures all { OnOk result (Appends (K.held sink.old) (K.held sink.new)
+        (printed (map reply_text replies.now))) }
+    ensures front { OnErr result (GainsFront (K.held sink.old) (K.held sink.new)
+        (printed (map reply_text replies.now))) }
     ensures failed { OnErr result (Rose (K.faults sink.old) (K.faults sink.new)) }
     ensures later { K.faults sink.old ≤ K.faults sink.new }
 {
@@ -29,8 +31,10 @@ fn print_made<K: Sink>(sink: &mut K, replies: &[Reply]) -> Result<(), Failed>
 /// Prints to each line from `first` up to `end` the reply that says that there was no memory, with
 /// its newline.
 fn print_no_memory<K: Sink>(sink: &mut K, first: u64, end: u64) -> Result<(), Failed>
-    ensures all { OnOk result (Appends (K.held sink.old) (K.held sink.new) (printed (no_memory first (end - first)))) }
-    ensures front { OnErr result (GainsFront (K.held sink.old) (K.held sink.new) (printed (no_memory first (end - first)))) }
+    ensures all { OnOk result (Appends (K.held sink.old) (K.held sink.new)
+        (printed (no_memory first (end - first)))) }
+    ensures front { OnErr result (GainsFront (K.held sink.old) (K.held sink.new)
+        (printed (no_memory first (end - first)))) }
     ensures failed { OnErr result (Rose (K.faults sink.old) (K.faults sink.new)) }
     ensures later { K.faults sink.old ≤ K.faults sink.new }
 {
@@ -43,8 +47,10 @@ fn print_no_memory<K: Sink>(sink: &mut K, first: u64, end: u64) -> Result<(), Fa
 /// Prints the replies to the lines of a round, each with its newline. `Failed`: the sink did, and a
 /// front of them is printed.
 pub fn print_replies<K: Sink>(sink: &mut K, replies: &Replies) -> Result<(), Failed>
-    ensures all { OnOk result (Appends (K.held sink.old) (K.held sink.new) (printed (reply_texts replies.now))) }
-    ensures front { OnErr result (GainsFront (K.held sink.old) (K.held sink.new) (printed (reply_texts replies.now))) }
+    ensures all { OnOk result (Appends (K.held sink.old) (K.held sink.new)
+        (printed (reply_texts replies.now))) }
+    ensures front { OnErr result (GainsFront (K.held sink.old) (K.held sink.new)
+        (printed (reply_texts replies.now))) }
     ensures failed { OnErr result (Rose (K.faults sink.old) (K.faults sink.new)) }
     ensures later { K.faults sink.old ≤ K.faults sink.new }
 {

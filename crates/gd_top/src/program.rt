@@ -1,5 +1,6 @@
 //! The top call.
-ghost use Rattle.std.specs.Prelude.{◌≡◌, ◌≢◌, ◌<◌, ◌⊎◌, ◌^◌, ℕ, List, length, true, false, None, Some, IsSomeAnd};
+ghost use Rattle.std.specs.Prelude.{◌≡◌, ◌≢◌, ◌<◌, ◌⊎◌, ◌^◌, ℕ, List, length, true, false, None};
+ghost use Rattle.std.specs.Prelude.{Some, IsSomeAnd};
 ghost use Rattle.std.specs.Io.KnownBytes.{IsAtEnd};
 ghost use Rattle.gd_base.specs.Counts.{Rose, RoseBy};
 ghost use Rattle.gd_bytes.specs.Disk.{HoldsSame};
@@ -63,7 +64,8 @@ pub fn graphd<
 
     // Words out of the grammar: nothing is read, and nothing printed.
     ensures usage { (result ≡ Status.Usage) → command_of words.now ≡ None }
-    ensures usage_found { command_of words.now ≡ None → (result ≡ Status.Usage) ⊎ (result ≡ Status.Memory) }
+    ensures usage_found { command_of words.now ≡ None → (result ≡ Status.Usage)
+        ⊎ (result ≡ Status.Memory) }
     ensures unread { command_of words.now ≡ None → IsIdle source.old source.new sink.old sink.new }
 
     // Words that serve. Where the input was read to its end, one legal history explains the whole
@@ -79,7 +81,8 @@ pub fn graphd<
         (EndsWith (C.may clock) (F.content shelf.old) (F.images shelf.new) (path_of words.now))
         (RoseBy (F.faults shelf.old) (F.faults shelf.new))
         (IsIdle source.old source.new sink.old sink.new
-        × StaysAt (F.content shelf.old) (F.content shelf.new) (F.images shelf.old) (F.images shelf.new) (path_of words.now))
+        × StaysAt (F.content shelf.old) (F.content shelf.new) (F.images shelf.old)
+        (F.images shelf.new) (path_of words.now))
         (S.left source.old) (S.left source.new) (K.held sink.old) (K.held sink.new) }
 
     // Words that replay. Over a file that the shelf tells or without one, and over any file where
@@ -87,12 +90,15 @@ pub fn graphd<
     // replies to the lines, from some batches on; and the shelf counted at least as many faults as
     // lines and the status tell. A file that is told stood for these batches, and is left so that
     // it stands for the state that they make, with or without the write that is in doubt.
-    ensures events { verb_of words.now ≡ Some verb.replays → IsSure (IsToldAt (F.content shelf.old) (path_of words.now)) (S.left source.old)
+    ensures events { verb_of words.now ≡ Some verb.replays
+        → IsSure (IsToldAt (F.content shelf.old) (path_of words.now)) (S.left source.old)
         → (members : MembersOf) → PrintsEvents result members (C.may clock)
-        (BeginsWith (F.content shelf.old) (path_of words.now)) (LeavesAt (F.content shelf.old) (F.images shelf.new) (path_of words.now))
+        (BeginsWith (F.content shelf.old) (path_of words.now))
+        (LeavesAt (F.content shelf.old) (F.images shelf.new) (path_of words.now))
         (RoseBy (F.faults shelf.old) (F.faults shelf.new))
         (IsIdle source.old source.new sink.old sink.new
-        × StaysAt (F.content shelf.old) (F.content shelf.new) (F.images shelf.old) (F.images shelf.new) (path_of words.now))
+        × StaysAt (F.content shelf.old) (F.content shelf.new) (F.images shelf.old)
+        (F.images shelf.new) (path_of words.now))
         (S.left source.old) (K.held sink.old) (K.held sink.new) }
 
     // What follows here holds with every verb. A run that is done has read its input to the end.
@@ -101,28 +107,36 @@ pub fn graphd<
     // With Done all that was printed is sent on; a run of lines sends on what it prints round by
     // round.
     ensures sent { result ≡ Status.Done → K.sent sink.new ≡ true }
-    ensures rounds_sent { verb_of words.now ≡ Some verb.serves → SendsRounds result K.sent sink.old sink.new }
+    ensures rounds_sent { verb_of words.now ≡ Some verb.serves
+        → SendsRounds result K.sent sink.old sink.new }
 
     // Each fault has its cause.
-    ensures read_fault { result ≡ Status.ReadFault → Rose (S.faults source.old) (S.faults source.new) }
+    ensures read_fault { result ≡ Status.ReadFault
+        → Rose (S.faults source.old) (S.faults source.new) }
     ensures sink_fault { result ≡ Status.SinkFault → Rose (K.faults sink.old) (K.faults sink.new) }
-    ensures disk_fault { result ≡ Status.DiskFault → Rose (F.faults shelf.old) (F.faults shelf.new) }
-    ensures too_much { result ≡ Status.TooMuch → TakesAtLeast (2 ^ 40) (S.left source.old) (S.left source.new) (S.given source.old) (S.given source.new) }
+    ensures disk_fault { result ≡ Status.DiskFault
+        → Rose (F.faults shelf.old) (F.faults shelf.new) }
+    ensures too_much { result ≡ Status.TooMuch
+        → TakesAtLeast (2 ^ 40) (S.left source.old) (S.left source.new) (S.given source.old)
+        (S.given source.new) }
 
     // What is said of the file is so, and is said where it is so, but for a failure of the disk or
     // want of memory.
-    ensures not_store { result ≡ Status.NotStore → MayMeanAt (F.content shelf.old) (path_of words.now) not_store }
+    ensures not_store { result ≡ Status.NotStore
+        → MayMeanAt (F.content shelf.old) (path_of words.now) not_store }
     ensures damaged { (offset : ℕ) → result ≡ Status.Damaged offset
         → MayMeanAt (F.content shelf.old) (path_of words.now) (damaged offset) }
     ensures not_store_found { DoesMean (told_at (F.content shelf.old) (path_of words.now)) not_store
         → (result ≡ Status.NotStore) ⊎ IsHindered result }
-    ensures damaged_found { (offset : ℕ) → DoesMean (told_at (F.content shelf.old) (path_of words.now)) (damaged offset)
+    ensures damaged_found { (offset : ℕ)
+        → DoesMean (told_at (F.content shelf.old) (path_of words.now)) (damaged offset)
         → (result ≡ Status.Damaged offset) ⊎ IsHindered result }
 
     // Whatever the status, the file keeps what it stood for, and one that stands for no batches is
     // left alone.
     ensures kept { (path : List ℕ) → path_of words.now ≡ Some path
-        → Keeps (F.content shelf.old path) (F.content shelf.new path) (F.images shelf.old path) (F.images shelf.new path) }
+        → Keeps (F.content shelf.old path) (F.content shelf.new path) (F.images shelf.old path)
+        (F.images shelf.new path) }
 
     // The shelf keeps every other path.
     ensures others { (other : List ℕ) → path_of words.now ≢ Some other
@@ -131,7 +145,8 @@ pub fn graphd<
 
     // With words of the grammar, no fault, a file that is told and stands for some batches or none
     // at all, and input of a known length below 2^40, all is done but for want of memory.
-    ensures complete { command_of words.now ≢ None → ¬ Rose (S.faults source.old) (S.faults source.new)
+    ensures complete { command_of words.now ≢ None
+        → ¬ Rose (S.faults source.old) (S.faults source.new)
         → ¬ Rose (K.faults sink.old) (K.faults sink.new)
         → ¬ Rose (F.faults shelf.old) (F.faults shelf.new)
         → IsSoundAt (F.content shelf.old) (path_of words.now)

@@ -48,14 +48,19 @@ pub(crate) fn replay_over<R: Wait, D: Disk, S: Source, K: Sink, C: Clock + Drop>
     sink: &mut K,
     clock: C,
 ) -> (Status, D)
-    ensures prints { IsSure (Tells (D.content disk)) (S.left source.old) → (members : MembersOf) → PrintsEvents result.0 members (C.may clock) (Loads (D.content disk)) (λ s. Tells (D.content disk) → Leaves (D.images result.1) s) (RoseBy (D.faults disk) (D.faults result.1))
-        (IsIdle source.old source.new sink.old sink.new × StaysTold (D.content disk) (D.content result.1) (D.images disk) (D.images result.1))
+    ensures prints { IsSure (Tells (D.content disk)) (S.left source.old) → (members : MembersOf)
+        → PrintsEvents result.0 members (C.may clock) (Loads (D.content disk))
+        (λ s. Tells (D.content disk) → Leaves (D.images result.1) s)
+        (RoseBy (D.faults disk) (D.faults result.1))
+        (IsIdle source.old source.new sink.old sink.new
+        × StaysTold (D.content disk) (D.content result.1) (D.images disk) (D.images result.1))
         (S.left source.old) (K.held sink.old) (K.held sink.new) }
     ensures at_end { result.0 ≡ Status.Done → IsAtEnd (S.left source.new) }
     ensures sent { result.0 ≡ Status.Done → K.sent sink.new ≡ true }
     ensures causes { Causes result.0 (Rose (S.faults source.old) (S.faults source.new))
         (Rose (K.faults sink.old) (K.faults sink.new)) (Rose (D.faults disk) (D.faults result.1))
-        (TakesAtLeast (2 ^ 40) (S.left source.old) (S.left source.new) (S.given source.old) (S.given source.new)) (MayMean (D.content disk)) (DoesMean (D.content disk)) }
+        (TakesAtLeast (2 ^ 40) (S.left source.old) (S.left source.new) (S.given source.old)
+        (S.given source.new)) (MayMean (D.content disk)) (DoesMean (D.content disk)) }
     ensures used { result.0 ≢ Status.Usage }
     ensures kept { Keeps (D.content disk) (D.content result.1) (D.images disk) (D.images result.1) }
 {

@@ -1,5 +1,6 @@
 //! Rounds: they are read, answered and printed.
-ghost use Rattle.std.specs.Prelude.{◌≡◌, ◌≢◌, ◌≤◌, ◌<◌, ◌+◌, ◌^◌, ◌⊎◌, ℕ, List, Bool, true, length, Err, IfSome, OnOk, OnErr};
+ghost use Rattle.std.specs.Prelude.{◌≡◌, ◌≢◌, ◌≤◌, ◌<◌, ◌+◌, ◌^◌, ◌⊎◌, ℕ, List, Bool, true, length};
+ghost use Rattle.std.specs.Prelude.{Err, IfSome, OnOk, OnErr};
 ghost use Rattle.std.specs.List.{All};
 ghost use Rattle.std.specs.Option.{is_some};
 ghost use Rattle.std.specs.Io.KnownBytes.{IsAtEnd};
@@ -39,7 +40,8 @@ fn answer_round<R: Threads + Wait + Sync, D: Disk + Send, K: Sink, C: Clock + Se
     requires lines { rounds.old.lines + length lines.now < 2 ^ 63 }
     requires short { All IsShort lines.now }
     ensures { AnswersLines D.content D.faults C.may lines.now rounds.old rounds.new
-        (K.held sink.old) (K.held sink.new) (K.sent sink.new) (K.faults sink.old) (K.faults sink.new) result }
+        (K.held sink.old) (K.held sink.new) (K.sent sink.new) (K.faults sink.old)
+        (K.faults sink.new) result }
 {
     let replies = rounds.answer_round(rt, alloc, gate, lines);
     let printed = print_replies(sink, &replies);
@@ -69,28 +71,45 @@ pub fn serve_rounds<
 ) -> Result<(), Stop>
     requires { IsAtStart rounds.old }
     ensures done { OnOk result (IfSome (S.left source.old) (Serves (C.may rounds.old.side.clock)
-        (λ loaded. loaded ≡ rounds.old.side.history.loaded) (HoldsAs (C.may rounds.old.side.clock) (state_at rounds.new.side))
-        (RoseBy (D.faults rounds.old.side.log.disk) (D.faults rounds.new.side.log.disk)) (K.held sink.old) (K.held sink.new))) }
+        (λ loaded. loaded ≡ rounds.old.side.history.loaded)
+        (HoldsAs (C.may rounds.old.side.clock) (state_at rounds.new.side))
+        (RoseBy (D.faults rounds.old.side.log.disk) (D.faults rounds.new.side.log.disk))
+        (K.held sink.old) (K.held sink.new))) }
     ensures at_end { OnOk result (IsAtEnd (S.left source.new)) }
 
     // At the end all that was printed is sent on, and at each stop but one of the sink all, or
     // nothing was printed.
     ensures sent { OnOk result (K.sent sink.new ≡ true) }
-    ensures rounds_sent { result ≢ Err Stop.SinkFault → (sink.new ≡ sink.old) ⊎ (K.sent sink.new ≡ true) }
-    ensures rounds { result ≡ Err Stop.ReadFault → IfSome (S.left source.old) (ServesRounds (C.may rounds.old.side.clock)
-        (λ loaded. loaded ≡ rounds.old.side.history.loaded) (HoldsAs (C.may rounds.old.side.clock) (state_at rounds.new.side))
-        (RoseBy (D.faults rounds.old.side.log.disk) (D.faults rounds.new.side.log.disk)) (K.held sink.old) (K.held sink.new) (S.left source.new)) }
-    ensures rounds_taken { result ≡ Err Stop.TooMuch → IfSome (S.left source.old) (ServesRounds (C.may rounds.old.side.clock)
-        (λ loaded. loaded ≡ rounds.old.side.history.loaded) (HoldsAs (C.may rounds.old.side.clock) (state_at rounds.new.side))
-        (RoseBy (D.faults rounds.old.side.log.disk) (D.faults rounds.new.side.log.disk)) (K.held sink.old) (K.held sink.new) (S.left source.new)) }
-    ensures front { OnErr result (IfSome (S.left source.old) (ServesFront (C.may rounds.old.side.clock)
-        (λ loaded. loaded ≡ rounds.old.side.history.loaded) (HoldsAs (C.may rounds.old.side.clock) (state_at rounds.new.side))
-        (RoseBy (D.faults rounds.old.side.log.disk) (D.faults rounds.new.side.log.disk)) (K.held sink.old) (K.held sink.new))) }
+    ensures rounds_sent { result ≢ Err Stop.SinkFault → (sink.new ≡ sink.old)
+        ⊎ (K.sent sink.new ≡ true) }
+    ensures rounds { result ≡ Err Stop.ReadFault
+        → IfSome (S.left source.old) (ServesRounds (C.may rounds.old.side.clock)
+        (λ loaded. loaded ≡ rounds.old.side.history.loaded)
+        (HoldsAs (C.may rounds.old.side.clock) (state_at rounds.new.side))
+        (RoseBy (D.faults rounds.old.side.log.disk) (D.faults rounds.new.side.log.disk))
+        (K.held sink.old) (K.held sink.new) (S.left source.new)) }
+    ensures rounds_taken { result ≡ Err Stop.TooMuch
+        → IfSome (S.left source.old) (ServesRounds (C.may rounds.old.side.clock)
+        (λ loaded. loaded ≡ rounds.old.side.history.loaded)
+        (HoldsAs (C.may rounds.old.side.clock) (state_at rounds.new.side))
+        (RoseBy (D.faults rounds.old.side.log.disk) (D.faults rounds.new.side.log.disk))
+        (K.held sink.old) (K.held sink.new) (S.left source.new)) }
+    ensures front { OnErr result (IfSome (S.left source.old)
+        (ServesFront (C.may rounds.old.side.clock)
+        (λ loaded. loaded ≡ rounds.old.side.history.loaded)
+        (HoldsAs (C.may rounds.old.side.clock) (state_at rounds.new.side))
+        (RoseBy (D.faults rounds.old.side.log.disk) (D.faults rounds.new.side.log.disk))
+        (K.held sink.old) (K.held sink.new))) }
     ensures loaded { rounds.new.side.history.loaded ≡ rounds.old.side.history.loaded }
-    ensures told { is_some (D.content rounds.new.side.log.disk) ≡ is_some (D.content rounds.old.side.log.disk) }
-    ensures read_fault { result ≡ Err Stop.ReadFault → Rose (S.faults source.old) (S.faults source.new) }
-    ensures sink_fault { result ≡ Err Stop.SinkFault → Rose (K.faults sink.old) (K.faults sink.new) }
-    ensures too_much { result ≡ Err Stop.TooMuch → TakesAtLeast (2 ^ 40) (S.left source.old) (S.left source.new) (S.given source.old) (S.given source.new) }
+    ensures told { is_some (D.content rounds.new.side.log.disk)
+        ≡ is_some (D.content rounds.old.side.log.disk) }
+    ensures read_fault { result ≡ Err Stop.ReadFault
+        → Rose (S.faults source.old) (S.faults source.new) }
+    ensures sink_fault { result ≡ Err Stop.SinkFault
+        → Rose (K.faults sink.old) (K.faults sink.new) }
+    ensures too_much { result ≡ Err Stop.TooMuch
+        → TakesAtLeast (2 ^ 40) (S.left source.old) (S.left source.new) (S.given source.old)
+        (S.given source.new) }
     ensures disk_later { D.faults rounds.old.side.log.disk ≤ D.faults rounds.new.side.log.disk }
 {
     let mut reader = Reader::new(alloc);

@@ -41,18 +41,22 @@ fn serve_all<
     sink: &mut K,
 ) -> Status
     requires { IsAtStart rounds.old }
-    ensures prints { PrintsLines result (C.may rounds.old.side.clock) (λ loaded. loaded ≡ rounds.old.side.history.loaded)
-        (HoldsAs (C.may rounds.old.side.clock) (state_at rounds.new.side)) (RoseBy (D.faults rounds.old.side.log.disk) (D.faults rounds.new.side.log.disk)) ⊥
+    ensures prints { PrintsLines result (C.may rounds.old.side.clock)
+        (λ loaded. loaded ≡ rounds.old.side.history.loaded)
+        (HoldsAs (C.may rounds.old.side.clock) (state_at rounds.new.side))
+        (RoseBy (D.faults rounds.old.side.log.disk) (D.faults rounds.new.side.log.disk)) ⊥
         (S.left source.old) (S.left source.new) (K.held sink.old) (K.held sink.new) }
     ensures at_end { result ≡ Status.Done → IsAtEnd (S.left source.new) }
     ensures sent { result ≡ Status.Done → K.sent sink.new ≡ true }
     ensures rounds_sent { SendsRounds result K.sent sink.old sink.new }
     ensures causes { Causes result (Rose (S.faults source.old) (S.faults source.new))
         (Rose (K.faults sink.old) (K.faults sink.new)) ⊥
-        (TakesAtLeast (2 ^ 40) (S.left source.old) (S.left source.new) (S.given source.old) (S.given source.new)) (λ _. ⊥) (λ _. ⊥) }
+        (TakesAtLeast (2 ^ 40) (S.left source.old) (S.left source.new) (S.given source.old)
+        (S.given source.new)) (λ _. ⊥) (λ _. ⊥) }
     ensures used { result ≢ Status.Usage }
     ensures loaded { rounds.new.side.history.loaded ≡ rounds.old.side.history.loaded }
-    ensures told { is_some (D.content rounds.new.side.log.disk) ≡ is_some (D.content rounds.old.side.log.disk) }
+    ensures told { is_some (D.content rounds.new.side.log.disk)
+        ≡ is_some (D.content rounds.old.side.log.disk) }
     ensures later { D.faults rounds.old.side.log.disk ≤ D.faults rounds.new.side.log.disk }
 {
     match serve_rounds(rt, alloc, gate, rounds, source, sink) {
@@ -80,16 +84,19 @@ pub(crate) fn serve_over<
     clock: C,
     gate: &G,
 ) -> (Status, D)
-    ensures prints { PrintsLines result.0 (C.may clock) (Loads (D.content disk)) (Leaves (C.may clock) (D.content disk) (D.images result.1))
+    ensures prints { PrintsLines result.0 (C.may clock) (Loads (D.content disk))
+        (Leaves (C.may clock) (D.content disk) (D.images result.1))
         (RoseBy (D.faults disk) (D.faults result.1))
-        (IsIdle source.old source.new sink.old sink.new × StaysTold (D.content disk) (D.content result.1) (D.images disk) (D.images result.1))
+        (IsIdle source.old source.new sink.old sink.new
+        × StaysTold (D.content disk) (D.content result.1) (D.images disk) (D.images result.1))
         (S.left source.old) (S.left source.new) (K.held sink.old) (K.held sink.new) }
     ensures at_end { result.0 ≡ Status.Done → IsAtEnd (S.left source.new) }
     ensures sent { result.0 ≡ Status.Done → K.sent sink.new ≡ true }
     ensures rounds_sent { SendsRounds result.0 K.sent sink.old sink.new }
     ensures causes { Causes result.0 (Rose (S.faults source.old) (S.faults source.new))
         (Rose (K.faults sink.old) (K.faults sink.new)) (Rose (D.faults disk) (D.faults result.1))
-        (TakesAtLeast (2 ^ 40) (S.left source.old) (S.left source.new) (S.given source.old) (S.given source.new)) (MayMean (D.content disk)) (DoesMean (D.content disk)) }
+        (TakesAtLeast (2 ^ 40) (S.left source.old) (S.left source.new) (S.given source.old)
+        (S.given source.new)) (MayMean (D.content disk)) (DoesMean (D.content disk)) }
     ensures used { result.0 ≢ Status.Usage }
     ensures kept { Keeps (D.content disk) (D.content result.1) (D.images disk) (D.images result.1) }
 {

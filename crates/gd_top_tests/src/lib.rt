@@ -1,5 +1,5 @@
-//! Tests of the top call, where no clause and no case reaches: workers that are at work at once, a real file, and printed
-//! statuses. No crate stands on this one.
+//! Tests of the top call, where no clause and no case reaches: workers that are at work at once, a
+//! real file, and printed statuses. No crate stands on this one.
 #![tactic(auto)]
 
 #[cfg(test)]

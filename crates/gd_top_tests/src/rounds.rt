@@ -33,7 +33,8 @@ const BOTH_SEE_IT: &str = "\
 {\"code\":\"/api/status/ok\",\"dateline\":1,\"line\":2,\"result\":[{\"guid\":\"#00000000000000010000000000000046\",\"name\":\"Ann\"}]}
 ";
 
-/// A run of one round: the line that is held, the one that has to be answered meanwhile, the input and the output.
+/// A run of one round: the line that is held, the one that has to be answered meanwhile, the input
+/// and the output.
 struct Run {
     held: u64,
     until: u64,
@@ -62,7 +63,8 @@ static RUNS: [Run; 3] = [
     },
 ];
 
-/// Whether the line is held until the other one was answered, and what workers answered to both reads is what is printed.
+/// Whether the line is held until the other one was answered, and what workers answered to both
+/// reads is what is printed.
 fn takes_order<R: Files<File = File> + Threads + Wait + Sync>(
     rt: &R,
     alloc: Global,

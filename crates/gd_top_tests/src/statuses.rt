@@ -1,4 +1,5 @@
-//! What the program says of each status. The runs themselves are shown by the rows that `gd_rows` runs.
+//! What the program says of each status. The runs themselves are shown by the rows that `gd_rows`
+//! runs.
 use gd_top::status::Status;
 use std::alloc::Global;
 

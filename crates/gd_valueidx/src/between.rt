@@ -1,5 +1,6 @@
 //! The numbers of the values between two.
-ghost use Rattle.std.specs.Prelude.{◌≡◌, ◌+◌, ◌≤◌, [], ◌∷◌, Some, None, length, drop, nat_lt, if◌then◌else◌, IfOk, IfSome, IfNone};
+ghost use Rattle.std.specs.Prelude.{◌≡◌, ◌+◌, ◌≤◌, [], ◌∷◌, Some, None, length, drop, nat_lt};
+ghost use Rattle.std.specs.Prelude.{if◌then◌else◌, IfOk, IfSome, IfNone};
 ghost use Rattle.std.specs.List.{filter};
 ghost use Rattle.std.specs.Map.{keys_of};
 ghost use Rattle.std.specs.Option.{option_copied};
@@ -18,8 +19,10 @@ use std::alloc::Global;
 /// The place before the first number whose value is not below the least, or before all.
 fn place_from(order: &Order, lists: &IndexMap<Datum, Postings>, lo: Option<&Datum>) -> Place
     requires { AreOrdered order.now.runs.items (keys_of lists.now.entries) }
-    ensures rest { drop (rank order.now.runs.items result.run result.index) (flat order.now.runs.items)
-        ≡ filter (is_from (keys_of lists.now.entries) (option_copied lo.entry)) (flat order.now.runs.items) }
+    ensures rest { drop (rank order.now.runs.items result.run result.index)
+        (flat order.now.runs.items)
+        ≡ filter (is_from (keys_of lists.now.entries) (option_copied lo.entry))
+        (flat order.now.runs.items) }
     ensures place { IsPlace order.now.runs.items result.run result.index }
 {
     match lo {
@@ -47,10 +50,15 @@ fn next_to(
 ) -> Option<(u32, Place)>
     requires ordered { AreOrdered order.now.runs.items (keys_of lists.now.entries) }
     requires place { IsPlace order.now.runs.items place.run place.index }
-    ensures number { IfSome result (λ next. filter (is_to (keys_of lists.now.entries) (option_copied hi.entry)) (drop (rank order.now.runs.items place.run place.index) (flat order.now.runs.items))
-        ≡ next.0 ∷ filter (is_to (keys_of lists.now.entries) (option_copied hi.entry)) (drop (rank order.now.runs.items next.1.run next.1.index) (flat order.now.runs.items))) }
+    ensures number { IfSome result (λ next. filter
+        (is_to (keys_of lists.now.entries) (option_copied hi.entry))
+        (drop (rank order.now.runs.items place.run place.index) (flat order.now.runs.items))
+        ≡ next.0 ∷ filter (is_to (keys_of lists.now.entries) (option_copied hi.entry))
+        (drop (rank order.now.runs.items next.1.run next.1.index) (flat order.now.runs.items))) }
     ensures place { IfSome result (λ next. IsPlace order.now.runs.items next.1.run next.1.index) }
-    ensures none { IfNone result (filter (is_to (keys_of lists.now.entries) (option_copied hi.entry)) (drop (rank order.now.runs.items place.run place.index) (flat order.now.runs.items)) ≡ []) }
+    ensures none { IfNone result (filter
+        (is_to (keys_of lists.now.entries) (option_copied hi.entry))
+        (drop (rank order.now.runs.items place.run place.index) (flat order.now.runs.items)) ≡ []) }
 {
     match order.next(place) {
         Some((number, behind)) => {
@@ -76,8 +84,13 @@ fn gather<L>(
 ) -> Result<Option<Numbers>, Memory>
     requires ordered { AreOrdered order.now.runs.items (keys_of lists.now.entries) }
     requires place { IsPlace order.now.runs.items start.run start.index }
-    ensures numbers { IfOk result (λ found. found ≡ (if nat_lt most (length (filter (is_to (keys_of lists.now.entries) (option_copied hi.entry)) (drop (rank order.now.runs.items start.run start.index) (flat order.now.runs.items)))) then None
-        else Some (filter (is_to (keys_of lists.now.entries) (option_copied hi.entry)) (drop (rank order.now.runs.items start.run start.index) (flat order.now.runs.items))))) }
+    ensures numbers { IfOk result (λ found. found
+        ≡ (if nat_lt most
+        (length (filter (is_to (keys_of lists.now.entries) (option_copied hi.entry))
+        (drop (rank order.now.runs.items start.run start.index) (flat order.now.runs.items))))
+        then None
+        else Some (filter (is_to (keys_of lists.now.entries) (option_copied hi.entry))
+        (drop (rank order.now.runs.items start.run start.index) (flat order.now.runs.items))))) }
     ensures work { steps.new ≤ steps.old + most + 1 }
     ensures later { steps.old ≤ steps.new }
 {
@@ -100,7 +113,8 @@ fn gather<L>(
     }
 }
 
-/// The numbers of the values between two, in the order of the values, or None where there are more than `most`.
+/// The numbers of the values between two, in the order of the values, or None where there are more
+/// than `most`.
 pub(crate) fn between<L>(
     order: &Order,
     lists: &IndexMap<Datum, Postings>,
@@ -111,8 +125,11 @@ pub(crate) fn between<L>(
     steps: &mut Steps<L>,
 ) -> Result<Option<Numbers>, Memory>
     requires { AreOrdered order.now.runs.items (keys_of lists.now.entries) }
-    ensures numbers { IfOk result (λ found. found ≡ (if nat_lt most (length (numbers_between (option_copied lo.entry) (option_copied hi.entry) (keys_of lists.now.entries))) then None
-        else Some (numbers_between (option_copied lo.entry) (option_copied hi.entry) (keys_of lists.now.entries)))) }
+    ensures numbers { IfOk result (λ found. found
+        ≡ (if nat_lt most (length (numbers_between (option_copied lo.entry) (option_copied hi.entry)
+        (keys_of lists.now.entries))) then None
+        else Some (numbers_between (option_copied lo.entry) (option_copied hi.entry)
+        (keys_of lists.now.entries)))) }
     ensures work { steps.new ≤ steps.old + most + 1 }
     ensures later { steps.old ≤ steps.new }
 {

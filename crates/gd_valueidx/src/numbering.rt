@@ -1,5 +1,7 @@
-//! Values with numbers, in the order of their first entry, beside their numbers in the order of the values.
-ghost use Rattle.std.specs.Prelude.{◌≡◌, ◌+◌, ◌-◌, ◌<◌, ◌^◌, ◌++◌, ◌∷◌, [], None, Some, false, length, slice_get, OnOk, OnErr, IfOk, IfSome};
+//! Values with numbers, in the order of their first entry, beside their numbers in the order of the
+//! values.
+ghost use Rattle.std.specs.Prelude.{◌≡◌, ◌+◌, ◌-◌, ◌<◌, ◌^◌, ◌++◌, ◌∷◌, [], None, Some, false};
+ghost use Rattle.std.specs.Prelude.{length, slice_get, OnOk, OnErr, IfOk, IfSome};
 ghost use Rattle.std.specs.List.{list_any};
 ghost use Rattle.std.specs.Map.{keys_of};
 ghost use Rattle.gd_base.specs.Order.{datum_eq};
@@ -23,7 +25,8 @@ fn next_number(lists: &IndexMap<Datum, Postings>) -> Result<u32, Memory>
     Ok(number as u32)
 }
 
-/// Gives a value that has no number the next one, with a list of its own, or for want of memory leaves all as it was.
+/// Gives a value that has no number the next one, with a list of its own, or for want of memory
+/// leaves all as it was.
 pub(crate) fn give_number(
     lists: &mut IndexMap<Datum, Postings>,
     order: &mut Order,
@@ -33,7 +36,8 @@ pub(crate) fn give_number(
     requires none { list_any (datum_eq value.now) (keys_of lists.old.entries) ≡ false }
     requires ordered { AreOrdered order.old.runs.items (keys_of lists.old.entries) }
     ensures sets { OnOk result (Sets lists.old.entries lists.new.entries value.now (Some list)) }
-    ensures keys { OnOk result (keys_of lists.new.entries ≡ keys_of lists.old.entries ++ value.now ∷ []) }
+    ensures keys { OnOk result (keys_of lists.new.entries ≡ keys_of lists.old.entries ++ value.now
+        ∷ []) }
     ensures err { OnErr result (lists.new.entries ≡ lists.old.entries) }
     ensures ordered { AreOrdered order.new.runs.items (keys_of lists.new.entries) }
 {
@@ -49,7 +53,8 @@ pub(crate) fn give_number(
 
 /// Takes the value with the greatest number away, and its list.
 pub(crate) fn take_number(lists: &mut IndexMap<Datum, Postings>, order: &mut Order, value: &Datum)
-    requires last { slice_get (keys_of lists.old.entries) (length (keys_of lists.old.entries) - 1) ≡ Some value.now }
+    requires last { slice_get (keys_of lists.old.entries) (length (keys_of lists.old.entries) - 1)
+        ≡ Some value.now }
     requires ordered { AreOrdered order.old.runs.items (keys_of lists.old.entries) }
     ensures sets { Sets lists.old.entries lists.new.entries value.now None }
     ensures keys { keys_of lists.old.entries ≡ keys_of lists.new.entries ++ value.now ∷ [] }

@@ -1,5 +1,6 @@
 //! Some numbers of an order that stand side by side.
-ghost use Rattle.std.specs.Prelude.{◌≡◌, ◌↔◌, ◌<◌, ◌≤◌, [], ◌∷◌, take, drop, length, slice_index, IsTrue, IfOk, OnOk, OnErr};
+ghost use Rattle.std.specs.Prelude.{◌≡◌, ◌↔◌, ◌<◌, ◌≤◌, [], ◌∷◌, take, drop, length, slice_index};
+ghost use Rattle.std.specs.Prelude.{IsTrue, IfOk, OnOk, OnErr};
 ghost use Rattle.std.specs.List.{insert, remove};
 
 use gd_base::memory::Memory;
@@ -71,8 +72,8 @@ impl Run {
         Ok(())
     }
 
-    /// Keeps the numbers before a place, and gives the others, or for want of memory leaves all as it was. What was kept
-    /// takes no more room than it needs.
+    /// Keeps the numbers before a place, and gives the others, or for want of memory leaves all as
+    /// it was. What was kept takes no more room than it needs.
     pub(crate) fn split(&mut self, at: usize) -> Result<Run, Memory>
         requires some { 0 < at }
         requires rest { at < length self.old }

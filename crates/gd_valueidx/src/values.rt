@@ -1,5 +1,7 @@
 //! Values by number, and the places of each.
-ghost use Rattle.std.specs.Prelude.{◌≡◌, ℕ, ◌+◌, ◌-◌, ◌<◌, ◌≤◌, ◌==◌, [], Some, None, length, slice_get, position, true, nat_lt, if◌then◌else◌, IfOk, OnOk, OnErr};
+ghost use Rattle.std.specs.Prelude.{◌≡◌, ℕ, ◌+◌, ◌-◌, ◌<◌, ◌≤◌, ◌==◌, [], Some, None, length};
+ghost use Rattle.std.specs.Prelude.{slice_get, position, true, nat_lt, if◌then◌else◌, IfOk, OnOk};
+ghost use Rattle.std.specs.Prelude.{OnErr};
 ghost use Rattle.std.specs.Option.{option_copied};
 ghost use Rattle.gd_base.specs.declared.datum.Datum as base;
 ghost use Rattle.gd_base.specs.Counts.{Rose};
@@ -7,7 +9,8 @@ ghost use Rattle.gd_base.specs.Order.{datum_eq};
 ghost use Rattle.gd_postings.specs.Postings.{IsAbove};
 ghost use Rattle.gd_lists.specs.Entries.{with_entry, without_entry};
 ghost use Rattle.gd_valueidx.specs.Ranked.{numbers_between};
-ghost use Rattle.gd_valueidx.specs.Values.{value_list, values_in, number_list, with_value, without_value};
+ghost use Rattle.gd_valueidx.specs.Values.{value_list, values_in, number_list, with_value};
+ghost use Rattle.gd_valueidx.specs.Values.{without_value};
 
 use crate::between::between;
 use crate::numbering::{give_number, take_number};
@@ -22,9 +25,10 @@ use indexmap::IndexMap;
 use std::alloc::Global;
 use std::marker::Model;
 
-/// Values in the order of their first entry, which is that of their numbers from 0, each with the rising list of its
-/// places. Contracts see the entries. A value that was never entered has an empty list. Beside them stand their numbers in
-/// the order of the values, by which the values between two are found.
+/// Values in the order of their first entry, which is that of their numbers from 0, each with the
+/// rising list of its places. Contracts see the entries. A value that was never entered has an
+/// empty list. Beside them stand their numbers in the order of the values, by which the values
+/// between two are found.
 #[derive(Drop)]
 pub struct Values {
     lists: IndexMap<Datum, Postings>,
@@ -44,7 +48,8 @@ impl Model for Values {
 
     ghost view = { λ values. values.lists.entries };
 
-    ghost invariant = { λ values. (values.empty.ids ≡ []) × AreOrdered values.order.runs.items (keys_of values.lists.entries) };
+    ghost invariant = { λ values. (values.empty.ids ≡ [])
+        × AreOrdered values.order.runs.items (keys_of values.lists.entries) };
 }
 
 impl Values {
@@ -97,14 +102,18 @@ impl Values {
         }
     }
 
-    /// Enters a place at the end of the list of a value, which gets the next number if it has none. Every other list
-    /// stays. `Memory` leaves the values and the places of each as they were; it also comes where 4,294,967,295 values have a number.
+    /// Enters a place at the end of the list of a value, which gets the next number if it has none.
+    /// Every other list stays. `Memory` leaves the values and the places of each as they were; it
+    /// also comes where 4,294,967,295 values have a number.
     pub fn add(&mut self, value: &Datum, id: Id) -> Result<(), Memory>
         requires small { id < 2_097_151 }
         requires above { IsAbove (value_list value.now self.old).ids id }
-        ensures lists { OnOk result ((v : base.Datum) → (value_list v self.new).ids ≡ with_entry (datum_eq value.now v) id (value_list v self.old).ids) }
-        ensures values { OnOk result (values_in self.new ≡ with_value value.now (values_in self.old)) }
-        ensures err_lists { OnErr result ((v : base.Datum) → (value_list v self.new).ids ≡ (value_list v self.old).ids) }
+        ensures lists { OnOk result ((v : base.Datum) → (value_list v self.new).ids
+            ≡ with_entry (datum_eq value.now v) id (value_list v self.old).ids) }
+        ensures values { OnOk result (values_in self.new
+            ≡ with_value value.now (values_in self.old)) }
+        ensures err_lists { OnErr result
+            ((v : base.Datum) → (value_list v self.new).ids ≡ (value_list v self.old).ids) }
         ensures err_values { OnErr result (values_in self.new ≡ values_in self.old) }
     {
         match self.lists.get_mut(value) {
@@ -122,13 +131,16 @@ impl Values {
         }
     }
 
-    /// Takes the last place of the list of a value away again. A value whose only place it was has the greatest number,
-    /// and loses it. Every other list stays. It takes no memory.
+    /// Takes the last place of the list of a value away again. A value whose only place it was has
+    /// the greatest number, and loses it. Every other list stays. It takes no memory.
     pub fn retract(&mut self, value: &Datum)
         requires some { 0 < length (value_list value.now self.old).ids }
-        requires last { length (value_list value.now self.old).ids ≡ 1 → slice_get (values_in self.old) (length (values_in self.old) - 1) ≡ Some value.now }
-        ensures lists { (v : base.Datum) → (value_list v self.new).ids ≡ without_entry (datum_eq value.now v) (value_list v self.old).ids }
-        ensures values { values_in self.new ≡ without_value (length (value_list value.now self.old).ids == 1) (values_in self.old) }
+        requires last { length (value_list value.now self.old).ids ≡ 1
+            → slice_get (values_in self.old) (length (values_in self.old) - 1) ≡ Some value.now }
+        ensures lists { (v : base.Datum) → (value_list v self.new).ids
+            ≡ without_entry (datum_eq value.now v) (value_list v self.old).ids }
+        ensures values { values_in self.new
+            ≡ without_value (length (value_list value.now self.old).ids == 1) (values_in self.old) }
     {
         if self.take_last(value) == 0 {
             self.drop_last(value);
@@ -138,7 +150,8 @@ impl Values {
     /// Takes the last place of the list of a value away, and says how many are left.
     fn take_last(&mut self, value: &Datum) -> u32
         requires { 0 < length (value_list value.now self.old).ids }
-        ensures lists { (v : base.Datum) → (value_list v self.new).ids ≡ without_entry (datum_eq value.now v) (value_list v self.old).ids }
+        ensures lists { (v : base.Datum) → (value_list v self.new).ids
+            ≡ without_entry (datum_eq value.now v) (value_list v self.old).ids }
         ensures values { values_in self.new ≡ values_in self.old }
         ensures left { result ≡ length (value_list value.now self.new).ids }
     {
@@ -153,17 +166,19 @@ impl Values {
 
     /// Takes the last value away, whose list is empty.
     fn drop_last(&mut self, value: &Datum)
-        requires last { slice_get (values_in self.old) (length (values_in self.old) - 1) ≡ Some value.now }
+        requires last { slice_get (values_in self.old) (length (values_in self.old) - 1)
+            ≡ Some value.now }
         requires empty { (value_list value.now self.old).ids ≡ [] }
-        ensures lists { (v : base.Datum) → (value_list v self.new).ids ≡ (value_list v self.old).ids }
+        ensures lists { (v : base.Datum) → (value_list v self.new).ids
+            ≡ (value_list v self.old).ids }
         ensures values { values_in self.new ≡ without_value true (values_in self.old) }
     {
         take_number(&mut self.lists, &mut self.order, value);
     }
 
-    /// The numbers of the values that are not less than `lo` nor greater than `hi`, where these are given, in the order of the
-    /// values, or None where there are more than `most`. To find the first counts as one step, and each number, and the end,
-    /// as one.
+    /// The numbers of the values that are not less than `lo` nor greater than `hi`, where these are
+    /// given, in the order of the values, or None where there are more than `most`. To find the
+    /// first counts as one step, and each number, and the end, as one.
     pub fn values_between<L>(
         &self,
         lo: Option<&Datum>,
@@ -171,8 +186,12 @@ impl Values {
         most: u32,
         steps: &mut Steps<L>,
     ) -> Result<Option<Numbers>, Memory>
-        ensures numbers { IfOk result (λ found. found ≡ (if nat_lt most (length (numbers_between (option_copied lo.entry) (option_copied hi.entry) (values_in self.now))) then None
-            else Some (numbers_between (option_copied lo.entry) (option_copied hi.entry) (values_in self.now)))) }
+        ensures numbers { IfOk result (λ found. found
+            ≡ (if nat_lt most
+            (length (numbers_between (option_copied lo.entry) (option_copied hi.entry)
+            (values_in self.now))) then None
+            else Some (numbers_between (option_copied lo.entry) (option_copied hi.entry)
+            (values_in self.now)))) }
         ensures work { steps.new ≤ steps.old + most + 2 }
         ensures later { steps.old ≤ steps.new }
         ensures counted { Rose steps.old steps.new }

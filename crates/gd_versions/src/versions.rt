@@ -1,5 +1,6 @@
 //! Which primitive succeeds which.
-ghost use Rattle.std.specs.Prelude.{◌≡◌, ℕ, ◌+◌, ◌-◌, ◌^◌, ◌<◌, ◌≤◌, ◌==◌, [], None, Some, length, min, slice_set, if◌then◌else◌, OnOk, OnErr, IfSome, IsSome};
+ghost use Rattle.std.specs.Prelude.{◌≡◌, ℕ, ◌+◌, ◌-◌, ◌^◌, ◌<◌, ◌≤◌, ◌==◌, [], None, Some, length};
+ghost use Rattle.std.specs.Prelude.{min, slice_set, if◌then◌else◌, OnOk, OnErr, IfSome, IsSome};
 ghost use Rattle.gd_versions.specs.Versions.{successor_of, with_places};
 
 use crate::slot::Slot;
@@ -9,8 +10,9 @@ use gd_base::steps::Steps;
 use std::alloc::Global;
 use std::marker::Model;
 
-/// The successor of each place: a primitive may name an earlier one as its previous version, and succeeds it then.
-/// There is one slot for each place, so that a look-up is one step. Contracts see the list of the slots.
+/// The successor of each place: a primitive may name an earlier one as its previous version, and
+/// succeeds it then. There is one slot for each place, so that a look-up is one step. Contracts see
+/// the list of the slots.
 #[derive(Debug, Drop)]
 pub struct Versions {
     slots: Vec<Slot>,
@@ -34,11 +36,12 @@ impl Versions {
         }
     }
 
-    /// Makes room, so that each place below `places` has a slot. A new slot holds none, and the others stay. `Memory`
-    /// leaves all as it was, and comes only where there were fewer slots.
+    /// Makes room, so that each place below `places` has a slot. A new slot holds none, and the
+    /// others stay. `Memory` leaves all as it was, and comes only where there were fewer slots.
     pub fn reserve(&mut self, places: u32) -> Result<(), Memory>
         ensures ok { OnOk result (self.new ≡ with_places places self.old) }
-        ensures successors { (place : ℕ) → successor_of self.new place ≡ successor_of self.old place }
+        ensures successors { (place : ℕ) → successor_of self.new place
+            ≡ successor_of self.old place }
         ensures room { OnOk result (places ≤ length self.new) }
         ensures err { OnErr result (self.new ≡ self.old) }
         ensures short { OnErr result (length self.old < places) }
@@ -56,7 +59,8 @@ impl Versions {
         requires vacant { successor_of self.old previous ≡ None }
         requires small { successor < 2_097_151 }
         ensures slots { self.new ≡ slice_set self.old previous (Some successor) }
-        ensures successors { (place : ℕ) → successor_of self.new place ≡ (if place == previous then Some successor else successor_of self.old place) }
+        ensures successors { (place : ℕ) → successor_of self.new place
+            ≡ (if place == previous then Some successor else successor_of self.old place) }
     {
         self.slots[previous.0 as usize] = Slot::of(successor);
     }
@@ -65,7 +69,8 @@ impl Versions {
     pub fn retract(&mut self, previous: Id)
         requires { IsSome (successor_of self.old previous) }
         ensures slots { self.new ≡ slice_set self.old previous None }
-        ensures successors { (place : ℕ) → successor_of self.new place ≡ (if place == previous then None else successor_of self.old place) }
+        ensures successors { (place : ℕ) → successor_of self.new place
+            ≡ (if place == previous then None else successor_of self.old place) }
     {
         self.slots[previous.0 as usize] = Slot::vacant();
     }

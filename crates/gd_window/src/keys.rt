@@ -5,7 +5,8 @@ use gd_base::datum::Datum;
 use gd_base::id::Id;
 use std::marker::Model;
 
-/// A sort key: its value, and the place at which it stands. Both are missing where the row has no such key.
+/// A sort key: its value, and the place at which it stands. Both are missing where the row has no
+/// such key.
 #[derive(Drop)]
 pub struct Key {
     pub value: Option<Datum>,

@@ -3,8 +3,8 @@ ghost use Rattle.std.specs.Prelude.{◌≡◌, ◌<◌, ◌≤◌, [], ◌∷◌
 
 use std::marker::Model;
 
-/// The directions of at most four sort keys, the first one foremost. Contracts see the list of them, true for a
-/// descending one.
+/// The directions of at most four sort keys, the first one foremost. Contracts see the list of
+/// them, true for a descending one.
 #[derive(Drop)]
 pub struct Order {
     descending: [bool; 4],

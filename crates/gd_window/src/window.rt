@@ -1,5 +1,6 @@
 //! The first rows behind a row.
-ghost use Rattle.std.specs.Prelude.{◌≡◌, ◌+◌, ◌≤◌, [], ◌∷◌, ◌++◌, List, true, length, take, nat_lt, IfOk, OnOk, OnErr};
+ghost use Rattle.std.specs.Prelude.{◌≡◌, ◌+◌, ◌≤◌, [], ◌∷◌, ◌++◌, List, true, length, take, nat_lt};
+ghost use Rattle.std.specs.Prelude.{IfOk, OnOk, OnErr};
 ghost use Rattle.gd_window.specs.declared.row.Row.{Row};
 ghost use Rattle.gd_window.specs.Kept.{is_behind, rows_behind, HasSeen};
 
@@ -15,8 +16,8 @@ use std::marker::Model;
 /// How many rows a window has room for at first.
 const FIRST_ROOM: u32 = 16;
 
-/// The first rows behind a row, of those that were offered so far, and one more. Contracts see the directions of the
-/// keys, the limit, the row behind which rows come, and the rows that are kept.
+/// The first rows behind a row, of those that were offered so far, and one more. Contracts see the
+/// directions of the keys, the limit, the row behind which rows come, and the rows that are kept.
 #[derive(Drop)]
 pub struct Window {
     order: Order,
@@ -33,9 +34,15 @@ impl Model for Window {
 
     ghost Value = { Kept };
 
-    ghost view = { λ window. record { order = window.order; limit = window.limit; after = window.after; rows = window.kept.items } };
+    ghost view = { λ window. record {
+      order = window.order;
+      limit = window.limit;
+      after = window.after;
+      rows = window.kept.items;
+    } };
 
-    ghost invariant = { λ window. (length window.kept.items ≤ window.limit + 1) × IsUp (row_cmp window.order) window.kept.items };
+    ghost invariant = { λ window. (length window.kept.items ≤ window.limit + 1)
+        × IsUp (row_cmp window.order) window.kept.items };
 }
 
 /// Whether a row comes strictly behind another one, if there is one.
@@ -49,15 +56,17 @@ fn comes_behind(order: &Order, after: &Option<Row>, row: &Row) -> bool
 }
 
 impl Window {
-    /// A window that is to give at most `limit` rows in this order, those strictly behind `after` if there is such a row.
-    /// No row was offered yet. It reserves room for few rows, however great the limit is.
+    /// A window that is to give at most `limit` rows in this order, those strictly behind `after`
+    /// if there is such a row. No row was offered yet. It reserves room for few rows, however great
+    /// the limit is.
     pub fn new(
         alloc: Global,
         order: Order,
         limit: u32,
         after: Option<Row>,
     ) -> Result<Window, Memory>
-        ensures made { IfOk result (λ window. window ≡ record { order = order; limit = limit; after = after; rows = [] }) }
+        ensures made { IfOk result (λ window. window
+            ≡ record { order = order; limit = limit; after = after; rows = [] }) }
         ensures seen { IfOk result (λ window. HasSeen window []) }
     {
         let kept = Vec::with_capacity(alloc, limit.min(FIRST_ROOM) as usize)?;
@@ -69,11 +78,12 @@ impl Window {
         })
     }
 
-    /// Offers a row. Rows may be offered in any order; of rows that tie each counts, and the one that was offered first
-    /// comes first. At most one row more than the limit is kept. `Memory` leaves the window as it was, so the row does
-    /// not count as offered.
+    /// Offers a row. Rows may be offered in any order; of rows that tie each counts, and the one
+    /// that was offered first comes first. At most one row more than the limit is kept. `Memory`
+    /// leaves the window as it was, so the row does not count as offered.
     pub fn offer(&mut self, row: Row) -> Result<(), Memory>
-        ensures seen { OnOk result ((offered : List Row) → HasSeen self.old offered → HasSeen self.new (offered ++ row ∷ [])) }
+        ensures seen { OnOk result ((offered : List Row) → HasSeen self.old offered
+            → HasSeen self.new (offered ++ row ∷ [])) }
         ensures stays { self.new ≡ record self.old { rows = self.new.rows } }
         ensures few { length self.new.rows ≤ self.old.limit + 1 }
         ensures same { OnErr result (self.new ≡ self.old) }
@@ -100,10 +110,12 @@ impl Window {
         self.kept.as_slice()
     }
 
-    /// Whether the row of this object need not be offered, since it would change nothing: no keys order the rows, as many are kept
-    /// as may be, and the objects of all of these are less. The same is true of each greater object then. It takes no memory.
+    /// Whether the row of this object need not be offered, since it would change nothing: no keys
+    /// order the rows, as many are kept as may be, and the objects of all of these are less. The
+    /// same is true of each greater object then. It takes no memory.
     pub fn is_past(&self, id: Id) -> bool
-        ensures { result ≡ true → (row : Row) → row.id ≡ id → (offered : List Row) → HasSeen self.now offered → HasSeen self.now (offered ++ row ∷ []) }
+        ensures { result ≡ true → (row : Row) → row.id ≡ id → (offered : List Row)
+            → HasSeen self.now offered → HasSeen self.now (offered ++ row ∷ []) }
     {
         if !self.order.as_slice().is_empty() {
             return false;
@@ -117,13 +129,14 @@ impl Window {
         }
     }
 
-    /// The first rows behind `after` of all that were offered, in their order and up to the limit, and whether there are
-    /// more of them. Afterwards no row counts as offered. It takes no memory.
+    /// The first rows behind `after` of all that were offered, in their order and up to the limit,
+    /// and whether there are more of them. Afterwards no row counts as offered. It takes no memory.
     pub fn take_all(&mut self) -> (Rows, bool)
         ensures rows { (offered : List Row) → HasSeen self.old offered
             → result.0 ≡ take self.old.limit (rows_behind self.old.order self.old.after offered) }
         ensures more { (offered : List Row) → HasSeen self.old offered
-            → result.1 ≡ nat_lt self.old.limit (length (rows_behind self.old.order self.old.after offered)) }
+            → result.1 ≡ nat_lt self.old.limit
+            (length (rows_behind self.old.order self.old.after offered)) }
         ensures anew { self.new ≡ record self.old { rows = [] } }
         ensures again { HasSeen self.new [] }
     {

@@ -1,8 +1,11 @@
 //! Which words spell options.
-ghost use Rattle.std.specs.Prelude.{◌≡◌, Option, map, option_map, is_none, is_some, bytes_eq, count_by, false, position, IfSome, nat_le, ◌<◌, ◌==◌, length};
+ghost use Rattle.std.specs.Prelude.{◌≡◌, Option, map, option_map, is_none, is_some, bytes_eq};
+ghost use Rattle.std.specs.Prelude.{count_by, false, position, IfSome, nat_le, ◌<◌, ◌==◌, length};
 ghost use Rattle.std.specs.Option.{option_map_or};
 ghost use Rattle.std.specs.List.{list_any, list_all};
-ghost use Rattle.gd_words.specs.Options.{parted as parted_of, is_option as is_option_of, option_of as option_in, is_value as is_value_of, options_of};
+ghost use Rattle.gd_words.specs.Options.{parted as parted_of, is_option as is_option_of};
+ghost use Rattle.gd_words.specs.Options.{option_of as option_in, is_value as is_value_of};
+ghost use Rattle.gd_words.specs.Options.{options_of};
 ghost use Rattle.gd_words.specs.Spelling.{due_after as due_next, spells, sets as sets_of};
 
 /// An option in a word: its name, and its value where that stands in the same word.
@@ -35,7 +38,8 @@ fn parted(text: &[u8]) -> Spelled<'_>
 
 /// Whether a text has the name of an option, and no empty value.
 fn is_option(names: &[&str], name: &[u8], value: Option<&[u8]>) -> bool
-    ensures { result ≡ is_option_of (map (λ n. n.now) names.now) (name.now, option_map (λ v. v.now) value.entry) }
+    ensures { result ≡ is_option_of (map (λ n. n.now) names.now)
+        (name.now, option_map (λ v. v.now) value.entry) }
 {
     let is_filled = match value {
         Some(value) => !value.is_empty(),
@@ -47,7 +51,8 @@ fn is_option(names: &[&str], name: &[u8], value: Option<&[u8]>) -> bool
 /// The option that a word spells as `--name` or `--name=value`.
 #[tactic(auto, unfolding(crate::specs::Options::option_of))]
 fn option_of<'a>(names: &[&str], word: &'a [u8]) -> Option<Spelled<'a>>
-    ensures { option_map (λ o. (o.0.now, option_map (λ v. v.now) o.1)) result ≡ option_in (map (λ n. n.now) names.now) word.now }
+    ensures { option_map (λ o. (o.0.now, option_map (λ v. v.now) o.1)) result
+        ≡ option_in (map (λ n. n.now) names.now) word.now }
 {
     let text = word.strip_prefix(b"--".as_slice())?;
     let (name, value) = parted(text);
@@ -102,14 +107,17 @@ fn sets(names: &[&str], name: &str, word: &str) -> bool
 
 /// Whether at most one of the words sets the option.
 fn is_once(names: &[&str], name: &str, words: &[&str]) -> bool
-    ensures { result ≡ nat_le (count_by (λ w. sets_of (map (λ n. n.now) names.now) name.now w.now) words.now) 1 }
+    ensures { result ≡ nat_le (count_by (λ w. sets_of (map (λ n. n.now) names.now) name.now w.now)
+        words.now) 1 }
 {
     words.iter().filter(|word| sets(names, name, word)).count() <= 1
 }
 
 /// Whether at most one of the words sets each option.
 fn are_once(names: &[&str], words: &[&str]) -> bool
-    ensures { result ≡ list_all (λ name. nat_le (count_by (λ w. sets_of (map (λ n. n.now) names.now) name.now w.now) words.now) 1) names.now }
+    ensures { result ≡ list_all (λ name. nat_le
+        (count_by (λ w. sets_of (map (λ n. n.now) names.now) name.now w.now) words.now) 1)
+        names.now }
 {
     names.iter().all(|name| is_once(names, name, words))
 }
@@ -117,7 +125,8 @@ fn are_once(names: &[&str], words: &[&str]) -> bool
 /// Whether the words spell settings of options with these names, each at most once.
 #[tactic(auto, using(crate::proofs::Counted::options_is))]
 pub fn are_options(names: &[&str], words: &[&str]) -> bool
-    ensures { result ≡ is_some (options_of (map (λ n. n.now) names.now) (map (λ w. w.now) words.now)) }
+    ensures { result ≡ is_some (options_of (map (λ n. n.now) names.now)
+        (map (λ w. w.now) words.now)) }
 {
     are_settings(names, words) && are_once(names, words)
 }

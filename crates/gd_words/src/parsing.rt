@@ -1,5 +1,6 @@
 //! The values of the options.
-ghost use Rattle.std.specs.Prelude.{◌≡◌, List, ℕ, Some, map, option_map, codes, IfOk, IfSome, IsTrue, is_some};
+ghost use Rattle.std.specs.Prelude.{◌≡◌, List, ℕ, Some, map, option_map, codes, IfOk, IfSome};
+ghost use Rattle.std.specs.Prelude.{IsTrue, is_some};
 ghost use Rattle.std.specs.List.{list_all};
 ghost use Rattle.clap.specs.Words.{app_of, with_rule};
 ghost use Rattle.gd_words.specs.Options.{Setting, is_name, options_of, value_of};
@@ -25,7 +26,8 @@ fn with_option<'a>(
     parser: Command<'a>,
     name: &'a str,
 ) -> Result<Command<'a>, AllocError>
-    ensures { IfOk result (λ c. app_of c ≡ with_rule (app_of parser.entry) (long_rule name.entry.now)) }
+    ensures { IfOk result (λ c. app_of c ≡ with_rule (app_of parser.entry)
+        (long_rule name.entry.now)) }
 {
     parser.arg(Arg::new(alloc, name).long(name))
 }
@@ -43,8 +45,8 @@ fn parser<'a>(alloc: Global) -> Result<Command<'a>, AllocError>
     with_option(alloc, with_workers, "budget")
 }
 
-/// The values of the options with these names that the words spell, each at most once. The names are among those that
-/// the parser knows. None: the words spell no such options.
+/// The values of the options with these names that the words spell, each at most once. The names
+/// are among those that the parser knows. None: the words spell no such options.
 pub fn values_of<'a>(
     alloc: Global,
     names: &[&str],
@@ -55,7 +57,8 @@ pub fn values_of<'a>(
         ≡ is_some (options_of (map (λ n. n.now) names.now) (map (λ w. w.now) words.entry.now))) }
     ensures values { IfOk result (λ values. IfSome values (λ v. (given : List Setting)
         → options_of (map (λ n. n.now) names.now) (map (λ w. w.now) words.entry.now) ≡ Some given
-        → (option_map (λ t. t.now) v.file ≡ value_of (codes "file") given) × (option_map (λ t. t.now) v.workers ≡ value_of (codes "workers") given)
+        → (option_map (λ t. t.now) v.file ≡ value_of (codes "file") given)
+        × (option_map (λ t. t.now) v.workers ≡ value_of (codes "workers") given)
         × (option_map (λ t. t.now) v.budget ≡ value_of (codes "budget") given))) }
 {
     if !are_options(names, words) {

@@ -1,7 +1,9 @@
 //! From words to a command.
-ghost use Rattle.std.specs.Prelude.{◌≡◌, ◌≤◌, ℕ, List, map, option_and_then, length, IfOk, IfSome, option_map, All};
+ghost use Rattle.std.specs.Prelude.{◌≡◌, ◌≤◌, ℕ, List, map, option_and_then, length, IfOk, IfSome};
+ghost use Rattle.std.specs.Prelude.{option_map, All};
 ghost use Rattle.gd_words.specs.Options.{options_of};
-ghost use Rattle.gd_words.specs.Words.{serve_options, serve_of, replay_options, replay_of, command_of};
+ghost use Rattle.gd_words.specs.Words.{serve_options, serve_of, replay_options, replay_of};
+ghost use Rattle.gd_words.specs.Words.{command_of};
 
 use crate::number::number_or;
 use crate::parsing::values_of;
@@ -31,10 +33,10 @@ fn strings<'a>(alloc: Global, words: &'a [Text]) -> Result<Vec<&'a str>, Memory>
 }
 
 /// The command that the words after the program's name give: the verb `serve`, then `--file PATH`,
-/// `--workers N` (1 to 16, else 4) and `--budget N` (1 to 1,000,000, else 10,000), or the verb `replay`, then
-/// `--file PATH`; the options in any order, each at most once, as `--name value` or `--name=value`. A value is
-/// not empty, and as a word of its own does not begin with `-`; a number is 1 to 10 digits. None: the words are
-/// not of this grammar. `Memory`: an allocation was refused.
+/// `--workers N` (1 to 16, else 4) and `--budget N` (1 to 1,000,000, else 10,000), or the verb
+/// `replay`, then `--file PATH`; the options in any order, each at most once, as `--name value` or
+/// `--name=value`. A value is not empty, and as a word of its own does not begin with `-`; a number
+/// is 1 to 10 digits. None: the words are not of this grammar. `Memory`: an allocation was refused.
 #[tactic(auto, unfolding(crate::specs::Words::command_of))]
 pub fn command(alloc: Global, words: &[Text]) -> Result<Option<Command>, Memory>
     ensures { IfOk result (λ command. command ≡ command_of words.now) }
@@ -66,7 +68,8 @@ fn serve_names() -> [&'static str; 3]
 /// `serve` with the options that the words spell.
 fn serve(alloc: Global, words: &[&str]) -> Result<Option<Serve>, Memory>
     requires { All (λ w. length w.now ≤ 4096) words.now }
-    ensures { IfOk result (λ serve. serve ≡ option_and_then serve_of (options_of serve_options (map (λ w. w.now) words.now))) }
+    ensures { IfOk result (λ serve. serve ≡ option_and_then serve_of
+        (options_of serve_options (map (λ w. w.now) words.now))) }
 {
     let names = serve_names();
     let Some(values) = values_of(alloc, &names, words)? else {
@@ -96,7 +99,8 @@ fn replay_names() -> [&'static str; 1]
 /// `replay` with the options that the words spell.
 fn replay(alloc: Global, words: &[&str]) -> Result<Option<Replay>, Memory>
     requires { All (λ w. length w.now ≤ 4096) words.now }
-    ensures { IfOk result (λ replay. replay ≡ option_map replay_of (options_of replay_options (map (λ w. w.now) words.now))) }
+    ensures { IfOk result (λ replay. replay
+        ≡ option_map replay_of (options_of replay_options (map (λ w. w.now) words.now))) }
 {
     let names = replay_names();
     let Some(values) = values_of(alloc, &names, words)? else {

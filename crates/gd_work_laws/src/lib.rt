@@ -1,8 +1,12 @@
-//! How much work a read takes. Each law is the contract of a function that does nothing: whoever calls it may use the law, and
-//! code above cites its statement from `specs/Laws.antt`.
+//! How much work a read takes. Each law is the contract of a function that does nothing: whoever
+//! calls it may use the law, and code above cites its statement from `specs/Laws.antt`.
 #![tactic(auto)]
 
-ghost use Rattle.gd_work_laws.specs.Laws.{CandidatesArePaid, CandidatesAreThere, ChosenAreSmallest, ClausesArePaid, CountsArePaid, FewerWalkTheSame, IdsArePaid, PlacesArePaid, PlacesBelowArePaid, ReadingsArePaid, RowsArePaid, ScansArePaid, SourcesAreSets, TreesAreBelow};
+ghost use Rattle.gd_work_laws.specs.Laws.{CandidatesArePaid, CandidatesAreThere, ChosenAreSmallest};
+ghost use Rattle.gd_work_laws.specs.Laws.{ClausesArePaid, CountsArePaid, FewerWalkTheSame};
+ghost use Rattle.gd_work_laws.specs.Laws.{IdsArePaid, PlacesArePaid, PlacesBelowArePaid};
+ghost use Rattle.gd_work_laws.specs.Laws.{ReadingsArePaid, RowsArePaid, ScansArePaid};
+ghost use Rattle.gd_work_laws.specs.Laws.{SourcesAreSets, TreesAreBelow};
 
 /// The work of an object pays for building its tree, and for two tests of it.
 pub fn clauses_are_paid()
@@ -59,7 +63,8 @@ pub fn ids_are_paid()
     ensures { IdsArePaid }
 {}
 
-/// A reading that visits the places of a smallest set and then scans that set takes no more steps than the bound on its work.
+/// A reading that visits the places of a smallest set and then scans that set takes no more steps
+/// than the bound on its work.
 pub fn readings_are_paid()
     ensures { ReadingsArePaid }
 {}
@@ -69,7 +74,8 @@ pub fn sources_are_sets()
     ensures { SourcesAreSets }
 {}
 
-/// Of the links of a typ with a place at an end as many meet a template as of all links with it there.
+/// Of the links of a typ with a place at an end as many meet a template as of all links with it
+/// there.
 pub fn fewer_walk_the_same()
     ensures { FewerWalkTheSame }
 {}

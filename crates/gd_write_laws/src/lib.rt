@@ -1,11 +1,15 @@
-//! What writes make, and what histories keep. Each law is the contract of a function that does nothing: whoever calls it
-//! may use the law, and code above cites its statement from `specs/Laws.antt`.
+//! What writes make, and what histories keep. Each law is the contract of a function that does
+//! nothing: whoever calls it may use the law, and code above cites its statement from
+//! `specs/Laws.antt`.
 #![tactic(auto)]
 
-ghost use Rattle.gd_write_laws.specs.Laws.{AnswersStandAbove, BatchesAreTyped, HistoriesAreSound, HistoriesGrow, HistoriesHaveFronts, LinksStandAbove, ListsStayTyped, NewAnswersAreNew, ObjectsStay, PlainIsTyped, ResultsAreFlat, WritesFollow};
+ghost use Rattle.gd_write_laws.specs.Laws.{AnswersStandAbove, BatchesAreTyped, HistoriesAreSound};
+ghost use Rattle.gd_write_laws.specs.Laws.{HistoriesGrow, HistoriesHaveFronts, LinksStandAbove};
+ghost use Rattle.gd_write_laws.specs.Laws.{ListsStayTyped, NewAnswersAreNew, ObjectsStay};
+ghost use Rattle.gd_write_laws.specs.Laws.{PlainIsTyped, ResultsAreFlat, WritesFollow};
 
-/// The batch of a write may follow the list that it was made on: no rule is broken and no limit is passed, for every
-/// request at a moment of a clock.
+/// The batch of a write may follow the list that it was made on: no rule is broken and no limit is
+/// passed, for every request at a moment of a clock.
 pub fn writes_follow()
     ensures { WritesFollow }
 {}
@@ -25,7 +29,8 @@ pub fn histories_grow()
     ensures { HistoriesGrow }
 {}
 
-/// The types of the code hold a list with the batch of a write, where they hold the list and what the write spells.
+/// The types of the code hold a list with the batch of a write, where they hold the list and what
+/// the write spells.
 pub fn lists_stay_typed()
     ensures { ListsStayTyped }
 {}

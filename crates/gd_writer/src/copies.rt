@@ -1,5 +1,6 @@
 //! The published copies, with the batches that are stored and not shown yet.
-ghost use Rattle.std.specs.Prelude.{◌≡◌, ◌≤◌, ◌<◌, ◌+◌, ◌-◌, ◌++◌, ◌∷◌, [], length, take, IsTrue, OnOk, MatchResult};
+ghost use Rattle.std.specs.Prelude.{◌≡◌, ◌≤◌, ◌<◌, ◌+◌, ◌-◌, ◌++◌, ◌∷◌, [], length, take, IsTrue};
+ghost use Rattle.std.specs.Prelude.{OnOk, MatchResult};
 ghost use Rattle.gd_prim.specs.History.{is_history};
 ghost use Rattle.gd_writer.specs.Parts.{CopiesValue};
 
@@ -24,17 +25,25 @@ impl Model for Copies {
 
     ghost Value = { CopiesValue };
 
-    ghost view = { λ c. record { table = c.publisher.history; shown = c.publisher.shown; all = c.publisher.shown ++ c.publisher.pending ++ c.waiting.items; spare = c.waiting.spare } };
+    ghost view = { λ c. record {
+      table = c.publisher.history;
+      shown = c.publisher.shown;
+      all = c.publisher.shown ++ c.publisher.pending ++ c.waiting.items;
+      spare = c.waiting.spare;
+    } };
 
-    ghost invariant = { λ c. IsTrue (is_history (c.publisher.shown ++ c.publisher.pending ++ c.waiting.items)) };
+    ghost invariant = { λ c. IsTrue (is_history
+        (c.publisher.shown ++ c.publisher.pending ++ c.waiting.items)) };
 }
 
 /// Hands the first of the waiting batches to a publisher. `Memory`: an allocation was refused, and
 /// nothing has changed.
 fn hand_first(publisher: &mut Publisher, waiting: &mut Roomy<Batch>) -> Result<(), Memory>
     requires some { 0 < length waiting.old.items }
-    requires history { IsTrue (is_history (publisher.old.shown ++ publisher.old.pending ++ waiting.old.items)) }
-    ensures all { publisher.new.pending ++ waiting.new.items ≡ publisher.old.pending ++ waiting.old.items }
+    requires history { IsTrue (is_history
+        (publisher.old.shown ++ publisher.old.pending ++ waiting.old.items)) }
+    ensures all { publisher.new.pending ++ waiting.new.items
+        ≡ publisher.old.pending ++ waiting.old.items }
     ensures stays { publisher.new ≡ record publisher.old { pending = publisher.new.pending } }
     ensures less { OnOk result (length waiting.new.items + 1 ≡ length waiting.old.items) }
     ensures spare { waiting.old.spare ≤ waiting.new.spare }
@@ -49,8 +58,10 @@ fn hand_first(publisher: &mut Publisher, waiting: &mut Roomy<Batch>) -> Result<(
 
 /// Hands all waiting batches to a publisher. `Memory`: an allocation was refused, and some wait on.
 fn hand_on(publisher: &mut Publisher, waiting: &mut Roomy<Batch>) -> Result<(), Memory>
-    requires history { IsTrue (is_history (publisher.old.shown ++ publisher.old.pending ++ waiting.old.items)) }
-    ensures all { publisher.new.pending ++ waiting.new.items ≡ publisher.old.pending ++ waiting.old.items }
+    requires history { IsTrue (is_history
+        (publisher.old.shown ++ publisher.old.pending ++ waiting.old.items)) }
+    ensures all { publisher.new.pending ++ waiting.new.items
+        ≡ publisher.old.pending ++ waiting.old.items }
     ensures stays { publisher.new ≡ record publisher.old { pending = publisher.new.pending } }
     ensures none { OnOk result (waiting.new.items ≡ []) }
     ensures spare { waiting.old.spare ≤ waiting.new.spare }
@@ -66,7 +77,12 @@ impl Copies {
     /// The copies of a publisher with nothing pending.
     pub(crate) fn new(alloc: Global, publisher: Publisher) -> Copies
         requires { publisher.pending ≡ [] }
-        ensures { result ≡ record { table = publisher.history; shown = publisher.shown; all = publisher.shown; spare = 0 } }
+        ensures { result ≡ record {
+          table = publisher.history;
+          shown = publisher.shown;
+          all = publisher.shown;
+          spare = 0;
+        } }
     {
         let _shown = publisher.store().requests();
         Copies {
@@ -88,15 +104,22 @@ impl Copies {
     fn add(&mut self, batch: Batch)
         requires room { 1 ≤ self.old.spare }
         requires follows { IsTrue (is_history (self.old.all ++ batch ∷ [])) }
-        ensures { self.new ≡ record self.old { all = self.old.all ++ batch ∷ []; spare = self.old.spare - 1 } }
+        ensures { self.new ≡ record self.old {
+          all = self.old.all ++ batch ∷ [];
+          spare = self.old.spare - 1;
+        } }
     {
         self.waiting.push(batch);
     }
 
     /// Shows all that is to be shown. It waits for readers. `Memory`: nothing more is shown.
     pub(crate) fn show<R: Wait>(&mut self, rt: &R) -> Result<(), Memory>
-        ensures shown { MatchResult result (λ _. self.new.shown ≡ self.old.all) (λ _. self.new.shown ≡ self.old.shown) }
-        ensures same { self.new ≡ record self.old { shown = self.new.shown; spare = self.new.spare } }
+        ensures shown { MatchResult result (λ _. self.new.shown ≡ self.old.all)
+            (λ _. self.new.shown ≡ self.old.shown) }
+        ensures same { self.new ≡ record self.old {
+          shown = self.new.shown;
+          spare = self.new.spare;
+        } }
         ensures spare { self.old.spare ≤ self.new.spare }
     {
         hand_on(&mut self.publisher, &mut self.waiting)?;
@@ -109,7 +132,8 @@ impl Copies {
     pub(crate) fn show_with<R: Wait>(&mut self, rt: &R, batch: Batch) -> Result<(), Memory>
         requires room { 1 ≤ self.old.spare }
         requires follows { IsTrue (is_history (self.old.all ++ batch ∷ [])) }
-        ensures shown { MatchResult result (λ _. self.new.shown ≡ self.old.all ++ batch ∷ []) (λ _. self.new.shown ≡ self.old.shown) }
+        ensures shown { MatchResult result (λ _. self.new.shown ≡ self.old.all ++ batch ∷ [])
+            (λ _. self.new.shown ≡ self.old.shown) }
         ensures all { self.new.all ≡ self.old.all ++ batch ∷ [] }
         ensures table { self.new.table ≡ self.old.table }
         ensures spare { self.old.spare ≤ self.new.spare + 1 }

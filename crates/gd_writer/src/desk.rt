@@ -1,5 +1,6 @@
 //! Where writes are carried out: the ledger, the published copies and the clock.
-ghost use Rattle.std.specs.Prelude.{◌≡◌, ◌≤◌, ◌<◌, ◌+◌, ◌++◌, ◌∷◌, ◌^◌, ℕ, [], None, OnOk, OnErr, IfErr, IsSome};
+ghost use Rattle.std.specs.Prelude.{◌≡◌, ◌≤◌, ◌<◌, ◌+◌, ◌++◌, ◌∷◌, ◌^◌, ℕ, [], None, OnOk, OnErr};
+ghost use Rattle.std.specs.Prelude.{IfErr, IsSome};
 ghost use Rattle.gd_journal.specs.Causes.{HasReason};
 ghost use Rattle.gd_mql.specs.Requests.{write_view};
 ghost use Rattle.gd_runs.specs.Core.{Session, Settles};
@@ -58,8 +59,10 @@ impl<D: Disk, C: Clock> Desk<D, C> {
         requires bytes { asked.bytes ≤ 262_144 }
         requires line { asked.line < 2 ^ 63 }
         ensures aligned { IsAligned self.new.ledger self.new.copies }
-        ensures carries { Carries D.content D.moment D.images D.images_since D.faults C.may self.old.ledger self.old.copies self.old.clock
-            asked.entry.line asked.entry.bytes (write_view asked.entry.request.now) self.new.ledger self.new.copies self.new.clock result }
+        ensures carries { Carries D.content D.moment D.images D.images_since D.faults C.may
+            self.old.ledger self.old.copies self.old.clock
+            asked.entry.line asked.entry.bytes (write_view asked.entry.request.now) self.new.ledger
+            self.new.copies self.new.clock result }
     {
         let _stored = self.ledger.requests();
         if make_room(&mut self.ledger, &mut self.copies).is_err() {
@@ -76,8 +79,10 @@ impl<D: Disk, C: Clock> Desk<D, C> {
         requires bytes { asked.bytes ≤ 262_144 }
         requires line { asked.line < 2 ^ 63 }
         ensures aligned { IsAligned self.new.ledger self.new.copies }
-        ensures carries { Carries D.content D.moment D.images D.images_since D.faults C.may self.old.ledger self.old.copies self.old.clock
-            asked.entry.line asked.entry.bytes (write_view asked.entry.request.now) self.new.ledger self.new.copies self.new.clock result }
+        ensures carries { Carries D.content D.moment D.images D.images_since D.faults C.may
+            self.old.ledger self.old.copies self.old.clock
+            asked.entry.line asked.entry.bytes (write_view asked.entry.request.now) self.new.ledger
+            self.new.copies self.new.clock result }
     {
         match self.end_doubt(rt) {
             Ok(()) => self.change(rt, asked),
@@ -92,15 +97,21 @@ impl<D: Disk, C: Clock> Desk<D, C> {
         requires aligned { IsAligned self.old.ledger self.old.copies }
         requires room { (2 ≤ self.old.ledger.spare) × (2 ≤ self.old.copies.spare) }
         ensures aligned { IsAligned self.new.ledger self.new.copies }
-        ensures settles { OnOk result ((sessions : ℕ → Session) → Settles (desk_state self.old.ledger self.old.copies sessions) (desk_state self.new.ledger self.new.copies sessions)) }
+        ensures settles { OnOk result ((sessions : ℕ → Session)
+            → Settles (desk_state self.old.ledger self.old.copies sessions)
+            (desk_state self.new.ledger self.new.copies sessions)) }
         ensures none { OnOk result (self.new.ledger.doubt ≡ None) }
-        ensures err { OnErr result ((self.new.ledger ≡ record self.old.ledger { log = self.new.ledger.log }) × (self.new.copies ≡ self.old.copies)) }
+        ensures err { OnErr result
+            ((self.new.ledger ≡ record self.old.ledger { log = self.new.ledger.log })
+            × (self.new.copies ≡ self.old.copies)) }
         ensures some { OnErr result (IsSome self.old.ledger.doubt) }
         ensures room { OnOk result ((1 ≤ self.new.ledger.spare) × (1 ≤ self.new.copies.spare)) }
         ensures table { self.new.copies.table ≡ self.old.copies.table }
         ensures clock { self.new.clock ≡ self.old.clock }
-        ensures backs { Backs D.content D.moment D.images D.images_since D.faults self.old.ledger self.new.ledger }
-        ensures cause { IfErr result (HasReason (D.faults self.old.ledger.log.disk) (D.faults self.new.ledger.log.disk)) }
+        ensures backs { Backs D.content D.moment D.images D.images_since D.faults self.old.ledger
+            self.new.ledger }
+        ensures cause { IfErr result (HasReason (D.faults self.old.ledger.log.disk)
+            (D.faults self.new.ledger.log.disk)) }
     {
         match self.ledger.settle() {
             Ok(None) => Ok(()),
@@ -121,8 +132,10 @@ impl<D: Disk, C: Clock> Desk<D, C> {
         requires bytes { asked.bytes ≤ 262_144 }
         requires line { asked.line < 2 ^ 63 }
         ensures aligned { IsAligned self.new.ledger self.new.copies }
-        ensures changes { Changes D.content D.moment D.images D.images_since D.faults C.may self.old.ledger self.old.copies self.old.clock
-            asked.entry.line asked.entry.bytes (write_view asked.entry.request.now) self.new.ledger self.new.copies self.new.clock result }
+        ensures changes { Changes D.content D.moment D.images D.images_since D.faults C.may
+            self.old.ledger self.old.copies self.old.clock
+            asked.entry.line asked.entry.bytes (write_view asked.entry.request.now) self.new.ledger
+            self.new.copies self.new.clock result }
     {
         let at = self.ledger.requests();
         let moment = moment(&mut self.clock);
@@ -140,10 +153,13 @@ impl<D: Disk, C: Clock> Desk<D, C> {
         requires room { (1 ≤ self.old.ledger.spare) × (1 ≤ self.old.copies.spare) }
         requires none { self.old.ledger.doubt ≡ None }
         requires moment { MayBe (C.may self.old.clock) moment }
-        requires storable { IsStorable self.old.ledger.history asked.line asked.bytes (write_view asked.request.now) moment next }
+        requires storable { IsStorable self.old.ledger.history asked.line asked.bytes
+            (write_view asked.request.now) moment next }
         ensures aligned { IsAligned self.new.ledger self.new.copies }
-        ensures changes { Changes D.content D.moment D.images D.images_since D.faults C.may self.old.ledger self.old.copies self.old.clock
-            asked.entry.line asked.entry.bytes (write_view asked.entry.request.now) self.new.ledger self.new.copies self.new.clock result }
+        ensures changes { Changes D.content D.moment D.images D.images_since D.faults C.may
+            self.old.ledger self.old.copies self.old.clock
+            asked.entry.line asked.entry.bytes (write_view asked.entry.request.now) self.new.ledger
+            self.new.copies self.new.clock result }
     {
         let at = self.ledger.requests();
         let Next {

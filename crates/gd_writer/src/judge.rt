@@ -1,5 +1,6 @@
 //! What a write comes to over the store as it is, before anything is stored.
-ghost use Rattle.std.specs.Prelude.{◌≡◌, ◌≢◌, ◌≤◌, ◌<◌, ◌+◌, ◌∷◌, ◌^◌, [], Ok, Err, IfOk, IfErr, OnErr, length};
+ghost use Rattle.std.specs.Prelude.{◌≡◌, ◌≢◌, ◌≤◌, ◌<◌, ◌+◌, ◌∷◌, ◌^◌, [], Ok, Err, IfOk, IfErr};
+ghost use Rattle.std.specs.Prelude.{OnErr, length};
 ghost use Rattle.gd_tree.specs.Json.{compact};
 ghost use Rattle.gd_json.specs.View.{view};
 ghost use Rattle.gd_log.specs.Stored.{MayAppend};
@@ -101,7 +102,8 @@ fn made<D: Disk>(
     moment: u64,
 ) -> Result<(Batch, Json), ChangeFault>
     requires { moment ≤ LAST_MOMENT }
-    ensures exec { GivesChange (exec_after (batches ledger.now.history) (write_view request.now) moment) result }
+    ensures exec { GivesChange (exec_after (batches ledger.now.history) (write_view request.now)
+        moment) result }
     ensures small { IfErr result (IsSmall) }
     ensures may { IfOk result (λ done. MayAppend (batches ledger.now.history) (done.0 ∷ [])) }
 {
@@ -119,8 +121,10 @@ fn refused<D: Disk>(
     requires line { asked.line < 2 ^ 63 }
     requires small { IsSmall fault }
     requires memory { fault ≢ ChangeFault.Memory }
-    requires does { exec_line ledger.now.history (write_view asked.request.now) moment asked.bytes ≡ Err (fault_of fault) }
-    ensures { IfOk result (IsJudged ledger.now.history asked.entry.line asked.entry.bytes (write_view asked.entry.request.now) moment) }
+    requires does { exec_line ledger.now.history (write_view asked.request.now) moment asked.bytes
+        ≡ Err (fault_of fault) }
+    ensures { IfOk result (IsJudged ledger.now.history asked.entry.line asked.entry.bytes
+        (write_view asked.entry.request.now) moment) }
 {
     let why = Snapshot::of(&fault);
     let reply = refused_line(alloc, ledger.requests(), asked.line, fault)?;
@@ -137,7 +141,8 @@ pub(crate) fn judge<D: Disk>(
     requires moment { moment ≤ LAST_MOMENT }
     requires bytes { asked.bytes ≤ 262_144 }
     requires line { asked.line < 2 ^ 63 }
-    ensures { IfOk result (IsJudged ledger.now.history asked.entry.line asked.entry.bytes (write_view asked.entry.request.now) moment) }
+    ensures { IfOk result (IsJudged ledger.now.history asked.entry.line asked.entry.bytes
+        (write_view asked.entry.request.now) moment) }
 {
     match made(alloc, ledger, asked.request, moment) {
         Ok((batch, answer)) => judge_done(alloc, ledger, asked, moment, batch, answer),
@@ -159,8 +164,10 @@ fn judge_done<D: Disk>(
     requires bytes { asked.bytes ≤ 262_144 }
     requires line { asked.line < 2 ^ 63 }
     requires may { MayAppend (batches ledger.now.history) (batch ∷ []) }
-    requires does { exec_after (batches ledger.now.history) (write_view asked.request.now) moment ≡ Ok (batch, view answer) }
-    ensures { IfOk result (IsJudged ledger.now.history asked.entry.line asked.entry.bytes (write_view asked.entry.request.now) moment) }
+    requires does { exec_after (batches ledger.now.history) (write_view asked.request.now) moment
+        ≡ Ok (batch, view answer) }
+    ensures { IfOk result (IsJudged ledger.now.history asked.entry.line asked.entry.bytes
+        (write_view asked.entry.request.now) moment) }
 {
     let reply = ok_line(alloc, ledger.requests() + 1, asked.line, &answer)?;
     let kept = bytes_with(asked.bytes, reply.outcome)?;

@@ -1,12 +1,14 @@
 //! The history, with its log and its store.
-ghost use Rattle.std.specs.Prelude.{◌≡◌, ◌≤◌, ◌+◌, ◌-◌, ◌++◌, ◌∷◌, ℕ, List, [], None, OnOk, OnErr, IfOk, IfErr, IsSome, IsTrue, length};
+ghost use Rattle.std.specs.Prelude.{◌≡◌, ◌≤◌, ◌+◌, ◌-◌, ◌++◌, ◌∷◌, ℕ, List, [], None, OnOk, OnErr};
+ghost use Rattle.std.specs.Prelude.{IfOk, IfErr, IsSome, IsTrue, length};
 ghost use Rattle.gd_journal.specs.Causes.{HasReason};
 ghost use Rattle.gd_log.specs.State.{IsHeld};
 ghost use Rattle.gd_log.specs.Stored.{MayAppend};
 ghost use Rattle.gd_prim.specs.History.{is_history};
 ghost use Rattle.gd_runs.specs.Legal.{batches, size, history_bytes};
 ghost use Rattle.gd_writer.specs.Entries.{entry_view};
-ghost use Rattle.gd_writer.specs.Parts.{LedgerValue, Backs, EndsAs, AppendsAs, Tells, StandsForLedger};
+ghost use Rattle.gd_writer.specs.Parts.{LedgerValue, Backs, EndsAs, AppendsAs, Tells};
+ghost use Rattle.gd_writer.specs.Parts.{StandsForLedger};
 
 use crate::entry::Entry;
 use crate::made::Made;
@@ -62,7 +64,10 @@ fn enter(entries: &mut Roomy<Entry>, kept: &mut u64, made: Made) -> Batch
     requires room { 1 ≤ entries.old.spare }
     requires bytes { kept.old + made.kept ≤ 134_217_728 }
     ensures batch { result ≡ made.batch }
-    ensures entries { entries.new ≡ record { items = entries.old.items ++ made.entry ∷ []; spare = entries.old.spare - 1 } }
+    ensures entries { entries.new ≡ record {
+      items = entries.old.items ++ made.entry ∷ [];
+      spare = entries.old.spare - 1;
+    } }
     ensures kept { kept.new ≡ kept.old + made.kept }
 {
     let Made {
@@ -79,8 +84,14 @@ impl<D: Disk> Ledger<D> {
     /// A ledger of what `open_log` gave, without entries.
     pub(crate) fn new(alloc: Global, log: Log<D>, store: Store) -> Ledger<D>
         requires no_doubt { log.doubt ≡ None }
-        requires held { Tells (D.content log.disk) → IsHeld (D.content log.disk) (D.images log.disk) log.gate store }
-        ensures { result ≡ record { history = record { loaded = store; entries = [] }; doubt = None; log = log; spare = 0 } }
+        requires held { Tells (D.content log.disk)
+            → IsHeld (D.content log.disk) (D.images log.disk) log.gate store }
+        ensures { result ≡ record {
+          history = record { loaded = store; entries = [] };
+          doubt = None;
+          log = log;
+          spare = 0;
+        } }
     {
         let loaded = store.requests();
         Ledger {
@@ -104,7 +115,8 @@ impl<D: Disk> Ledger<D> {
     pub(crate) fn requests(&self) -> u32
         ensures count { result ≡ size self.now.history }
         ensures history { IsTrue (is_history (batches self.now.history)) }
-        ensures holds { Tells (D.content self.now.log.disk) → (file : List ℕ) → D.images self.now.log.disk file → StandsForLedger self.now file }
+        ensures holds { Tells (D.content self.now.log.disk) → (file : List ℕ)
+            → D.images self.now.log.disk file → StandsForLedger self.now file }
     {
         let _loaded = self.loaded;
         self.held.store().requests()
@@ -141,8 +153,10 @@ impl<D: Disk> Ledger<D> {
         ensures ends { IfOk result (EndsAs self.old self.new) }
         ensures err { OnErr result (self.new ≡ record self.old { log = self.new.log }) }
         ensures some { OnErr result (IsSome self.old.doubt) }
-        ensures backs { Backs D.content D.moment D.images D.images_since D.faults self.old self.new }
-        ensures cause { IfErr result (HasReason (D.faults self.old.log.disk) (D.faults self.new.log.disk)) }
+        ensures backs { Backs D.content D.moment D.images D.images_since D.faults self.old
+            self.new }
+        ensures cause { IfErr result (HasReason (D.faults self.old.log.disk)
+            (D.faults self.new.log.disk)) }
     {
         let Some(made) = &self.doubt else {
             return Ok(None);
@@ -166,8 +180,10 @@ impl<D: Disk> Ledger<D> {
         requires no_doubt { self.old.doubt ≡ None }
         requires room { 1 ≤ self.old.spare }
         ensures appends { AppendsAs result self.old (entry_view made.entry made.batch) self.new }
-        ensures backs { Backs D.content D.moment D.images D.images_since D.faults self.old self.new }
-        ensures cause { IfErr result (HasReason (D.faults self.old.log.disk) (D.faults self.new.log.disk)) }
+        ensures backs { Backs D.content D.moment D.images D.images_since D.faults self.old
+            self.new }
+        ensures cause { IfErr result (HasReason (D.faults self.old.log.disk)
+            (D.faults self.new.log.disk)) }
     {
         match self.held.append(alloc, slice::from_ref(&made.batch)) {
             Ok(()) => Ok(enter(&mut self.entries, &mut self.kept, made)),

@@ -46,7 +46,8 @@ pub(crate) fn refused_line(
     requires line { line < 2 ^ 63 }
     requires small { IsSmall fault }
     requires memory { fault ≢ ChangeFault.Memory }
-    ensures { IfOk result (λ reply. reply.items ≡ err_line_of at line (change_refusal (fault_of fault))) }
+    ensures { IfOk result (λ reply. reply.items
+        ≡ err_line_of at line (change_refusal (fault_of fault))) }
 {
     err_line(alloc, at, line, &reason(fault))
 }

@@ -1,5 +1,6 @@
 //! Lists with places that are reserved.
-ghost use Rattle.std.specs.Prelude.{◌≡◌, ◌≤◌, ◌<◌, ◌+◌, ◌-◌, ◌++◌, ◌∷◌, [], OnOk, MatchBool, length, drop};
+ghost use Rattle.std.specs.Prelude.{◌≡◌, ◌≤◌, ◌<◌, ◌+◌, ◌-◌, ◌++◌, ◌∷◌, [], OnOk, MatchBool};
+ghost use Rattle.std.specs.Prelude.{length, drop};
 
 use gd_base::memory::Memory;
 use std::alloc::Global;

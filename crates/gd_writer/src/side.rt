@@ -1,6 +1,7 @@
 //! The write side: the history with its store and its log, the published copies, and what is kept
 //! of write lines.
-ghost use Rattle.std.specs.Prelude.{◌≡◌, ◌≤◌, ◌<◌, ◌^◌, [], length, None, IsSome, IfOk, IfErr, IfSome, OnOk, OnErr, MatchResult, map, option_map, vec_len};
+ghost use Rattle.std.specs.Prelude.{◌≡◌, ◌≤◌, ◌<◌, ◌^◌, [], length, None, IsSome, IfOk, IfErr};
+ghost use Rattle.std.specs.Prelude.{IfSome, OnOk, OnErr, MatchResult, map, option_map, vec_len};
 ghost use Rattle.std.specs.List.{All, AllByRecursion};
 ghost use Rattle.std.specs.Option.{ForSome, is_some};
 ghost use Rattle.gd_base.specs.Counts.{Rose};
@@ -41,8 +42,10 @@ pub const SEATS: u32 = 64;
 
 /// Two published copies of a store, and the seats from which they are read.
 fn published<R: Wait>(rt: &R, alloc: Global, store: &Store) -> Result<(Copies, Vec<Seat>), Memory>
-    ensures copies { IfOk result (λ both. both.0 ≡ record { table = both.0.table; shown = store.now; all = store.now; spare = 0 }) }
-    ensures seats { IfOk result (λ both. (vec_len both.1 ≡ SEATS) × All (IsNewSeat both.0.table store.now) both.1.items) }
+    ensures copies { IfOk result (λ both. both.0
+        ≡ record { table = both.0.table; shown = store.now; all = store.now; spare = 0 }) }
+    ensures seats { IfOk result (λ both. (vec_len both.1 ≡ SEATS)
+        × All (IsNewSeat both.0.table store.now) both.1.items) }
 {
     let first = store.copy()?;
     let second = store.copy()?;
@@ -53,7 +56,8 @@ fn published<R: Wait>(rt: &R, alloc: Global, store: &Store) -> Result<(Copies, V
 /// The first of these write lines that is this line.
 fn find(outcomes: &[WriteOf], line: u64) -> Option<&WriteOf>
     requires told { AllByRecursion (λ w. IsTold w.line w.outcome) outcomes.now }
-    ensures found { option_map (λ w. kept_view w.now.outcome) result ≡ kept_of (map told_view outcomes.now) line }
+    ensures found { option_map (λ w. kept_view w.now.outcome) result
+        ≡ kept_of (map told_view outcomes.now) line }
     ensures told { IfSome result (λ w. IsTold line w.now.outcome) }
 {
     for told in outcomes {
@@ -90,7 +94,8 @@ impl<D: Disk, C: Clock> Model for WriteSide<D, C> {
 
     ghost coded = { Prim.hlevel (codes, members_code, json_code, D.code, C.code) };
 
-    ghost view = { λ s. side_of s.desk.ledger s.desk.copies s.desk.clock (map told_view s.outcomes.items) };
+    ghost view = { λ s. side_of s.desk.ledger s.desk.copies s.desk.clock
+        (map told_view s.outcomes.items) };
 
     ghost invariant = { λ s. IsSide C.may s.desk.ledger s.desk.copies s.desk.clock s.outcomes.items };
 }
@@ -107,12 +112,16 @@ impl<D: Disk, C: Clock> WriteSide<D, C> {
         clock: C,
     ) -> Result<(WriteSide<D, C>, Vec<Seat>), (JournalFault, D, C)>
         ensures begins { IfOk result (λ both. Begins (D.content disk) (C.may clock) C.may both.0) }
-        ensures seats { IfOk result (λ both. (vec_len both.1 ≡ SEATS) × All (IsNewSeat both.0.table both.0.shown) both.1.items) }
-        ensures refused { IfErr result (λ refused. ForSome (D.content disk) (λ file. Refuses refused.0 (meaning file))) }
+        ensures seats { IfOk result (λ both. (vec_len both.1 ≡ SEATS)
+            × All (IsNewSeat both.0.table both.0.shown) both.1.items) }
+        ensures refused { IfErr result (λ refused. ForSome (D.content disk)
+            (λ file. Refuses refused.0 (meaning file))) }
         ensures clock { IfErr result (λ refused. refused.2 ≡ clock) }
-        ensures disk { MatchResult result (λ both. Opens D.content D.moment D.images D.images_since D.faults disk both.0.log.disk)
+        ensures disk { MatchResult result
+            (λ both. Opens D.content D.moment D.images D.images_since D.faults disk both.0.log.disk)
             (λ refused. Opens D.content D.moment D.images D.images_since D.faults disk refused.1) }
-        ensures cause { IfErr result (λ refused. refused.0 ≡ JournalFault.DiskFault → Rose (D.faults disk) (D.faults refused.1)) }
+        ensures cause { IfErr result (λ refused. refused.0 ≡ JournalFault.DiskFault
+            → Rose (D.faults disk) (D.faults refused.1)) }
     {
         match open_log(alloc, disk) {
             Ok((log, store)) => WriteSide::over(rt, alloc, log, store, clock),
@@ -129,10 +138,13 @@ impl<D: Disk, C: Clock> WriteSide<D, C> {
         clock: C,
     ) -> Result<(WriteSide<D, C>, Vec<Seat>), (JournalFault, D, C)>
         requires no_doubt { log.doubt ≡ None }
-        requires held { Tells (D.content log.disk) → IsHeld (D.content log.disk) (D.images log.disk) log.gate store }
+        requires held { Tells (D.content log.disk)
+            → IsHeld (D.content log.disk) (D.images log.disk) log.gate store }
         ensures begins { IfOk result (λ both. BeginsOver store (C.may clock) C.may log both.0) }
-        ensures seats { IfOk result (λ both. (vec_len both.1 ≡ SEATS) × All (IsNewSeat both.0.table both.0.shown) both.1.items) }
-        ensures refused { IfErr result (λ refused. refused ≡ (JournalFault.Memory, log.disk, clock)) }
+        ensures seats { IfOk result (λ both. (vec_len both.1 ≡ SEATS)
+            × All (IsNewSeat both.0.table both.0.shown) both.1.items) }
+        ensures refused { IfErr result (λ refused. refused
+            ≡ (JournalFault.Memory, log.disk, clock)) }
     {
         let _requests = store.requests();
         match published(rt, alloc, &store) {
@@ -165,9 +177,11 @@ impl<D: Disk, C: Clock> WriteSide<D, C> {
         requires fresh { IsFresh self.old.history self.old.doubt line }
         requires bytes { bytes ≤ 262_144 }
         requires line { line < 2 ^ 63 }
-        ensures ok { OnOk result (Writes (C.may self.old.clock) D.faults self.old line bytes (write_view request.now) self.new) }
+        ensures ok { OnOk result (Writes (C.may self.old.clock) D.faults self.old line bytes
+            (write_view request.now) self.new) }
         ensures err { OnErr result (self.new ≡ self.old) }
-        ensures goes { GoesOn D.content D.moment D.images D.images_since D.faults C.may self.old self.new }
+        ensures goes { GoesOn D.content D.moment D.images D.images_since D.faults C.may self.old
+            self.new }
     {
         let _stored = self.stored();
         self.outcomes.reserve(1)?;
@@ -183,7 +197,8 @@ impl<D: Disk, C: Clock> WriteSide<D, C> {
 
     /// Shows all that is stored. It waits for readers. `Memory`: nothing more is shown.
     pub fn publish_late<R: Wait>(&mut self, rt: &R) -> Result<(), Memory>
-        ensures shown { OnOk result (self.new ≡ record self.old { shown = batches self.old.history }) }
+        ensures shown { OnOk result (self.new
+            ≡ record self.old { shown = batches self.old.history }) }
         ensures err { OnErr result (self.new ≡ self.old) }
     {
         self.desk.copies.show(rt)
@@ -202,7 +217,8 @@ impl<D: Disk, C: Clock> WriteSide<D, C> {
 
     /// A receipt of all that is shown, for a line that is stored and shown.
     pub fn receipt(&self, line: u64) -> Option<Receipt>
-        ensures receipt { IfSome result (λ receipt. receipt ≡ record { history = self.now.table; list = self.now.shown }) }
+        ensures receipt { IfSome result (λ receipt. receipt
+            ≡ record { history = self.now.table; list = self.now.shown }) }
         ensures stored { is_some result ≡ is_stored (kept_of self.now.outcomes line) }
     {
         match self.outcome(line) {

@@ -1,4 +1,5 @@
-//! The program: the words of the command line, standard input and output, files, and the clock of the system.
+//! The program: the words of the command line, standard input and output, files, and the clock of
+//! the system.
 #![tactic(auto)]
 
 use gd_base::memory::Memory;
@@ -25,7 +26,8 @@ const OUTPUT_ROOM: usize = 65_536;
 
 const VERSION: &str = "graphd 0.1.0\n";
 
-/// A word as a text. One that is no text is handed in as the empty text, which is no word of the grammar.
+/// A word as a text. One that is no text is handed in as the empty text, which is no word of the
+/// grammar.
 fn word(alloc: Global, bytes: &[u8]) -> Result<Text, Memory> {
     match Text::new(alloc, bytes) {
         Ok(text) => Ok(text),
@@ -65,7 +67,8 @@ fn say(rt: &impl Print, text: &str) -> Status {
     }
 }
 
-/// Serves or replays standard input over the files of the system. Replies are gathered, and written at the end of a round.
+/// Serves or replays standard input over the files of the system. Replies are gathered, and written
+/// at the end of a round.
 fn serve(
     rt: &(impl Input + Print + Clock + Files<File = File> + AllocGlobal + Threads + Wait + Sync),
     words: &[Text],
