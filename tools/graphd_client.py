@@ -446,6 +446,26 @@ class Store:
             asked["scope"] = scope
         return self.result({"write": asked})
 
+    def queries(self, queries: Sequence[Query]) -> List[Any]:
+        """The answers to 1 to 16 queries, in their order, all at one dateline.
+
+        Each is answered or refused by itself: where one is refused its place has the `Refused`, which is not raised. A list has its rows
+        up to its limit, and no further pages.
+        """
+        reply = self.answer({"read": {"queries": [{"query": query} for query in queries]}})
+        return [part_of(reply, number, query) for number, query in enumerate(queries)]
+
+    def write_all(self, queries: Sequence[Dict[str, Any]], scope: Optional[str] = None) -> List[Any]:
+        """Carries out 1 to 16 writes as one, and gives each query with what was done: all are stored, at one dateline, or none is.
+
+        The words and ids of all are looked up in the store as it was before; then they are carried out in order, each over what those
+        before it made. Where one is refused all are, and its number begins the `path`, where there is one. `scope` is as for `write`.
+        """
+        asked: Dict[str, Any] = {"queries": list(queries)}
+        if scope is not None:
+            asked["scope"] = scope
+        return self.result({"write": asked})
+
     def at(self, dateline: int) -> Snapshot:
         """The store as it was at a dateline."""
         return Snapshot(self, dateline)
@@ -556,6 +576,12 @@ class Store:
         status = self.close()
         if status != 0 and kind is None:
             raise Ended(status)
+
+
+def part_of(reply: Reply, number: int, query: Query) -> Any:
+    """What one of several queries came to: its result, or the `Refused` that it was refused by."""
+    part = reply["result"][number]
+    return part["result"] if "error" not in part else Failed.of(dict(part, dateline=reply["dateline"]), {"read": {"query": query}})
 
 
 class Snapshot:

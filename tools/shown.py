@@ -22,11 +22,12 @@ def compact(value):
 
 
 def request(line):
-    """The word of a line, and its query; the scope of a write stands before it."""
+    """The word of a line, and its query, or `queries` and the list of them; the scope of a write stands before it."""
     asked = json.loads(line)
     word = "read" if "read" in asked else "write"
-    scope = asked[word].get("scope")
-    return "%-5s %s%s" % (word, "scope %s " % scope if scope else "", compact(asked[word]["query"]))
+    asks, scope = asked[word], asked[word].get("scope")
+    shown_asks = "queries " + compact(asks["queries"]) if "queries" in asks else compact(asks["query"])
+    return "%-5s %s%s" % (word, "scope %s " % scope if scope else "", shown_asks)
 
 
 def answer(line):

@@ -3,7 +3,7 @@ from __future__ import annotations
 
 import json
 import re
-from typing import Any, Dict, Optional, Tuple
+from typing import Any, Dict, List, Optional, Tuple
 
 Span = Tuple[int, int]
 
@@ -19,12 +19,13 @@ def is_open(text: str) -> bool:
 
 
 class Spans:
-    """Where the members of a JSON text stand: by the names that lead there, and the texts by what they spell."""
+    """Where the members of a JSON text stand, by the names that lead there; the items of its lists, and the texts by what they spell."""
 
     def __init__(self, text: str) -> None:
         self.tokens = [(m.group(), m.start(), m.end()) for m in TOKEN.finditer(text)]
         self.at = 0
         self.members: Dict[Tuple[str, ...], Optional[Span]] = {}
+        self.items: Dict[Tuple[str, ...], List[Span]] = {}
         self.texts: Dict[str, Span] = {}
         self._value(())
 
@@ -42,8 +43,10 @@ class Spans:
             while self._peek() != "}":
                 self._member(path)
         elif token == "[":
+            items = self.items.setdefault(path, [])
             while self._peek() != "]":
-                self._value(path)
+                begin = self.tokens[self.at][1]
+                items.append((begin, self._value(path)))
                 self._comma()
         else:
             if token.startswith('"'):

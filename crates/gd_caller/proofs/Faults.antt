@@ -9,7 +9,7 @@ use Rattle.gd_defs.specs.Lines.{Refusal, refused_at, bad_cursor, cursor_ahead, o
 use Rattle.gd_defs.specs.Query.{Query}
 use Rattle.gd_defs.specs.Asked.{Asked, Unknown, asked_query}
 use Rattle.gd_defs.specs.Reply.{Path, Mark, reply, meant_line, asked_line, result_line, within_reply, unknown_refusal, rows_after, page, page_cursor, has_more, result_json, has_heavy_candidate, is_heavy_page, max_candidate_weight, max_page_weight, max_reply}
-use Rattle.gd_runs.specs.Request.{ReadRequest, CursorAsk, no_cursor, first_page, page_after, reply_of, page_reply, bad_line, bad_form}
+use Rattle.gd_runs.specs.Request.{ReadSet, CursorAsk, no_cursor, first_page, page_after, reply_of, page_reply, bad_line, bad_form}
 use Rattle.gd_json.specs.declared.from.JsonFault.TheVariants as json_fault
 use Rattle.gd_runs.specs.Input.{InputFault, line_too_long, no_json, no_line, input_fault_line}
 use Rattle.gd_runs.specs.Explained.{tells_fault, fault_count, memory_line}

@@ -2,12 +2,12 @@
 use Rattle.std.proofs.Common.{◌≡◌, refl, ℕ, zero, suc, ◌+◌, ◌-◌, ◌^◌, ◌<◌, ◌≤◌, ◌==◌, ◌⊎◌, ⊎_elim, Bool, true, false, List, [], ◌∷◌, ◌++◌, length, map, take, flat_map, Option, Some, None, Ok, slice_get, unwrap_or, if◌then◌else◌, sym, subst, ap, ◌∙◌, arith}
 use Rattle.gd_prim.specs.declared.Batch.{Batch}
 use Rattle.gd_tree.specs.Json.{Json}
-use Rattle.gd_runs.specs.Request.{read, write, ReadRequest, reply_of}
+use Rattle.gd_runs.specs.Request.{read, write, ReadSet, reply_of}
 use Rattle.gd_runs.specs.Input.{line_from}
 use Rattle.gd_runs.specs.Legal.{Entry, History, size, batches}
 use Rattle.gd_runs.specs.Explained.{Numbered, Run, Outcome, no_request, no_memory, answered, session_of, told_dateline, entry_at}
 use Rattle.gd_runs.specs.Core.{State}
-use Rattle.gd_runs.specs.Side.{Kept, kept_stored, kept_late, kept_refused, kept_doubt, kept_unsettled, kept_memory, Told, WriteLine, Begun, AreInOrder, IsLeft, IsFresh, IsOfBegun, KeepsHistory, KeepsRound}
+use Rattle.gd_runs.specs.Side.{Kept, kept_stored, kept_late, kept_refused, kept_doubt, kept_unsettled, kept_memory, Told, WriteLine, Begun, AreInOrder, IsLeft, IsFresh, IsOfBegun, KeepsHistory, KeepsRound, number_of}
 use Rattle.gd_runs.proofs.Rounds.{no_some, some_same, line_within, entry_cases}
 use Rattle.gd_core_laws.specs.Bounds.{is_session, told_to, told_most, kept_of, least_later}
 use Rattle.gd_core_laws.specs.Round.{write_lines, begun_at, kept_outcome, kept_reply, StandsAt, LineCame, faulty, wrote, lacks_memory}
@@ -19,7 +19,7 @@ use Rattle.gd_core_laws.proofs.WriteLines.{line_there, got_line}
 use Rattle.gd_core_laws.proofs.Sorted.{write_lines_rise, keeps_writes, front_of, take_got, take_below}
 use Rattle.gd_core_laws.proofs.SideWrites.{walk_keeps}
 use Rattle.gd_core_laws.proofs.Threads.{stands_shown}
-use Rattle.gd_core_laws.proofs.Bounds.{worked_by, read_again_by}
+use Rattle.gd_core_laws.proofs.Bounds.{least_greatest, worked_by, read_again_by}
 use Rattle.gd_round_lines.specs.Some.{IsSomeOf}
 use Rattle.gd_caller.specs.Told.{reply_or}
 use Rattle.gd_caller.specs.Served.{printed, AreOf, LeftAreFresh}
@@ -39,7 +39,7 @@ CameAs g shown lines outs k bytes reply o = (least : ℕ) (runs : List Run) (l :
 -- A worker answered line k, at place j of a round: over a list that begins what is shown, at a number that is not below what was shown when the round began, nor below what earlier lines told its session at most, nor above its session's later writes.
 pub record WorkedLine (g : History) (shown begun : ℕ) (writes : List WriteLine) (outs : List Told) (tells : ℕ → ℕ → ℕ → Type 0) (j k : ℕ) (bytes reply : List ℕ) (o : Outcome) : Type 0 where
   pub session : ℕ
-  pub request : ReadRequest
+  pub request : ReadSet
   pub number : ℕ
   pub entered : List Batch
   pub asks : line_from bytes ≡ Ok (read session request)
@@ -52,9 +52,10 @@ pub record WorkedLine (g : History) (shown begun : ℕ) (writes : List WriteLine
   pub takes : (i n : ℕ) → i < j → tells i session n → n ≤ number
   pub later : number ≤ least_later writes outs k session shown
 
--- Line k, at place j of a round, came to this: it told its session no more than is said, and it came to that whichever runs came before, or a worker answered it.
+-- Line k, at place j of a round, came to this: it told its session no more than is said, a read is not answered below what was shown when the round began, and it came to that whichever runs came before, or a worker answered it.
 pub record JoinedLine (g : History) (shown begun : ℕ) (lines writes : List WriteLine) (outs : List Told) (tells : ℕ → ℕ → ℕ → Type 0) (j k : ℕ) (bytes reply : List ℕ) (o : Outcome) : Type 0 where
   pub told : (s d : ℕ) → session_of bytes ≡ Some s → told_dateline bytes o ≡ Some d → (n : ℕ) × tells j s n × (d ≤ n)
+  pub low : (m : ℕ) → o ≡ answered m → begun ≤ m
   pub came : CameAs g shown lines outs k bytes reply o ⊎ WorkedLine g shown begun writes outs tells j k bytes reply o
 
 -- what a write told that came to what is kept
@@ -66,6 +67,25 @@ stored_by bytes (kept_doubt n) d is = no_some is
 stored_by bytes kept_unsettled d is = no_some is
 stored_by bytes kept_memory d is = no_some is
 
+-- a write was not answered as a read is
+kept_no_read : (kept : Kept) (m : ℕ) → kept_outcome kept ≡ answered m → ⊥
+kept_no_read (kept_stored e r) m is = cc
+kept_no_read (kept_late e) m is = cc
+kept_no_read (kept_refused f n) m is = cc
+kept_no_read (kept_doubt n) m is = cc
+kept_no_read kept_unsettled m is = cc
+kept_no_read kept_memory m is = cc
+
+no_request_read : (m : ℕ) → no_request ≡ answered m → ⊥
+no_request_read m is = cc
+
+no_memory_read : (m : ℕ) → no_memory ≡ answered m → ⊥
+no_memory_read m is = cc
+
+-- a number is one
+pub answered_same : (m n : ℕ) → answered m ≡ answered n → m ≡ n
+answered_same m n is = cc
+
 -- a read told no more than its number
 pub read_told : (bytes : List ℕ) (m d : ℕ) → told_dateline bytes (answered m) ≡ Some d → d ≤ m
 read_told bytes m d is = let within = line_within m (line_from bytes) in let same = some_same is in omega (arith, within, same)
@@ -76,6 +96,7 @@ module _ (g : History) (shown first : ℕ) (given : List Numbered) (writes : Lis
   pub record FirstLine (k : ℕ) (bytes reply : List ℕ) : Type 0 where
     pub outcome : Outcome
     pub came : CameAs g shown (write_lines first given) outs k bytes reply outcome
+    pub no_read : (m : ℕ) → outcome ≡ answered m → ⊥
     pub told : (d : ℕ) → told_dateline bytes outcome ≡ Some d → (e : ℕ) × (r : Json) × (kept_of outs k ≡ Some (kept_stored e r)) × (d ≡ e + 1) × ((x : ℕ) × (a : WriteLine) × (slice_get writes x ≡ Some a) × (a.line ≡ k) × (session_of bytes ≡ Some a.session))
 
   -- the write of which something is kept
@@ -95,8 +116,8 @@ module _ (g : History) (shown first : ℕ) (given : List Numbered) (writes : Lis
     where
       by : (o : Option Kept) → kept_of outs (first + j) ≡ o → FirstLine (first + j) l.bytes (reply_or (first + j) old o)
       by None none = ⊎_elim
-          (λ (f, asks, is). record { outcome = no_request; came = λ least runs n same. faulty f (ap line_from same ∙ asks) refl is; told = λ d never. no_some never })
-          (λ is. record { outcome = no_memory; came = λ least runs n same. lacks_memory (λ s w asks. left_from outs (first + j) none) refl is; told = λ d never. no_some never })
+          (λ (f, asks, is). record { outcome = no_request; came = λ least runs n same. faulty f (ap line_from same ∙ asks) refl is; no_read = no_request_read; told = λ d never. no_some never })
+          (λ is. record { outcome = no_memory; came = λ least runs n same. lacks_memory (λ s w asks. left_from outs (first + j) none) refl is; no_read = no_memory_read; told = λ d never. no_some never })
           begins
       by (Some kept) has =
           let (i, t, there, line, kept_is) = kept_from outs (first + j) kept has in
@@ -104,13 +125,14 @@ module _ (g : History) (shown first : ℕ) (given : List Numbered) (writes : Lis
           record {
             outcome = kept_outcome kept;
             came = λ least runs n same. wrote a.session a.request i t (ap line_from same ∙ asks) there line (ap kept_outcome (sym kept_is)) (ap (kept_reply (first + j)) (sym kept_is));
+            no_read = kept_no_read kept;
             told = λ d told.
                 let (e, r, is, d_is) = stored_by l.bytes kept d told in
                 (e, r, has ∙ ap (λ (y : Kept). Some y) is, d_is, (x, a, at_a, line_a, session_write l.bytes a.session a.request asks));
           }
 
   -- a read that the caller answered at the greatest number that fits
-  pub read_line : AreInOrder outs → (k : ℕ) (bytes reply : List ℕ) (s : ℕ) (q : ReadRequest) → line_from bytes ≡ Ok (read s q) → reply ≡ reply_of (batches g) (least_later writes outs k s shown) k q
+  pub read_line : AreInOrder outs → (k : ℕ) (bytes reply : List ℕ) (s : ℕ) (q : ReadSet) → line_from bytes ≡ Ok (read s q) → reply ≡ reply_of (batches g) (least_later writes outs k s shown) k q
       → CameAs g shown (write_lines first given) outs k bytes reply (answered (least_later writes outs k s shown))
   read_line order k bytes reply s q asks is least runs l same =
       let m = least_later writes outs k s shown in
@@ -176,9 +198,14 @@ told_most_below s m (r ∷ rs) all =
 module _ (may : ℕ → Bool) (l : Begun) (first : ℕ) (given : List Numbered) (lines : l.lines ≡ write_lines first given)
     (joined : State) (faults most : ℕ) (at_join : List Told) (new : List Entry) (history : KeepsHistory may joined.history joined.doubt at_join) (lock : KeepsRound l joined.history joined.shown joined.doubt faults most at_join new) (within : joined.shown ≤ size joined.history)
     (t : State) (outcomes : List Told) (run : CallerWrites may joined at_join (write_lines first given) t outcomes) where
-  -- LAW: what is kept in the end stands in order
-  pub joined_order : AreInOrder outcomes
-  joined_order =
+  -- what the side keeps in the end
+  record Ended : Type 0 where
+    order : AreInOrder outcomes
+    least : (j n : ℕ) (u : Told) → slice_get outcomes j ≡ Some u → number_of u.kept ≡ Some n → size l.history ≤ n
+    shows : l.shown ≤ t.shown
+
+  joined_ended : Ended
+  joined_ended =
       let fresh : AreNew l = record { entries = lock.fresh; doubted = lock.fresh_doubt } in
       let rises : RisesBy (λ (a : WriteLine). a.line) l.lines = subst (RisesBy (λ (a : WriteLine). a.line)) (sym lines) (write_lines_rise first given) in
       let side : KeepsSide may l 0 joined at_join new = record {
@@ -193,10 +220,19 @@ module _ (may : ℕ → Bool) (l : Begun) (first : ℕ) (given : List Numbered) 
         ahead = λ i a at. omega arith;
       } in
       let (q, more, end) = walk_keeps may l fresh (write_lines first given) joined at_join new 0 t outcomes side ahead run in
-      end.history.order
+      record { order = end.history.order; least = end.writes.least; shows = end.writes.shows }
+
+  -- LAW: what is kept in the end stands in order
+  pub joined_order : AreInOrder outcomes
+  joined_order = joined_ended.order
+
+  -- LAW: the greatest number that fits a read is not below what was shown when the round began
+  pub joined_low : l.shown ≤ size l.history → (ls : List WriteLine) (k s : ℕ) → l.shown ≤ least_later ls outcomes k s t.shown
+  joined_low stored ls k s = least_greatest ls outcomes k s t.shown l.shown joined_ended.shows
+      (λ i x n u a at at_a line session behind number. let least = joined_ended.least i n u at number in omega (arith, stored, least))
 
 module _ (loaded : List Batch) (may : ℕ → Bool) (before : List Numbered) (output : List ℕ) (s : State) (runs : List Run) (round : ℕ) (given : List Numbered) (begun faults : ℕ)
-    (st : StandsAt loaded may before output s.history s.shown s.doubt runs) (here : AreOf round given) (above : s.shown ≤ begun) (below : begun ≤ size s.history)
+    (st : StandsAt loaded may before output s.history s.shown s.doubt runs) (here : AreOf round given) (above : s.shown ≤ begun) (below : begun ≤ size s.history) (shows : (begun ≡ size s.history) ⊎ (begun ≡ s.shown))
     (joined : State) (joined_faults most : ℕ) (at_join : List Told) (new : List Entry) (history : KeepsHistory may joined.history joined.doubt at_join)
     (lock : KeepsRound (begun_at s.history begun s.doubt faults (length runs) given) joined.history joined.shown joined.doubt joined_faults most at_join new) (within : joined.shown ≤ size joined.history)
     (writes : List WriteLine) (some : IsSomeOf writes (write_lines (length runs) given)) (t : State) (outs : List Told) (run : CallerWrites may joined at_join writes t outs)
@@ -223,13 +259,14 @@ module _ (loaded : List Batch) (may : ℕ → Bool) (before : List Numbered) (ou
 
   -- LAW: such a round is served
   pub joined_round_served : (replies : List (List ℕ)) → length replies ≡ length given
-      → (AreInOrder outs → (j : ℕ) (l : Numbered) (reply : List ℕ) → slice_get given j ≡ Some l → slice_get replies j ≡ Some reply → (o : Outcome) × Came j l.bytes reply o)
+      → (AreInOrder outs → ((k i : ℕ) → begun ≤ least_later writes outs k i t.shown) → (j : ℕ) (l : Numbered) (reply : List ℕ) → slice_get given j ≡ Some l → slice_get replies j ≡ Some reply → (o : Outcome) × Came j l.bytes reply o)
       → (more : List Run) × RoundServed may s runs round given (printed replies) t more
   joined_round_served replies many each =
       let l = begun_at s.history begun s.doubt faults (length runs) given in
       let caller = callers_some may (write_lines (length runs) given) writes joined t at_join outs some run in
       let order = joined_order may l (length runs) given refl joined joined_faults most at_join new history lock within t outs caller in
-      let r = gather Came given replies many (each order) in
+      let low = joined_low may l (length runs) given refl joined joined_faults most at_join new history lock within t outs caller below writes in
+      let r = gather Came given replies many (each order low) in
       let of_round = λ (j : ℕ) (q : Run) (at : slice_get r.more j ≡ Some q). here j q.line (subst (λ (ls : List Numbered). slice_get ls j ≡ Some q.line) r.lines_are (got_line r.more j q at)) in (
         r.more,
         record {
@@ -237,6 +274,7 @@ module _ (loaded : List Batch) (may : ℕ → Bool) (before : List Numbered) (ou
           shown = begun;
           above = above;
           below = below;
+          shows = shows;
           faults = faults;
           joined = joined;
           joined_faults = joined_faults;
@@ -251,6 +289,7 @@ module _ (loaded : List Batch) (may : ℕ → Bool) (before : List Numbered) (ou
           lines = r.lines_are;
           replies = r.prints;
           came = came_joined order r.more of_round r.each;
+          reads = λ j m q at is. (r.each j q at).low m is;
         },
       )
 

@@ -1,5 +1,5 @@
 -- The lines of a round that were read, and that workers and their caller answered together.
-use Rattle.std.proofs.Common.{◌≡◌, refl, ℕ, suc, ◌+◌, ◌≤◌, inl, inr, ⊎_elim, Bool, false, List, [], ◌∷◌, length, map, Some, Ok, slice_get, sym, subst, ap, ◌∙◌, arith}
+use Rattle.std.proofs.Common.{◌≡◌, refl, ℕ, suc, ◌+◌, ◌≤◌, ◌⊎◌, inl, inr, ⊎_elim, Bool, false, List, [], ◌∷◌, length, map, Some, Ok, slice_get, sym, subst, ap, ◌∙◌, arith}
 use Rattle.std.proofs.lemmas.List.{length-map}
 use Rattle.std.specs.List.{AllByRecursion}
 use Rattle.gd_prim.specs.declared.Batch.{Batch}
@@ -10,7 +10,7 @@ use Rattle.gd_runs.specs.Explained.{Numbered, Run, Outcome, answered, session_of
 use Rattle.gd_runs.specs.Core.{State, Session}
 use Rattle.gd_runs.specs.Side.{Told, WriteLine, Begun, AreInOrder, KeepsHistory, KeepsRound}
 use Rattle.gd_runs.proofs.Rounds.{no_some, some_same, get_within}
-use Rattle.gd_mql.specs.Requests.{read_view}
+use Rattle.gd_mql.specs.Requests.{read_set_view}
 use Rattle.gd_core_laws.specs.Bounds.{kept_of, least_later}
 use Rattle.gd_core_laws.specs.Round.{write_lines, begun_at, StandsAt}
 use Rattle.gd_core_laws.specs.Writes.{CallerWrites}
@@ -35,7 +35,7 @@ use Rattle.gd_caller.specs.Joined.{IsOfWrites, SessionAt, JoinedReply, by_kept, 
 use Rattle.gd_round_lines.proofs.Some.{some_all}
 use Rattle.gd_caller.proofs.Callers.{callers_among}
 use Rattle.gd_caller.proofs.Faults.{faults_told_most, quiet_or, first_quiet, fault_at_line}
-use Rattle.gd_caller.proofs.JoinedLines.{CameAs, JoinedLine, first_line, read_line, read_told, joined_round_served, joined_fresh}
+use Rattle.gd_caller.proofs.JoinedLines.{CameAs, JoinedLine, answered_same, first_line, read_line, read_told, joined_round_served, joined_fresh}
 use Rattle.gd_caller.proofs.Left.{written_at}
 use Rattle.gd_round_lines.proofs.Read.{all_at}
 use Rattle.gd_round_lines.proofs.Lines.{written_back, lines_within}
@@ -82,7 +82,7 @@ module _ {D C : Type 0} (first begun : ℕ) (given : List Numbered) (works : Wor
   ws = map write_of works.writes.items
 
   -- the read that was answered is the line at its place
-  asks_there : (j x : ℕ) (l : Numbered) (r : ReadLine) → slice_get given j ≡ Some l → slice_get works.reads.items x ≡ Some r → r.line ≡ first + j → line_from l.bytes ≡ Ok (read r.session (read_view r.request))
+  asks_there : (j x : ℕ) (l : Numbered) (r : ReadLine) → slice_get given j ≡ Some l → slice_get works.reads.items x ≡ Some r → r.line ≡ first + j → line_from l.bytes ≡ Ok (read r.session (read_set_view r.request))
   asks_there j x l r at at_r line =
       let among = all_at (IsReadAmong first given) works.reads.items x r read_are.reads at_r in
       let at_line = among.asks.0 in
@@ -97,11 +97,12 @@ module _ {D C : Type 0} (first begun : ℕ) (given : List Numbered) (works : Wor
   read_tells : (j x : ℕ) (l : Numbered) (r : ReadLine) (m s d : ℕ) → slice_get given j ≡ Some l → slice_get works.reads.items x ≡ Some r → r.line ≡ first + j → m ≤ a.tells j → session_of l.bytes ≡ Some s → told_dateline l.bytes (answered m) ≡ Some d
       → (n : ℕ) × Tells j s n × (d ≤ n)
   read_tells j x l r m s d at at_r line most session told =
-      let same : r.session ≡ s = some_same (sym (session_read l.bytes r.session (read_view r.request) (asks_there j x l r at at_r line)) ∙ session) in
+      let same : r.session ≡ s = some_same (sym (session_read l.bytes r.session (read_set_view r.request) (asks_there j x l r at at_r line)) ∙ session) in
       let below = read_told l.bytes m d told in
       (a.tells j, (inl (x, r, at_r, line, same), refl), omega (arith, below, most))
 
-  module _ (of : (i : ℕ) (u : Told) → slice_get side.outcomes i ≡ Some u → (x : ℕ) × (b : WriteLine) × (slice_get ws x ≡ Some b) × (b.line ≡ u.line)) (order : AreInOrder side.outcomes) where
+  module _ (of : (i : ℕ) (u : Told) → slice_get side.outcomes i ≡ Some u → (x : ℕ) × (b : WriteLine) × (slice_get ws x ≡ Some b) × (b.line ≡ u.line)) (order : AreInOrder side.outcomes)
+      (low : (k i : ℕ) → begun ≤ least_later ws side.outcomes k i (length side.shown)) where
     abbrev Line : ℕ → List ℕ → List ℕ → Outcome → Type 0
     Line j bytes reply o = JoinedLine side.history (length side.shown) begun (write_lines first given) ws side.outcomes Tells j (first + j) bytes reply o
 
@@ -117,6 +118,7 @@ module _ {D C : Type 0} (first begun : ℕ) (given : List Numbered) (works : Wor
                 let (w, at_w, w_is) = written_back works.writes.items x b at_b in
                 let same : b.session ≡ s = some_same (sym of_session ∙ session) in
                 (a.tells j, (inr (x, w, at_w, ap (λ (v : WriteLine). v.line) w_is ∙ line, ap (λ (v : WriteLine). v.session) w_is ∙ same), refl), omega (arith, most, d_is));
+            low = λ m read. absurd (f.no_read m read);
             came = inl (subst (λ (y : List ℕ). CameAs side.history (length side.shown) (write_lines first given) side.outcomes (first + j) l.bytes y f.outcome) (sym is) f.came);
           },
         )
@@ -125,17 +127,19 @@ module _ {D C : Type 0} (first begun : ℕ) (given : List Numbered) (works : Wor
           answered m,
           record {
             told = λ s d. read_tells j x l r m s d at at_r line most;
+            low = λ n read. let same = answered_same m n read in let least = low r.line r.session in omega (arith, same, least);
             came = inl (subst (λ (k : ℕ). CameAs side.history (length side.shown) (write_lines first given) side.outcomes k l.bytes reply (answered m)) line
-                (read_line side.history (length side.shown) first given ws read_are.writes side.outcomes of order r.line l.bytes reply r.session (read_view r.request) (asks_there j x l r at at_r line) is));
+                (read_line side.history (length side.shown) first given ws read_are.writes side.outcomes of order r.line l.bytes reply r.session (read_set_view r.request) (asks_there j x l r at at_r line) is));
           },
         )
     by_reply j l was reply at at_was (by_worker w is reply_is most above later before) = (
       answered w.at,
       record {
         told = λ s d. read_tells j is.place l is.read w.at s d at is.there is.line most;
+        low = λ n read. let same = answered_same w.at n read in omega (arith, same, above);
         came = inr (record {
           session = is.read.session;
-          request = read_view is.read.request;
+          request = read_set_view is.read.request;
           number = w.at;
           entered = is.entered;
           asks = asks_there j is.place l is.read at is.there is.line;
@@ -143,7 +147,7 @@ module _ {D C : Type 0} (first begun : ℕ) (given : List Numbered) (works : Wor
           below = is.below;
           front = is.begins;
           out = refl;
-          is = reply_is ∙ is.is ∙ ap (λ (k : ℕ). reply_of is.entered w.at k (read_view is.read.request)) is.line;
+          is = reply_is ∙ is.is ∙ ap (λ (k : ℕ). reply_of is.entered w.at k (read_set_view is.read.request)) is.line;
           above = above;
           takes = λ i n less (at_session, n_is). let most_told = before i less at_session in omega (arith, most_told, n_is);
           later = subst (λ (k : ℕ). w.at ≤ least_later ws side.outcomes k is.read.session (length side.shown)) is.line later;
@@ -177,20 +181,20 @@ module _ {D C : Type 0} (first begun : ℕ) (given : List Numbered) (works : Wor
           → JoinedReply first begun works.reads.items works.writes.items (batches side.history) (length side.shown) side.outcomes a.tells j (reply_or (first + j) was (kept_of side.outcomes (first + j))) reply → tells_fault (first + j) reply ≡ false
       quiet j was reply first_none none_at (by_kept is stored) = ap (tells_fault (first + j)) is ∙ quiet_or (first + j) (first + j) was (kept_of side.outcomes (first + j)) first_none none_at
       quiet j was reply first_none none_at (by_caller x r at_r line is most) =
-          ap (tells_fault (first + j)) is ∙ read_quiet (first + j) (batches side.history) (least_later ws side.outcomes r.line r.session (length side.shown)) r.line (read_view r.request)
-      quiet j was reply first_none none_at (by_worker w is reply_is most above later before) = ap (tells_fault (first + j)) (reply_is ∙ is.is) ∙ read_quiet (first + j) is.entered w.at is.read.line (read_view is.read.request)
+          ap (tells_fault (first + j)) is ∙ read_quiet (first + j) (batches side.history) (least_later ws side.outcomes r.line r.session (length side.shown)) r.line (read_set_view r.request)
+      quiet j was reply first_none none_at (by_worker w is reply_is most above later before) = ap (tells_fault (first + j)) (reply_is ∙ is.is) ∙ read_quiet (first + j) is.entered w.at is.read.line (read_set_view is.read.request)
 
 -- LAW: a round that workers and their caller answered together is served
 pub round_joined : {D C : Type 0} (loaded : List Batch) (may : ℕ → Bool) (before : List Numbered) (output : List ℕ) (s : State) (runs : List Run) (round : ℕ) (given : List Numbered) (begun faults : ℕ)
-    → StandsAt loaded may before output s.history s.shown s.doubt runs → AreOf round given → s.shown ≤ begun → begun ≤ size s.history
+    → StandsAt loaded may before output s.history s.shown s.doubt runs → AreOf round given → s.shown ≤ begun → begun ≤ size s.history → (begun ≡ size s.history) ⊎ (begun ≡ s.shown)
     → (joined : State) (joined_faults most : ℕ) (at_join : List Told) (new : List Entry) → KeepsHistory may joined.history joined.doubt at_join
     → KeepsRound (begun_at s.history begun s.doubt faults (length runs) given) joined.history joined.shown joined.doubt joined_faults most at_join new → joined.shown ≤ size joined.history
     → (works : Works) → AreRead (length runs) given works → (side : SideValue D C) (sessions : ℕ → Session) → CallerWrites may joined at_join (map write_of works.writes.items) (state_of side sessions) side.outcomes
     → AllByRecursion (IsOfWrites works.writes.items) side.outcomes → (replies : List (List ℕ)) → AnswersJoined (length runs) begun works side replies
     → (more : List Run) × RoundServed may s runs round given (printed replies) (state_of side sessions) more
-round_joined loaded may before output s runs round given begun faults st here above below joined joined_faults most at_join new history lock within works read_are side sessions run all replies a =
+round_joined loaded may before output s runs round given begun faults st here above below shows joined joined_faults most at_join new history lock within works read_are side sessions run all replies a =
     let of = told_of_writes works.writes.items side.outcomes all in
-    joined_round_served loaded may before output s runs round given begun faults st here above below joined joined_faults most at_join new history lock within
+    joined_round_served loaded may before output s runs round given begun faults st here above below shows joined joined_faults most at_join new history lock within
     (map write_of works.writes.items) read_are.writes (state_of side sessions) side.outcomes run of (Tells (length runs) begun given works read_are side replies a)
     replies (joined_many (length runs) begun given works read_are side replies a) (each_line (length runs) begun given works read_are side replies a of)
 
@@ -201,16 +205,17 @@ round_passed loaded may before output s runs round given n st here long =
     let k = length runs in
     let ls = write_lines k given in
     let count = passed_many k n in
-    joined_round_served loaded may before output s runs round given s.shown 0 st here (omega arith) st.most
+    joined_round_served loaded may before output s runs round given s.shown 0 st here (omega arith) st.most (inr refl)
     s 0 0 [] [] (history_begins loaded may before output s.history s.shown s.doubt runs st)
     (lock_begins s.history s.shown s.doubt 0 0 k given (are_new loaded may before output s.history s.shown s.doubt runs 0 given st)) st.most
     ls (some_all ls) s [] (callers_pass may ls s []) (λ i u at. no_some at) (λ i session m. ⊥)
     (no_memory k n) (omega (arith, count, long))
-    (λ order j l reply at at_reply.
+    (λ order low j l reply at at_reply.
     let f = first_line s.history s.shown k given ls (some_all ls) [] (λ i u none. no_some none) j l (memory_line (k + j)) at (inr refl) in (
       f.outcome,
       record {
         told = λ session d is told. let (e, r, kept, d_is, of_write) = f.told d told in no_some kept;
+        low = λ m read. absurd (f.no_read m read);
         came = inl (subst (λ (y : List ℕ). CameAs s.history s.shown ls [] (k + j) l.bytes y f.outcome) (passed_at k n j reply at_reply) f.came);
       },
     ))

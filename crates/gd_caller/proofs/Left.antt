@@ -10,9 +10,12 @@ use Rattle.gd_runs.specs.Legal.{batches}
 use Rattle.gd_runs.specs.Core.{Session}
 use Rattle.gd_runs.specs.Side.{Kept, Told, told_of, WriteLine, IsLeft, is_fault}
 use Rattle.gd_runs.proofs.Rounds.{no_some, some_same}
+use Rattle.gd_core_laws.specs.Fronts.{StandsBetween}
 use Rattle.gd_core_laws.specs.Writes.{CallerWrites}
 use Rattle.gd_core_laws.specs.Bounds.{kept_of}
+use Rattle.gd_core_laws.proofs.Fronts.{grows_none, grows_then, between_first, between_last, between_more, between_before}
 use Rattle.gd_core_laws.proofs.Prefix.{callers_pass}
+use Rattle.gd_writer.proofs.Fronts.{side_grows}
 use Rattle.gd_writer.specs.Parts.{Tells}
 use Rattle.gd_writer.specs.Side.{SideValue, state_of, KeepsAll, StandsForEither, Writes, GoesOn}
 use Rattle.gd_round_lines.specs.declared.work.WriteLine.{WriteLine as Written}
@@ -46,6 +49,9 @@ module _ {D C : Type 0} (content : D → Option (List ℕ)) (moment : D → ℕ)
     told = refl;
     moments = λ tells. leaves_start moment images images_since s.log.disk (StandsWritten (may s.clock) s ls) (only s.log.disk)
         (λ file now sessions. record { reached = state_of s sessions; outs = s.outcomes; writes = callers_pass (may s.clock) ls (state_of s sessions) s.outcomes; stands = keeps.holds file (tells, now) });
+    grows = grows_none s.history s.doubt s.outcomes;
+    fronts = λ tells. leaves_start moment images images_since s.log.disk (StandsBetween s.history s.doubt s.history s.outcomes) (only s.log.disk)
+        (λ file now. between_last s.history s.doubt s.outcomes s.history s.doubt s.outcomes (grows_none s.history s.doubt s.outcomes) file (keeps.holds file (tells, now)));
     later = omega arith;
     rose = λ before was. was;
   }
@@ -54,6 +60,7 @@ module _ {D C : Type 0} (content : D → Option (List ℕ)) (moment : D → ℕ)
   pub left_one : (old new : SideValue D C) (a : WriteLine) → IsLeft old.outcomes a.line → Writes (may old.clock) faults old a.line a.bytes a.request new → GoesOn content moment images images_since faults may old new → Left old new (a ∷ [])
   left_one old new a left w goes =
       let one = λ (sessions : ℕ → Session). inr (left, (w.kept, state_of new sessions, w.step sessions, (refl, w.outcomes))) in
+      let grows = side_grows (may old.clock) faults old a.line a.bytes a.request new left w in
       record {
         writes = one;
         table = goes.table;
@@ -63,6 +70,13 @@ module _ {D C : Type 0} (content : D → Option (List ℕ)) (moment : D → ℕ)
             (λ file either sessions. ⊎_elim
             (λ before. record { reached = state_of old sessions; outs = old.outcomes; writes = callers_pass (may old.clock) (a ∷ []) (state_of old sessions) old.outcomes; stands = before })
             (λ after. record { reached = state_of new sessions; outs = new.outcomes; writes = one sessions; stands = after })
+            either)
+            (goes.moments tells);
+        grows = grows;
+        fronts = λ tells. leaves_weaken old.log.disk new.log.disk (StandsForEither old new) (StandsBetween old.history old.doubt new.history new.outcomes)
+            (λ file either. ⊎_elim
+            (between_first old.history old.doubt old.outcomes new.history new.doubt new.outcomes grows file)
+            (between_last old.history old.doubt old.outcomes new.history new.doubt new.outcomes grows file)
             either)
             (goes.moments tells);
         later = goes.later;
@@ -104,6 +118,14 @@ module _ {D C : Type 0} (content : D → Option (List ℕ)) (moment : D → ℕ)
               stands = r.stands;
             })
             (second.moments (tells_mid tells)));
+        grows = grows_then old.history old.doubt old.outcomes mid.history mid.doubt mid.outcomes new.history new.doubt new.outcomes first.grows second.grows;
+        fronts = λ tells. leaves_join old.log.disk mid.log.disk new.log.disk (StandsBetween old.history old.doubt new.history new.outcomes)
+            (leaves_weaken old.log.disk mid.log.disk (StandsBetween old.history old.doubt mid.history mid.outcomes) (StandsBetween old.history old.doubt new.history new.outcomes)
+            (between_more old.history old.doubt old.outcomes mid.history mid.doubt mid.outcomes first.grows new.history new.doubt new.outcomes second.grows)
+            (first.fronts tells))
+            (leaves_weaken mid.log.disk new.log.disk (StandsBetween mid.history mid.doubt new.history new.outcomes) (StandsBetween old.history old.doubt new.history new.outcomes)
+            (between_before old.history old.doubt old.outcomes mid.history mid.doubt mid.outcomes first.grows new.history new.doubt new.outcomes second.grows)
+            (second.fronts (tells_mid tells)));
         later = let a = first.later in let b = second.later in omega (arith, a, b);
         rose = λ before was. second.rose before (first.rose before was);
       }

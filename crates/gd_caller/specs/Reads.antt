@@ -3,7 +3,7 @@ use Rattle.std.specs.Prelude.{◌≡◌, ◌⊎◌, ◌≤◌, ℕ, ◌-◌, Lis
 use Rattle.gd_prim.specs.declared.Batch.{Batch}
 use Rattle.gd_runs.specs.Request.{reply_of}
 use Rattle.gd_runs.specs.Side.{Told, WriteLine}
-use Rattle.gd_mql.specs.Requests.{read_view}
+use Rattle.gd_mql.specs.Requests.{read_set_view}
 use Rattle.gd_core_laws.specs.Bounds.{least_later}
 use Rattle.gd_round_lines.specs.declared.work.ReadLine.{ReadLine}
 use Rattle.gd_round_lines.specs.declared.work.WriteLine.{WriteLine as Written}
@@ -13,7 +13,7 @@ use Rattle.gd_caller.specs.Fits.{FollowsWrites}
 
 -- the reply to a read over batches, so many of which are shown, at the greatest number that fits it
 abbrev pub read_reply : List Batch → ℕ → List WriteLine → List Told → ReadLine → List ℕ
-read_reply batches shown writes outs r = reply_of batches (least_later writes outs r.line r.session shown) r.line (read_view r.request)
+read_reply batches shown writes outs r = reply_of batches (least_later writes outs r.line r.session shown) r.line (read_set_view r.request)
 
 -- What a worker kept fits a read: its number is not below the floor of its session, and has what the session's writes before it told, and is not above the number of any behind it.
 pub record FitsRead (shown : ℕ) (writes : List Written) (outs : List Told) (r : ReadLine) (floor : ℕ) (w : Worked) : Type 0 where

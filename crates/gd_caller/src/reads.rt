@@ -6,7 +6,7 @@ ghost use Rattle.gd_core_laws.specs.Writes.{RisesBy};
 ghost use Rattle.gd_runs.specs.Core as core;
 ghost use Rattle.gd_runs.specs.Request.{reply_of};
 ghost use Rattle.gd_runs.specs.Side.{Told};
-ghost use Rattle.gd_mql.specs.Requests.{read_view};
+ghost use Rattle.gd_mql.specs.Requests.{read_set_view};
 ghost use Rattle.gd_read.specs.Reading.{reading_view, IsGoing};
 ghost use Rattle.gd_read.specs.Left.{reading_left};
 ghost use Rattle.gd_reply.specs.Replies.{reply_text};
@@ -19,7 +19,7 @@ ghost use Rattle.gd_caller.specs.Reads.{FitsRead, AnswersOne};
 use crate::numbers::Standing;
 use gd_base::memory::Memory;
 use gd_base::steps::Steps;
-use gd_mql::request::ReadRequest;
+use gd_mql::request::ReadSet;
 use gd_read::reading::{Progress, Reading};
 use gd_reply::reply::Reply;
 use gd_round_lines::work::ReadLine;
@@ -86,14 +86,14 @@ pub fn reply_at<L>(
     store: &Store,
     at: u32,
     line: u64,
-    request: ReadRequest,
+    request: ReadSet,
     budget: u64,
     steps: &mut Steps<L>,
 ) -> Result<Vec<u8>, Memory>
     requires there { at ≤ length store.now }
     requires budget { 0 < budget }
     requires line { line < 2 ^ 63 }
-    ensures { IfOk result (λ bytes. bytes.items ≡ reply_of store.now at line (read_view request)) }
+    ensures { IfOk result (λ bytes. bytes.items ≡ reply_of store.now at line (read_set_view request)) }
 {
     let view = store.view(at);
     match Reading::begin(alloc, &view, request, steps) {
@@ -167,7 +167,7 @@ fn answer_at<L>(
     ensures replies { (map reply_text replies.new.items ≡ map reply_text replies.old.items)
         ⊎ (map reply_text replies.new.items ≡ slice_set (map reply_text replies.old.items)
         (read.line - standing.now.first)
-        (reply_of standing.now.store.now at read.line (read_view read.request))) }
+        (reply_of standing.now.store.now at read.line (read_set_view read.request))) }
     ensures count { length replies.new.items ≡ length replies.old.items }
 {
     let place = (read.line - standing.first) as usize;

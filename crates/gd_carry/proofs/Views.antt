@@ -13,7 +13,3 @@ form_view final v = search (rules, the_lemmas)
 
 pub form_printed : (final : List Primitive) (v : Vec (Bor (List ℕ) × Printed) Global) (x : Vec (List ℕ × Json) Global) → members_view x.items ≡ fields_view final v.items → view (Object x) ≡ printed_view final (Form v)
 form_printed final v x same = view-Object x ∙ ap tree.object same ∙ sym (form_view final v)
-
--- an object of these members
-pub object_printed : (final : List Primitive) (fs : List (Bor (List ℕ) × Printed)) (x : Vec (List ℕ × Json) Global) → members_view x.items ≡ fields_view final fs → view (Object x) ≡ tree.object (fields_view final fs)
-object_printed final fs x same = view-Object x ∙ ap tree.object same

@@ -32,7 +32,11 @@ fn push_field<'a>(fields: &mut Vec<Field<'a>>, field: Field<'a>) -> Result<(), M
     Ok(())
 }
 
-fn push_printed<'a>(items: &mut Vec<Printed<'a>>, item: Printed<'a>) -> Result<(), Memory>
+/// Puts a printed part behind others. `Memory`: an allocation was refused.
+pub(crate) fn push_printed<'a>(
+    items: &mut Vec<Printed<'a>>,
+    item: Printed<'a>,
+) -> Result<(), Memory>
     ensures { OnOk result (items.new.items ≡ items.old.items ++ item.entry ∷ []) }
 {
     items.push(item)?;

@@ -150,10 +150,10 @@ pub(crate) fn fill(
     }
 }
 
-/// The members of an object, at the state at the end. `Memory`: an allocation was refused.
+/// The members of an object, at the state at the end.
 #[cycle(fill)]
 #[tactic(auto, using(crate::proofs::Fields::fields_seen, crate::proofs::Fields::items_seen))]
-pub(crate) fn fill_fields(
+fn fill_fields(
     alloc: Global,
     growing: &Growing<'_>,
     fields: &[(&str, Printed<'_>)],
@@ -169,10 +169,10 @@ pub(crate) fn fill_fields(
     Ok(members)
 }
 
-/// The items of a list, at the state at the end.
+/// The items of a list, at the state at the end. `Memory`: an allocation was refused.
 #[cycle(fill)]
 #[tactic(auto, using(crate::proofs::Fields::fields_seen, crate::proofs::Fields::items_seen))]
-fn fill_items(
+pub(crate) fn fill_items(
     alloc: Global,
     growing: &Growing<'_>,
     items: &[Printed<'_>],

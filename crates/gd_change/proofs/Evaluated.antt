@@ -11,7 +11,7 @@ use Rattle.gd_prim.specs.History.{prims_of, is_history}
 use Rattle.gd_prim.specs.Limits.{limits, first_full}
 use Rattle.gd_prim.specs.WellFormed.{bad_place, may_follow, max_moment}
 use Rattle.gd_tree.specs.Json as tree
-use Rattle.gd_defs.specs.Write.{WriteRequest, carried_root, exec, fitting}
+use Rattle.gd_defs.specs.Write.{WriteRequest, carried_all, exec, fitting}
 use Rattle.gd_defs.specs.Write.Links.{ChangeFault, full, unknown}
 use Rattle.gd_runs.specs.Request.{exec_after}
 use Rattle.gd_write_laws.proofs.Laws.{writes_follow}
@@ -23,7 +23,7 @@ use Rattle.gd_carry.specs.Outcome.{fault_of}
 use Rattle.gd_carry.specs.Exec.{carried_out, done_of, written}
 use Rattle.gd_carry.proofs.Whole.{exec_written}
 use Rattle.gd_change.specs.Fault.{IsSmall}
-use Rattle.gd_change.proofs.Spared.{Spares, chain, meaning-spares, root-spares}
+use Rattle.gd_change.proofs.Spared.{Spares, all-spare, chain, meaning-spares}
 
 -- after all batches
 exec_after-is : (bs : List Batch) (w : WriteRequest) (moment : ℕ) → exec_after bs w moment ≡ exec (prims_of bs) (length bs) w moment
@@ -63,8 +63,8 @@ well_formed_after bs w moment b j history early is =
 
 written-spares : (prims : List Primitive) (w : WriteRequest) (moment : ℕ) → Spares (written prims w moment)
 written-spares prims w moment =
-    chain (map_err unknown (intent_of prims w)) (λ i. carried_out prims w.change.root i moment) (meaning-spares (intent_of prims w))
-    (λ i. chain (carried_root (record { scope = i.0; moment = moment }) prims w.change.root i.1) (λ m. Ok (done_of moment prims m)) (root-spares (record { scope = i.0; moment = moment }) prims w.change.root i.1) (λ m. tt))
+    chain (map_err unknown (intent_of prims w)) (λ i. carried_out prims w.asks i moment) (meaning-spares (intent_of prims w))
+    (λ i. chain (carried_all (record { scope = i.0; moment = moment }) prims i.1) (λ m. Ok (done_of moment prims w.asks m)) (all-spare (record { scope = i.0; moment = moment }) prims i.1) (λ m. tt))
 
 -- a refusal of what was written tells no count
 pub small_refusal : (prims : List Primitive) (w : WriteRequest) (moment : ℕ) (e : Refusal) → (e ≢ fault.Memory → written prims w moment ≡ Err (fault_of e)) → IsSmall e

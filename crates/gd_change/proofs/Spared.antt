@@ -10,7 +10,7 @@ use Rattle.gd_defs.specs.Property.{Property, answers}
 use Rattle.gd_defs.specs.Query.{bad_connect, bad_previous}
 use Rattle.gd_defs.specs.Change as change
 use Rattle.gd_defs.specs.Change.{CreateWord, unless_exists, unconditional, ConnectWord, insert, delete, update}
-use Rattle.gd_defs.specs.Write.{carried_root, root_subject}
+use Rattle.gd_defs.specs.Write.{Resolved, carried_all, carried_root, root_subject}
 use Rattle.gd_defs.specs.Write.Parts.{Target, to_object, to_value, to_key, has_fact, is_target, equal_links, Item, as_spelled, its_id, its_guid, fact, connect, nested, several, ManyItems, no_more, and_then, Members, no_members, member, created}
 use Rattle.gd_defs.specs.Write.Links.{ChangeFault, unknown, not_unique, stale_version, full, Stamp, Done, deletion, new_link, other_holder, unless_taken, refused, inserted, deleted, updated, is_link_of, target_language, updated_from, connected}
 use Rattle.gd_defs.specs.Write.Carried.{answered, has_own, Subject, subject_of, created_text, fact_made, carried, carried_item, carried_items}
@@ -124,14 +124,20 @@ mutual
       chain (carried_item s path prims o i) (λ m. carried_items s path m.0 o is >>= λ r. Ok (r.0, λ final. tree.item (m.1 final) (r.1 final))) (item-spares s path prims o i)
       (λ m. chain (carried_items s path m.0 o is) (λ r. Ok (r.0, λ final. tree.item (m.1 final) (r.1 final))) (items-spare s path m.0 o is) (λ r. tt))
 
--- ---- the root
+-- ---- the changes
 
-root-subject-spares : (s : Stamp) (prims : List Primitive) (root : change.Root) (on : Option ℕ) (ms : Members) → Spares (root_subject s prims root on ms)
-root-subject-spares s prims (change.to_create w) on ms = subject_of-spares s [] prims w ms
-root-subject-spares s prims (change.existing_object t) on ms = tt
+root-subject-spares : (s : Stamp) (path : List (List ℕ)) (prims : List Primitive) (root : change.Root) (on : Option ℕ) (ms : Members) → Spares (root_subject s path prims root on ms)
+root-subject-spares s path prims (change.to_create w) on ms = subject_of-spares s path prims w ms
+root-subject-spares s path prims (change.existing_object t) on ms = tt
 
-pub root-spares : (s : Stamp) (prims : List Primitive) (root : change.Root) (r : Option ℕ × Members) → Spares (carried_root s prims root r)
-root-spares s prims root r = chain (root_subject s prims root r.0 r.1) (λ o. carried s [] o.prims o r.1) (root-subject-spares s prims root r.0 r.1) (λ o. members-spare s [] o.prims o r.1)
+root-spares : (s : Stamp) (prims : List Primitive) (r : Resolved) → Spares (carried_root s prims r)
+root-spares s prims r = chain (root_subject s r.path prims r.root r.on r.members) (λ o. carried s r.path o.prims o r.members) (root-subject-spares s r.path prims r.root r.on r.members) (λ o. members-spare s r.path o.prims o r.members)
+
+pub all-spare : (s : Stamp) (prims : List Primitive) (rs : List Resolved) → Spares (carried_all s prims rs)
+all-spare s prims [] = tt
+all-spare s prims (r ∷ rs) =
+    chain (carried_root s prims r) (λ m. carried_all s m.0 rs >>= λ ms. Ok (ms.0, λ final. tree.item (tree.object (m.1 final)) (ms.1 final))) (root-spares s prims r)
+    (λ m. chain (carried_all s m.0 rs) (λ ms. Ok (ms.0, λ final. tree.item (tree.object (m.1 final)) (ms.1 final))) (all-spare s m.0 rs) (λ ms. tt))
 
 -- what has no meaning tells of no limit
 pub meaning-spares : {A : Type 0} (r : Result A Unknown) → Spares (map_err unknown r)

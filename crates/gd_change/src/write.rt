@@ -32,12 +32,14 @@ fn made(
 }
 
 /// What a write does at a moment, in milliseconds since 1970-01-01 in UTC, after the batches of the
-/// store: the batch that it makes, and the request printed back with its answers. The refusals come
-/// in the order of the work. First its words are looked up in the store as it is, the scope, the
-/// root and then clause by clause and member by member: `NoSuchId`, `NoSuchProperty`, and
-/// `BadQuery` with a code of meaning. Then it is carried out in the same order: `NotUnique`,
-/// `KeyTaken`, `StaleVersion`, and `BadQuery` with `BadConnect` or `BadPrevious`. `Full` comes
-/// last: a limit of the store would be passed, the first in the order primitives of the batch, all
+/// store: the batch that it makes, and the request printed back with its answers, where several
+/// changes are asked the list of that. The refusals come in the order of the work. First its words
+/// are looked up in the store as it is, the scope, and then change by change the root and clause by
+/// clause and member by member: `NoSuchId`, `NoSuchProperty`, and `BadQuery` with a code of
+/// meaning. Then the changes are carried out in the same order, each on what those before it made:
+/// `NotUnique`, `KeyTaken`, `StaleVersion`, and `BadQuery` with `BadConnect` or `BadPrevious`.
+/// Where several changes are asked the number of the change begins the path. `Full` comes last: a
+/// limit of the store would be passed, the first in the order primitives of the batch, all
 /// primitives, bytes of texts, requests. `Memory`: an allocation was refused. The store stays as it
 /// is.
 pub fn evaluate(

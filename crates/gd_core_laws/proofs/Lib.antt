@@ -16,4 +16,5 @@ pub mod After
 pub mod Prefix
 pub mod Memory
 pub mod Bounds
+pub mod Fronts
 pub mod Laws

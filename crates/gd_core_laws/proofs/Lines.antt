@@ -3,7 +3,7 @@ use Rattle.std.proofs.Common.{◌≡◌, refl, ℕ, zero, suc, ◌+◌, ◌≤�
 use Rattle.gd_prim.specs.declared.Batch.{Batch}
 use Rattle.gd_defs.specs.Lines.{ok_line, err_line}
 use Rattle.gd_defs.specs.Write.{WriteRequest, ChangeFault}
-use Rattle.gd_runs.specs.Request.{read, write, ReadRequest, change_refusal}
+use Rattle.gd_runs.specs.Request.{read, write, ReadSet, change_refusal}
 use Rattle.gd_runs.specs.Input.{InputFault, line_from, input_fault_line}
 use Rattle.gd_runs.specs.Legal.{Entry, History, size, with_entries, exec_line, IsEntryAfter}
 use Rattle.gd_runs.specs.Explained.{entry_at, IsOfLine, Numbered, Run, Outcome, Prints, HasNumber, MayBe, DoesLine, MayBeEntry, IsExplainedBy, memory_line, late_line, disk_line, session_of, told_dateline}
@@ -17,7 +17,7 @@ use Rattle.gd_core_laws.specs.Served.{IsServed, IsDoubted}
 use Rattle.gd_core_laws.proofs.Reading.{same_number, IsAnswered}
 use Rattle.gd_core_laws.proofs.OneLine.{nothing_more, line_served, doubt_kept, doubt_begun}
 
-pub session_read : (bytes : List ℕ) (i : ℕ) (r : ReadRequest) → line_from bytes ≡ Ok (read i r) → session_of bytes ≡ Some i
+pub session_read : (bytes : List ℕ) (i : ℕ) (r : ReadSet) → line_from bytes ≡ Ok (read i r) → session_of bytes ≡ Some i
 session_read bytes i r is = rw is refl
 
 pub session_write : (bytes : List ℕ) (i : ℕ) (w : WriteRequest) → line_from bytes ≡ Ok (write i w) → session_of bytes ≡ Some i
@@ -71,7 +71,7 @@ module _ (loaded : List Batch) (may : ℕ → Bool) (given : List Numbered) (out
   memory_served t only = quiet outcome.no_memory (memory_line (length runs)) t only refl (λ n has. absurd has) (λ d told. no_some told) (λ i d session told. no_some told)
 
   -- a read
-  pub answer_served : (i : ℕ) (r : ReadRequest) (reply : List ℕ) (t : State) → line_from l.bytes ≡ Ok (read i r) → IsAnswered s (length runs) i r reply t
+  pub answer_served : (i : ℕ) (r : ReadSet) (reply : List ℕ) (t : State) → line_from l.bytes ≡ Ok (read i r) → IsAnswered s (length runs) i r reply t
       → IsServed loaded may (given ++ l ∷ []) (output ++ (reply ++ 10 ∷ [])) t (runs ++ run_of l (outcome.answered s.shown) reply ∷ [])
   answer_served i r reply t is answered = quiet (outcome.answered s.shown) reply t answered.enters
       (i, r, is, inv.most, answered.reply)

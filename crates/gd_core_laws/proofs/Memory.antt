@@ -1,6 +1,6 @@
 -- Where the core finds no memory for a read, nothing but sessions differs.
 use Rattle.std.proofs.Common.{◌≡◌, refl, ℕ, ◌==◌, ◌⊎◌, inl, ⊎_elim, Bool, true, false, List, Some, None, if◌then◌else◌, ap, sym, subst}
-use Rattle.gd_runs.specs.Request.{ReadRequest}
+use Rattle.gd_runs.specs.Request.{ReadSet}
 use Rattle.gd_runs.specs.Core.{begin, slice, State, Session, BeginStep}
 use Rattle.gd_runs.specs.Replay.{dropped, LacksMemory}
 use Rattle.gd_core_laws.specs.Serve.{EntersOnly}
@@ -20,7 +20,7 @@ drops s i = record { history = refl; shown = refl; doubt = refl; seen = λ j. by
     by j false is = inl refl
 
 -- a read that was to begin
-pub begin_lacks : (s t : State) (i : ℕ) (r : ReadRequest) → LacksMemory s (begin i r) t → EntersOnly s t
+pub begin_lacks : (s t : State) (i : ℕ) (r : ReadSet) → LacksMemory s (begin i r) t → EntersOnly s t
 begin_lacks s t i r lacks = ⊎_elim
     (λ same. subst (EntersOnly s) (sym same) (stays s))
     (λ other. ⊎_elim (λ drop. subst (EntersOnly s) (sym drop) (drops s i)) (λ enter. subst (EntersOnly s) (sym enter) (enters s i None)) other)
@@ -31,7 +31,7 @@ pub slice_lacks : (s t : State) (i budget : ℕ) → LacksMemory s (slice i budg
 slice_lacks s t i budget lacks = ⊎_elim (λ same. subst (EntersOnly s) (sym same) (stays s)) (λ enter. subst (EntersOnly s) (sym enter) (enters s i None)) lacks
 
 -- a read that has begun
-pub begun_enters : (s t : State) (k i : ℕ) (r : ReadRequest) (line : List ℕ) → BeginStep s k i r line t → EntersOnly s t
+pub begun_enters : (s t : State) (k i : ℕ) (r : ReadSet) (line : List ℕ) → BeginStep s k i r line t → EntersOnly s t
 begun_enters s t k i r line step = ⊎_elim
     (λ (f, is, prints, left). subst (EntersOnly s) (sym left) (enters s i None))
     (λ (reading, is, left). subst (EntersOnly s) (sym left) (enters s i (Some reading)))

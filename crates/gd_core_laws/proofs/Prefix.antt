@@ -1,5 +1,5 @@
 -- Where lines were left unrun: with memory lines for them the history explains an output that begins with what was printed.
-use Rattle.std.proofs.Common.{◌≡◌, refl, ℕ, zero, suc, ◌+◌, inl, Bool, true, List, [], ◌∷◌, ◌++◌, length, take, drop, flat_map, Some, slice_get, sym, subst, ap, ◌∙◌, arith, append-nil, append_assoc}
+use Rattle.std.proofs.Common.{◌≡◌, refl, ℕ, zero, suc, ◌+◌, ◌≤◌, inl, inr, Bool, true, List, [], ◌∷◌, ◌++◌, length, take, drop, flat_map, Some, slice_get, sym, subst, ap, ◌∙◌, arith, append-nil, append_assoc}
 use Rattle.std.proofs.lemmas.List.{take-append-drop}
 use Rattle.gd_prim.specs.declared.Batch.{Batch}
 use Rattle.gd_prim.specs.Builtin.{builtin}
@@ -40,6 +40,7 @@ module _ (loaded : List Batch) (may : ℕ → Bool) (before : List Numbered) (pr
     shown = s.shown;
     above = omega arith;
     below = st.most;
+    shows = inr refl;
     faults = 0;
     joined = s;
     joined_faults = 0;
@@ -54,6 +55,7 @@ module _ (loaded : List Batch) (may : ℕ → Bool) (before : List Numbered) (pr
     lines = refl;
     replies = sym (append-nil (memory_line (length runs) ++ 10 ∷ []));
     came = λ j r at. came j r at;
+    reads = λ j m r at is. none_read j m r at is;
   }
     where
       here : (j : ℕ) (m : Numbered) → slice_get (l ∷ []) j ≡ Some m → m.round ≡ l.round
@@ -63,6 +65,13 @@ module _ (loaded : List Batch) (may : ℕ → Bool) (before : List Numbered) (pr
       came : (j : ℕ) (r : Run) → slice_get (this ∷ []) j ≡ Some r → LineCame (length s.history.loaded) (runs ++ this ∷ []) s.history s.shown (write_lines (length runs) (l ∷ [])) [] (length runs + j) r
       came zero r at = lacks_memory (λ u w is i t none. no_some none) (ap (λ (q : Run). q.outcome) (sym (some_same at))) (ap (λ (q : Run). q.reply) (sym (some_same at)) ∙ ap memory_line (omega arith))
       came (suc j) r at = no_some at
+
+      apart : (m : ℕ) → outcome.no_memory ≡ outcome.answered m → ⊥
+      apart m is = cc
+
+      none_read : (j m : ℕ) (r : Run) → slice_get (this ∷ []) j ≡ Some r → r.outcome ≡ outcome.answered m → s.shown ≤ m
+      none_read zero m r at is = absurd (apart m (ap (λ (q : Run). q.outcome) (some_same at) ∙ is))
+      none_read (suc j) m r at is = no_some at
 
 -- lines that are not run
 pub rest_stands : (loaded : List Batch) (may : ℕ → Bool) (rest before : List Numbered) (printed : List ℕ) (s : State) (runs : List Run) → StandsAt loaded may before printed s.history s.shown s.doubt runs → RoundsRise (before ++ rest)

@@ -1,10 +1,10 @@
 -- Which replies tell a failure of the disk: none to a read, to what is no line, or for which there was no memory.
-use Rattle.std.proofs.Common.{◌≡◌, ℕ, List, Bool, false, refl}
+use Rattle.std.proofs.Common.{◌≡◌, ℕ, List, false, refl}
 use Rattle.gd_prim.specs.declared.Batch.{Batch}
 use Rattle.gd_tree.specs.Json.{Json}
 use Rattle.gd_json.specs.declared.from.JsonFault.TheVariants as json_fault
 use Rattle.gd_defs.specs.Lines.{Refusal, ok_line, ok_cursor_line, err_line}
-use Rattle.gd_runs.specs.Request.{ReadRequest, reply_of, bad_line, bad_form}
+use Rattle.gd_runs.specs.Request.{ReadSet, reply_of, bad_line, bad_form}
 use Rattle.gd_runs.specs.Input.{InputFault, line_too_long, no_json, no_line, input_fault_line}
 use Rattle.gd_runs.specs.Explained.{memory_line, tells_fault}
 use Rattle.gd_runs.specs.Core.{Reading, owed_line}
@@ -38,7 +38,7 @@ module _ (k : ℕ) where
   memory_quiet line = refl
 
   -- the reply to a read, and the one that a reading owes
-  pub read_quiet : (bs : List Batch) (snapshot line : ℕ) (r : ReadRequest) → Quiet (reply_of bs snapshot line r)
+  pub read_quiet : (bs : List Batch) (snapshot line : ℕ) (r : ReadSet) → Quiet (reply_of bs snapshot line r)
   read_quiet bs snapshot line r = read_each Quiet ok_quiet cursor_quiet err_quiet refl bs snapshot line r
 
   pub owed_quiet : (bs : List Batch) (line : ℕ) (r : Reading) → Quiet (owed_line bs line r)

@@ -4,7 +4,7 @@ use Rattle.std.specs.Prelude.{IsTrue}
 use Rattle.gd_prim.specs.declared.Batch.{Batch}
 use Rattle.gd_tree.specs.Json.{Json}
 use Rattle.gd_defs.specs.Write.{WriteRequest}
-use Rattle.gd_runs.specs.Request.{Line, read, write, ReadRequest, reply_of}
+use Rattle.gd_runs.specs.Request.{Line, read, write, ReadSet, reply_of}
 use Rattle.gd_runs.specs.Input.{InputFault, line_from, input_fault_line}
 use Rattle.gd_runs.specs.Legal.{Entry, History, size, batches, with_entry, with_entries, upto, exec_line, AreEntriesAfter, IsEntryAfter, IsLegal}
 use Rattle.gd_runs.specs.Explained.{entry_at, IsOfLine, Numbered, Run, Outcome, Prints, HasNumber, TakesIn, MayBe, DoesLine, MayBeEntry, SameSession, IsExplainedBy, IsOfRound, IsRoundAfter, printed_dateline, session_of, stored_dateline, told_dateline}
@@ -49,10 +49,10 @@ take_drop (suc n) [] = refl
 take_drop (suc n) (x ∷ xs) = ap (λ (l : List Batch). x ∷ l) (take_drop n xs)
 
 -- the reply over a front of a list is that over the list
-reply_of_front : (entered all : List Batch) (m k : ℕ) (q : ReadRequest) → entered ≡ take (length entered) all → m ≤ length entered → reply_of entered m k q ≡ reply_of all m k q
+reply_of_front : (entered all : List Batch) (m k : ℕ) (q : ReadSet) → entered ≡ take (length entered) all → m ≤ length entered → reply_of entered m k q ≡ reply_of all m k q
 reply_of_front entered all m k q front within =
     let whole : entered ++ drop (length entered) all ≡ all = ap (λ (l : List Batch). l ++ drop (length entered) all) front ∙ take_drop (length entered) all in
-    sym (reply_kept_at entered (drop (length entered) all) m k q.cursor q.query within) ∙ ap (λ (l : List Batch). reply_of l m k q) whole
+    sym (reply_kept_at entered (drop (length entered) all) m k q within) ∙ ap (λ (l : List Batch). reply_of l m k q) whole
 
 -- one line has one session and one request
 same_write : (s t : ℕ) (v w : WriteRequest) → ◌≡◌ {A = Result Line InputFault} (Ok (write s v)) (Ok (write t w)) → (s ≡ t) × (v ≡ w)
@@ -378,7 +378,7 @@ module _ (loaded : List Batch) (may : ℕ → Bool) (before : List Numbered) (pr
       let most = st.most in
       greatest d (omega (arith, below, grows)) (λ i x n t a at_i at_x a_line a_session later number. let least = facts.writes.least i n t at_i number in omega (arith, least, most, below))
 
-  lower_again : (j : ℕ) (r : Run) (s : ℕ) (q : ReadRequest) (m : ℕ) → slice_get more j ≡ Some r → line_from r.line.bytes ≡ Ok (read s q) → ((d : ℕ) → d ≤ shows → IsBelowLater lines outcomes (length runs + j) s d → d ≤ m)
+  lower_again : (j : ℕ) (r : Run) (s : ℕ) (q : ReadSet) (m : ℕ) → slice_get more j ≡ Some r → line_from r.line.bytes ≡ Ok (read s q) → ((d : ℕ) → d ≤ shows → IsBelowLater lines outcomes (length runs + j) s d → d ≤ m)
       → TakesIn (length h.loaded) (runs ++ more) (length runs + j) r m
   lower_again j r s q m at asks greatest = record {
     loaded = old_fits (length runs + j) s m greatest (length h.loaded) st.least;

@@ -6,7 +6,7 @@ use Rattle.gd_prim.specs.WellFormed.{all_follow}
 use Rattle.gd_bytes.specs.File.{MayStandFor}
 use Rattle.gd_defs.specs.Write.{WriteRequest}
 use Rattle.gd_runs.specs.Owed.{MembersOf}
-use Rattle.gd_runs.specs.Request.{read, ReadRequest, reply_of}
+use Rattle.gd_runs.specs.Request.{read, ReadSet, reply_of}
 use Rattle.gd_runs.specs.Input.{line_from}
 use Rattle.gd_runs.specs.Legal.{Entry, History, batches, size, with_entries}
 use Rattle.gd_runs.specs.Explained.{Numbered, Run, Explains, ExplainsRounds, ExplainsFront, IsExplainedBy, IsRoundAfter, MayBeLeft, StandsWith, answered, lines_of, lines_within}
@@ -40,7 +40,7 @@ FrontsAreExplained = (members : MembersOf) (may : ℕ → Bool) (loaded : List B
 
 -- A read for which no memory was found changes nothing but sessions, and each has seen what it had seen or what is shown.
 abbrev pub ReadsWithoutMemoryEnter : Type 0
-ReadsWithoutMemoryEnter = (s t : State) (i budget : ℕ) (r : ReadRequest) → (LacksMemory s (begin i r) t → EntersOnly s t) × (LacksMemory s (slice i budget) t → EntersOnly s t)
+ReadsWithoutMemoryEnter = (s t : State) (i budget : ℕ) (r : ReadSet) → (LacksMemory s (begin i r) t → EntersOnly s t) × (LacksMemory s (slice i budget) t → EntersOnly s t)
 
 -- ---- writes
 
@@ -83,7 +83,7 @@ CallersKeep = (may : ℕ → Bool) (l : Begun) (ls : List WriteLine) (s : State)
 -- A read that a worker answered came to what is asked of it, where its number lies between what its session was told and its later writes.
 abbrev pub WorkedReadsFit : Type 0
 WorkedReadsFit = (loaded : List Batch) (may : ℕ → Bool) (before : List Numbered) (printed : List ℕ) (h : History) (shown : ℕ) (doubt : Option Entry) (runs more : List Run) (round : ℕ) (g : History) (shows : ℕ)
-    (lines : List WriteLine) (outcomes : List Told) (j : ℕ) (r : Run) (s : ℕ) (q : ReadRequest) (m : ℕ) (entered : List Batch)
+    (lines : List WriteLine) (outcomes : List Told) (j : ℕ) (r : Run) (s : ℕ) (q : ReadSet) (m : ℕ) (entered : List Batch)
     → StandsAt loaded may before printed h shown doubt runs → ((i : ℕ) (x : Run) → slice_get more i ≡ Some x → x.line.round ≡ round) → AreInOrder outcomes
     → slice_get more j ≡ Some r → line_from r.line.bytes ≡ Ok (read s q)
     → m ≤ length entered → length entered ≤ shows → entered ≡ take (length entered) (batches g) → r.outcome ≡ answered m → r.reply ≡ reply_of entered m (length runs + j) q
@@ -92,7 +92,7 @@ WorkedReadsFit = (loaded : List Batch) (may : ℕ → Bool) (before : List Numbe
 
 -- A read that the caller answers at the least number of what is shown and its session's later writes came to what is asked of it.
 abbrev pub ReadsAgainFit : Type 0
-ReadsAgainFit = (least : ℕ) (runs : List Run) (g : History) (shows : ℕ) (lines : List WriteLine) (outcomes : List Told) (k : ℕ) (r : Run) (s : ℕ) (q : ReadRequest) → AreInOrder outcomes → line_from r.line.bytes ≡ Ok (read s q)
+ReadsAgainFit = (least : ℕ) (runs : List Run) (g : History) (shows : ℕ) (lines : List WriteLine) (outcomes : List Told) (k : ℕ) (r : Run) (s : ℕ) (q : ReadSet) → AreInOrder outcomes → line_from r.line.bytes ≡ Ok (read s q)
     → r.outcome ≡ answered (least_later lines outcomes k s shows) → r.reply ≡ reply_of (batches g) (least_later lines outcomes k s shows) k q → LineCame least runs g shows lines outcomes k r
 
 -- What stood before a round stands after it, and the round follows, where its facts hold.

@@ -5,4 +5,5 @@ pub mod Writes
 pub mod Threads
 pub mod Lock
 pub mod Bounds
+pub mod Fronts
 pub mod Laws

@@ -4,7 +4,7 @@ use Rattle.gd_prim.specs.declared.Batch.{Batch}
 use Rattle.gd_tree.specs.Json.{Json}
 use Rattle.gd_defs.specs.Lines.{ok_line, err_line}
 use Rattle.gd_defs.specs.Write.{WriteRequest}
-use Rattle.gd_runs.specs.Request.{Line, read, write, ReadRequest, reply_of, change_refusal}
+use Rattle.gd_runs.specs.Request.{Line, read, write, ReadSet, reply_of, change_refusal}
 use Rattle.gd_runs.specs.Input.{InputFault, line_from, input_fault_line}
 use Rattle.gd_runs.specs.Legal.{Entry, History, batches, size, with_entries}
 use Rattle.gd_runs.specs.Explained.{Numbered, Run, Outcome, no_request, no_memory, stored, refused, late, in_doubt, not_tried, answered, memory_line, late_line, disk_line, TakesIn, IsExplainedBy, told_dateline}
@@ -71,10 +71,10 @@ pub data LineCame (least : ℕ) (runs : List Run) (h : History) (shown : ℕ) (l
       → LineCame least runs h shown lines outcomes k r
   lacks_memory : ((s : ℕ) (w : WriteRequest) → line_from r.line.bytes ≡ Ok (write s w) → IsLeft outcomes k) → r.outcome ≡ no_memory → r.reply ≡ memory_line k → LineCame least runs h shown lines outcomes k r
   -- over the list that its session entered last, which begins what is shown
-  worked : (s : ℕ) (q : ReadRequest) (m : ℕ) (entered : List Batch) → line_from r.line.bytes ≡ Ok (read s q) → m ≤ length entered → length entered ≤ shown → entered ≡ take (length entered) (batches h)
+  worked : (s : ℕ) (q : ReadSet) (m : ℕ) (entered : List Batch) → line_from r.line.bytes ≡ Ok (read s q) → m ≤ length entered → length entered ≤ shown → entered ≡ take (length entered) (batches h)
       → r.outcome ≡ answered m → r.reply ≡ reply_of entered m k q → TakesIn least runs k r m → IsBelowLater lines outcomes k s m → LineCame least runs h shown lines outcomes k r
   -- over the working list
-  read_again : (s : ℕ) (q : ReadRequest) (m : ℕ) → line_from r.line.bytes ≡ Ok (read s q) → r.outcome ≡ answered m → r.reply ≡ reply_of (batches h) m k q
+  read_again : (s : ℕ) (q : ReadSet) (m : ℕ) → line_from r.line.bytes ≡ Ok (read s q) → r.outcome ≡ answered m → r.reply ≡ reply_of (batches h) m k q
       → m ≤ shown → IsBelowLater lines outcomes k s m → ((d : ℕ) → d ≤ shown → IsBelowLater lines outcomes k s d → d ≤ m) → LineCame least runs h shown lines outcomes k r
 
 -- what stood when a round began

@@ -3,7 +3,7 @@ use Rattle.std.specs.Prelude.{◌≡◌, ℕ, zero, suc, ◌+◌, ◌≤◌, ◌
 use Rattle.gd_prim.specs.declared.Batch.{Batch}
 use Rattle.gd_defs.specs.Write.{WriteRequest}
 use Rattle.gd_runs.specs.Owed.{MembersOf}
-use Rattle.gd_runs.specs.Request.{read, write, ReadRequest}
+use Rattle.gd_runs.specs.Request.{read, write, ReadSet}
 use Rattle.gd_runs.specs.Input.{InputFault, line_from, input_fault_line}
 use Rattle.gd_runs.specs.Legal.{size}
 use Rattle.gd_runs.specs.Explained.{Numbered, memory_line, lines_of}
@@ -15,7 +15,7 @@ Slices members zero s k i line t = SliceStep members s k i line t × ((t.session
 Slices members (suc n) s k i line t = (unfinished : List ℕ) × (mid : State) × (r : Reading) × SliceStep members s k i unfinished mid × ((mid.sessions i).reading ≡ Some r) × Slices members n mid k i line t
 
 -- a read line, line k: its beginning is refused, or the reading that it begins is sliced until it has its reply
-pub data ReadServed (members : MembersOf) (s : State) (k i : ℕ) (r : ReadRequest) : List ℕ → State → Type 0 where
+pub data ReadServed (members : MembersOf) (s : State) (k i : ℕ) (r : ReadSet) : List ℕ → State → Type 0 where
   refused : (line : List ℕ) (t : State) → BeginStep s k i r line t → (t.sessions i).reading ≡ None → ReadServed members s k i r line t
   sliced : (begun : List ℕ) (mid : State) (reading : Reading) (slices : ℕ) (line : List ℕ) (t : State) → BeginStep s k i r begun mid → (mid.sessions i).reading ≡ Some reading → Slices members slices mid k i line t
       → ReadServed members s k i r line t
@@ -30,7 +30,7 @@ pub record EntersOnly (s t : State) : Type 0 where
 -- line k prints a reply and makes a state: it is no line, a read, a write, or no memory was found for it
 pub data LineServed (members : MembersOf) (may : ℕ → Bool) (s : State) (k : ℕ) (bytes : List ℕ) : List ℕ → State → Type 0 where
   no_line : (f : InputFault) → line_from bytes ≡ Err f → LineServed members may s k bytes (input_fault_line k f) s
-  reads : (i : ℕ) (r : ReadRequest) (line : List ℕ) (t : State) → line_from bytes ≡ Ok (read i r) → ReadServed members s k i r line t → LineServed members may s k bytes line t
+  reads : (i : ℕ) (r : ReadSet) (line : List ℕ) (t : State) → line_from bytes ≡ Ok (read i r) → ReadServed members s k i r line t → LineServed members may s k bytes line t
   writes : (i : ℕ) (w : WriteRequest) (line : List ℕ) (t : State) → line_from bytes ≡ Ok (write i w) → WriteStep may s k (length bytes) i w line t → LineServed members may s k bytes line t
   lacks_memory : (t : State) → EntersOnly s t → LineServed members may s k bytes (memory_line k) t
 

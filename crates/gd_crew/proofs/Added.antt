@@ -4,14 +4,14 @@ use Rattle.std.specs.List.{AllByRecursion}
 use Rattle.std.proofs.lemmas.List.{map-append}
 use Rattle.std.proofs.lemmas.Option.{slice_get-get_or}
 use Rattle.std.proofs.lemmas.List.Elements.{filter-append}
-use Rattle.gd_runs.specs.Request.{Line, ReadRequest, read, write}
+use Rattle.gd_runs.specs.Request.{Line, ReadSet, read, write}
 use Rattle.gd_defs.specs.Write as defs
 use Rattle.gd_runs.specs.Side as side
 use Rattle.gd_runs.proofs.Rounds.{no_some, some_same}
 use Rattle.gd_core_laws.specs.Round.{one_write}
 use Rattle.gd_core_laws.proofs.Lock.{same_numbers}
 use Rattle.gd_core_laws.proofs.Reading.{same_number}
-use Rattle.gd_mql.specs.Requests.{read_view, write_view}
+use Rattle.gd_mql.specs.Requests.{read_set_view, write_view}
 use Rattle.gd_round_lines.specs.declared.work.ReadLine.{ReadLine}
 use Rattle.gd_round_lines.specs.declared.work.WriteLine.{WriteLine}
 use Rattle.gd_round_lines.specs.declared.work.Works.{Works}
@@ -41,14 +41,14 @@ adds_then reads xs ys a b c p q = record {
   each = λ all. q.each (p.each all);
 }
 
-not_read : (s t : ℕ) (w : defs.WriteRequest) (q : ReadRequest) → write s w ≡ read t q → ⊥
+not_read : (s t : ℕ) (w : defs.WriteRequest) (q : ReadSet) → write s w ≡ read t q → ⊥
 not_read s t w q e = cc
 
-request_of : ReadRequest → Line → ReadRequest
+request_of : ReadSet → Line → ReadSet
 request_of d (read t p) = p
 request_of d (write t w) = d
 
-read_is : (r : ReadLine) (s : ℕ) (q : ReadRequest) → read r.session (read_view r.request) ≡ read s q → read_view r.request ≡ q
+read_is : (r : ReadLine) (s : ℕ) (q : ReadSet) → read r.session (read_set_view r.request) ≡ read s q → read_set_view r.request ≡ q
 unfolding request_of
 read_is r s q e = ap (request_of q) e
 

@@ -11,8 +11,13 @@ use Rattle.gd_match.proofs.root.RootScan.TheSendSync as scan
 use Rattle.gd_match.specs.contracts.frame.Current as current
 use Rattle.gd_match.specs.contracts.frame.Frame as frame
 use Rattle.gd_match.specs.contracts.matcher.Matcher as matcher
+use Rattle.gd_mql.specs.contracts.request.ChangeList as change_list
+use Rattle.gd_mql.specs.contracts.request.ChangeRequest as change
+use Rattle.gd_mql.specs.contracts.request.ReadList as read_list
 use Rattle.gd_mql.specs.contracts.request.ReadRequest as request
+use Rattle.gd_mql.specs.contracts.request.ReadSet as read_set
 use Rattle.gd_mql.specs.contracts.request.WriteRequest as write_request
+use Rattle.gd_mql.specs.contracts.request.WriteSet as write_set
 use Rattle.gd_plan.proofs.asked.Member.TheLaws.TheKnot as member_knot
 use Rattle.gd_plan.proofs.asked.SortKey.TheSendSync as sort
 use Rattle.gd_plan.specs.contracts.asked.Asked as asked
@@ -26,8 +31,11 @@ use Rattle.gd_read.specs.contracts.building.Building as building
 use Rattle.gd_read.specs.contracts.checking.Checking as checking
 use Rattle.gd_read.specs.contracts.gathering.Gathered as gathered
 use Rattle.gd_read.specs.contracts.gathering.Gathering as gathering
+use Rattle.gd_read.specs.contracts.query.QueryReading as query
 use Rattle.gd_read.specs.contracts.reading.Reading as reading
 use Rattle.gd_read.specs.contracts.scanning.Scanning as scanning
+use Rattle.gd_read.specs.contracts.several.Part as part
+use Rattle.gd_read.specs.contracts.several.SeveralReading as several
 use Rattle.gd_read.specs.contracts.stage.Stage as stage
 use Rattle.gd_read.specs.contracts.subject.Subject as subject
 use Rattle.gd_read.specs.contracts.visiting.Visiting as visiting
@@ -48,6 +56,12 @@ use Rattle.gd_crew.specs.contracts.worker.Worker as worker
 
 request_field : IsSend (request.the_field).row
 request_field = search (sendable, crosses, text.the_send, json_knot.crosses) depth 40 fits 5000
+
+list_field : IsSend (read_list.the_field).row
+list_field = search (sendable, crosses, request_field) depth 40 fits 5000
+
+set_field : IsSend (read_set.the_field).row
+set_field = search (sendable, crosses, request_field, list_field) depth 40 fits 5000
 
 current_field : IsSend (current.the_field).row
 current_field = search (sendable, crosses, places.the_field_send, tree_knot.crosses) depth 40 fits 5000
@@ -94,8 +108,17 @@ building_field = search (sendable, crosses, plan_field, matcher_field, tree_knot
 stage_field : IsSend (stage.the_field).row
 stage_field = search (sendable, crosses, visiting_field, scanning_field, checking_field, gathering_field, building_field, shape_field) depth 40 fits 5000
 
+query_field : IsSend (query.the_field).row
+query_field = search (sendable, crosses, subject_field, window_sent.the_send, stage_field) depth 40 fits 5000
+
+part_field : IsSend (part.the_field).row
+part_field = search (sendable, crosses, query_field, request_field) depth 40 fits 5000
+
+several_field : IsSend (several.the_field).row
+several_field = search (sendable, crosses, part_field) depth 40 fits 5000
+
 reading_field : IsSend (reading.the_field).row
-reading_field = search (sendable, crosses, subject_field, window_sent.the_send, stage_field) depth 40 fits 5000
+reading_field = search (sendable, crosses, query_field, several_field) depth 40 fits 5000
 
 -- ---- a worker
 
@@ -105,11 +128,26 @@ session_field = search (sendable, crosses, seat.the_send, reading_field) depth 4
 request_shared : IsSync (request.the_field).row
 request_shared = search (sendable, crosses, text.the_sync, json_knot.crosses) depth 40 fits 5000
 
+list_shared : IsSync (read_list.the_field).row
+list_shared = search (sendable, crosses, request_shared) depth 40 fits 5000
+
+set_shared : IsSync (read_set.the_field).row
+set_shared = search (sendable, crosses, request_shared, list_shared) depth 40 fits 5000
+
+change_shared : IsSync (change.the_field).row
+change_shared = search (sendable, crosses, json_knot.crosses) depth 40 fits 5000
+
+changes_shared : IsSync (change_list.the_field).row
+changes_shared = search (sendable, crosses, change_shared) depth 40 fits 5000
+
+changed_shared : IsSync (write_set.the_field).row
+changed_shared = search (sendable, crosses, change_shared, changes_shared) depth 40 fits 5000
+
 write_shared : IsSync (write_request.the_field).row
-write_shared = search (sendable, crosses, text.the_sync, json_knot.crosses) depth 40 fits 5000
+write_shared = search (sendable, crosses, text.the_sync, changed_shared) depth 40 fits 5000
 
 job_field : (a : NamedLft) → IsSend (job.the_field a).row
-job_field a = search (sendable, crosses, request_shared, write_shared) depth 40 fits 5000
+job_field a = search (sendable, crosses, set_shared, write_shared) depth 40 fits 5000
 
 seated_field : (a : NamedLft) → IsSend (seated.the_field a).row
 seated_field a = search (sendable, crosses, session_field, job_field, reply.the_field_send, stop.the_field_send) depth 40 fits 5000

@@ -91,6 +91,8 @@ module _ {D C : Type 0} (content : D → Option (List ℕ)) (moment : D → ℕ)
     told = locked.told;
     moments = λ tells. subst (λ (ls : List WriteLine). LeavesSince moment images images_since (moment side.log.disk) new.log.disk (StandsInRound (may side.clock) (begun_by faults side ls))) (sym is)
         (locked.moments (subst (λ (b : Bool). IsTrue b) (sym locked.told) tells));
+    grows = locked.grows;
+    fronts = λ tells. locked.fronts (subst (λ (b : Bool). IsTrue b) (sym locked.told) tells);
     later = locked.later;
     entries = locked.new;
     lock = subst (λ (ls : List WriteLine). KeepsRound (begun_by faults side ls) new.history (length new.shown) new.doubt (min (faults new.log.disk) most) most new.outcomes locked.new) (sym is) locked.lock;

@@ -13,13 +13,16 @@ use Rattle.gd_runs.specs.Legal.{Entry, History, batches, size}
 use Rattle.gd_runs.specs.Explained.{entry_at}
 use Rattle.gd_runs.specs.Side.{Kept, Told, WriteLine, Begun, is_fault, session_lines, IsLeft, IsFresh, KeepsHistory, KeepsRound}
 use Rattle.gd_runs.proofs.Rounds.{entry_cases, length_batches}
+use Rattle.gd_core_laws.specs.Fronts.{StandsBetween, GrowsTold}
 use Rattle.gd_core_laws.specs.Lock.{HasOutcome, FaultsMore}
 use Rattle.gd_core_laws.specs.Writes.{AreNew}
+use Rattle.gd_core_laws.proofs.Fronts.{grows_none, grows_then, between_last, between_more}
 use Rattle.gd_core_laws.proofs.Laws.{locked_writes_keep}
 use Rattle.gd_core_laws.proofs.LockRun.{lock_starts}
 use Rattle.gd_shared.specs.History.{FrontValue}
 use Rattle.gd_writer.specs.Parts.{Tells}
 use Rattle.gd_writer.specs.Side.{SideValue, state_of, Writes, KeepsAll, StandsForSide, StandsForEither, GoesOn}
+use Rattle.gd_writer.proofs.Fronts.{side_grows}
 use Rattle.gd_writer.proofs.Told.{no_sessions}
 use Rattle.gd_crew.specs.Round.{Named, begun, most, StandsInRound, LeavesSince, BeginsRound, IsLocked, IsOfRound, IsToldLocked}
 
@@ -91,6 +94,11 @@ module _ {D C : Type 0} (content : D → Option (List ℕ)) (moment : D → ℕ)
       (subst (λ (d : Option Entry). KeepsRound (begun l) l.history l.shown d count most side.outcomes []) (sym b.doubt)
       (subst (λ (n : ℕ). KeepsRound (begun l) l.history l.shown l.doubt (min n most) most side.outcomes []) (sym b.count)
       (subst (λ (ts : List Told). KeepsRound (begun l) l.history l.shown l.doubt (min l.faults most) most ts []) (sym b.outcomes) (first_lock l b.fresh))))) in
+      let grows : GrowsTold l.history l.doubt [] side.history side.doubt side.outcomes =
+      subst (λ (h : History). GrowsTold l.history l.doubt [] h side.doubt side.outcomes) (sym b.history)
+      (subst (λ (d : Option Entry). GrowsTold l.history l.doubt [] l.history d side.outcomes) (sym b.doubt)
+      (subst (λ (ts : List Told). GrowsTold l.history l.doubt [] l.history l.doubt ts) (sym b.outcomes) (grows_none l.history l.doubt []))) in
+      let front = between_last l.history l.doubt [] side.history side.doubt side.outcomes grows in
       let stands = stands_in l.may (begun l) count side [] (subst (λ (m : ℕ → Bool). KeepsHistory m side.history side.doubt side.outcomes) b.clock keeps.history) (shows_within side.history side.shown keeps.shows) lock in
       record {
         table = b.table;
@@ -100,6 +108,12 @@ module _ {D C : Type 0} (content : D → Option (List ℕ)) (moment : D → ℕ)
           later = (let at = b.moment_is in omega (arith, at));
           now = λ c now. stands c (keeps.holds c (tells, now));
           each = λ c since. stands c (keeps.holds c (tells, only side.log.disk c (subst (λ (t : ℕ). images_since side.log.disk t c) (sym b.moment_is) since)));
+        };
+        grows = grows;
+        fronts = λ tells. record {
+          later = (let at = b.moment_is in omega (arith, at));
+          now = λ c now. front c (keeps.holds c (tells, now));
+          each = λ c since. front c (keeps.holds c (tells, only side.log.disk c (subst (λ (t : ℕ). images_since side.log.disk t c) (sym b.moment_is) since)));
         };
         later = (let count = b.count in omega (arith, count));
         new = [];
@@ -151,11 +165,31 @@ module _ {D C : Type 0} (content : D → Option (List ℕ)) (moment : D → ℕ)
         each = λ c since. ⊎_elim (left_before.each c) (either c) (left.before l.moment c earlier since);
       }
 
+  -- and so it is with fronts of the history that the side has then
+  fronts_in_write : (new : SideValue D C) → is_some (content new.log.disk) ≡ is_some (content side.log.disk) → (Tells (content side.log.disk) → LeavesOnly moment images images_since side.log.disk new.log.disk (StandsForEither side new))
+      → GrowsTold side.history side.doubt side.outcomes new.history new.doubt new.outcomes → Tells (content new.log.disk) → LeavesSince moment images images_since l.moment new.log.disk (StandsBetween l.history l.doubt new.history new.outcomes)
+  fronts_in_write new told leaves grows tells =
+      let had : Tells (content side.log.disk) = subst (λ (b : Bool). IsTrue b) told tells in
+      let left_before = locked.fronts had in
+      let left = leaves had in
+      let more = between_more l.history l.doubt [] side.history side.doubt side.outcomes locked.grows new.history new.doubt new.outcomes grows in
+      let either = λ (c : List ℕ). ⊎_elim
+      (λ before. more c (between_last l.history l.doubt [] side.history side.doubt side.outcomes locked.grows c before))
+      (λ after. between_last l.history l.doubt [] new.history new.doubt new.outcomes (grows_then l.history l.doubt [] side.history side.doubt side.outcomes new.history new.doubt new.outcomes locked.grows grows) c after) in
+      let earlier = left_before.later in
+      let later = left.later in
+      record {
+        later = omega (arith, earlier, later);
+        now = λ c now. either c (left.now c now);
+        each = λ c since. ⊎_elim (λ was. more c (left_before.each c was)) (either c) (left.before l.moment c earlier since);
+      }
+
   -- what the lock keeps it keeps
   pub wrote : (new : SideValue D C) → KeepsHistory (may side.clock) side.history side.doubt side.outcomes → side.shown ≡ take (length side.shown) (batches side.history) → IfSome before (λ m. HasOutcome side.outcomes m)
       → GoesOn content moment images images_since faults may side new → Writes (may side.clock) faults side line bytes request new → IsLocked content moment images images_since faults may l new
   wrote new history shows has goes writes =
       let within = shows_within side.history side.shown shows in
+      let grows = side_grows (may side.clock) faults side line bytes request new left writes in
       let keeps = locked_writes_keep (may side.clock) (begun l) l.first l.given (state_of side no_sessions) (min (faults side.log.disk) most) most side.outcomes locked.new of_round.place
       (record { line = line; session = of_round.session; request = request; bytes = bytes }) writes.kept (state_of new no_sessions) (min (faults new.log.disk) most)
       refl history locked.lock within of_round.there left (comes_next has) (writes.step no_sessions) (faults_more writes.kept (faults side.log.disk) (faults new.log.disk) goes.later writes.fault) in
@@ -171,6 +205,8 @@ module _ {D C : Type 0} (content : D → Option (List ℕ)) (moment : D → ℕ)
         moments = in_write new goes.told goes.moments
             (stands_in l.may (begun l) (min (faults side.log.disk) most) side locked.new (subst (λ (m : ℕ → Bool). KeepsHistory m side.history side.doubt side.outcomes) locked.clock history) within locked.lock)
             (stands_in l.may (begun l) (min (faults new.log.disk) most) new keeps.entries new_history keeps.most lock);
+        grows = grows_then l.history l.doubt [] side.history side.doubt side.outcomes new.history new.doubt new.outcomes locked.grows grows;
+        fronts = fronts_in_write new goes.told goes.moments grows;
         later = (let old = locked.later in let now = goes.later in omega (arith, old, now));
         new = keeps.entries;
         lock = lock;

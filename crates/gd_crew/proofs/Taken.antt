@@ -6,7 +6,7 @@ use Rattle.std.proofs.lemmas.List.Elements.{All-cons, All-nil, All-head}
 use mathlib.Core.List.{IsPrefix}
 use Rattle.logbook.specs.Pages.{Book}
 use Rattle.gd_prim.specs.declared.Batch.{Batch}
-use Rattle.gd_runs.specs.Request.{ReadRequest, reply_of}
+use Rattle.gd_runs.specs.Request.{ReadSet, reply_of}
 use Rattle.gd_runs.specs.Side.{Begun}
 use Rattle.gd_runs.proofs.Rounds.{no_some, some_same}
 use Rattle.gd_round_lines.specs.declared.work.ReadLine.{ReadLine}
@@ -43,7 +43,7 @@ is_worked first reads batches limit place line list w front to at = record {
   within = to.within;
   below = front.0;
   begins = front.1;
-  is = to.is ∙ (ap (λ (n : ℕ). reply_of list w.at n to.request) (sym to.of.line_is) ∙ ap (λ (q : ReadRequest). reply_of list w.at to.of.read.line q) (sym to.of.asks));
+  is = to.is ∙ (ap (λ (n : ℕ). reply_of list w.at n to.request) (sym to.of.line_is) ∙ ap (λ (q : ReadSet). reply_of list w.at to.of.read.line q) (sym to.of.asks));
 }
 
 pub takes_reply : (first line place : ℕ) (w : Worked) (old new : List (Option Worked)) → new ≡ set old place (Some w) → line ≡ first + place → TakesReplies first (record { line = line; at = w.at; reply = Some w.reply.items } ∷ []) old new

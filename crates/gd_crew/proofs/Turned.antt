@@ -9,7 +9,7 @@ use mathlib.Core.List.{IsPrefix}
 use Rattle.gd_base.specs.declared.memory.Memory.{Memory}
 use Rattle.gd_prim.specs.declared.Batch.{Batch}
 use Rattle.gd_defs.specs.Lines.{err_line}
-use Rattle.gd_runs.specs.Request.{ReadRequest, reply_of}
+use Rattle.gd_runs.specs.Request.{ReadSet, reply_of}
 use Rattle.gd_runs.specs.Core.{Reading, owed_line}
 use Rattle.gd_core_laws.proofs.Reading.{refuses}
 use Rattle.gd_read.specs.Begun.{fault_at}
@@ -50,7 +50,7 @@ entered_grows old new h = record {
 }
 
 -- where a read is refused, the line of the fault is its reply
-pub refused_reply : (old new : SessionValue) (k n : ℕ) (q : ReadRequest) (f : ReadFault) (made : Result (Vec ℕ Global) Memory) → (e : SessionFault) → e ≡ fault.Read f → BeginsAs old new q (Err e) → n ≡ seat_seen new.seat
+pub refused_reply : (old new : SessionValue) (k n : ℕ) (q : ReadSet) (f : ReadFault) (made : Result (Vec ℕ Global) Memory) → (e : SessionFault) → e ≡ fault.Read f → BeginsAs old new q (Err e) → n ≡ seat_seen new.seat
     → IfOk made (λ bytes. bytes.items ≡ err_line (fault_at n f).0 k (fault_at n f).1) → IfOk made (λ _. (f ≡ read_fault.Memory) → ⊥) → RepliesAtOnce old new k q n (bytes_of (result_ok made))
 refused_reply old new k n q f made e e_is begins at is wanted = by made (subst (λ x. BeginsAs old new q (Err x)) e_is begins) is wanted
   where
@@ -112,7 +112,7 @@ has_room s less = let same = length-map s.replies.items reply_view in omega (ari
 
 -- ---- a turn at a read
 
-abbrev pub TakenIn : Seated → JobValue → ReadRequest → Seated → Type 0
+abbrev pub TakenIn : Seated → JobValue → ReadSet → Seated → Type 0
 TakenIn s j q w = SameJobs (share_of s) (share_of w) × step.ReadTurn (share_of s) j q (share_of w)
 
 kept : (s w : Seated) (new : SessionValue) (k n : ℕ) (reply : Option (List ℕ)) → SeatGrows s.session.seat new.seat → KeepsReply (record s { session = new }) k n reply w → SameJobs (share_of s) (share_of w) × Grows (share_of s) (share_of w)
@@ -130,7 +130,7 @@ answers s w new j n reply goes none r = record {
   stop = r.stop ∙ goes;
 }
 
-turned_shut : (s w : Seated) (new : SessionValue) (j : JobValue) (q : ReadRequest) → WasTurnedAway s.session new → TakesRead (record s { session = new }) j.line turn.Shut w → TakenIn s j q w
+turned_shut : (s w : Seated) (new : SessionValue) (j : JobValue) (q : ReadSet) → WasTurnedAway s.session new → TakesRead (record s { session = new }) j.line turn.Shut w → TakenIn s j q w
 turned_shut s w new j q away taken = subst (λ (u : Seated). TakenIn s j q u) (sym taken) (
   record { sid = refl; jobs = refl; table = ap (λ (m : SessionValue). m.seat.history) away.counted; room = refl },
   step.is_shut (ap (λ (m : SessionValue). m.seat.entered) away.counted) (ap (λ (m : SessionValue). m.seat.told) away.counted) away.rose
@@ -138,7 +138,7 @@ turned_shut s w new j q away taken = subst (λ (u : Seated). TakenIn s j q u) (s
 )
 
 -- a turn at a read that was taken in
-pub turned_read : (s w : Seated) (new : SessionValue) (j : JobValue) (q : ReadRequest) (what : ReadTurn) → s.stop ≡ None → is_some s.at ≡ is_some (what_reads s.session) → TurnsRead s.session s.at j.line q what new
+pub turned_read : (s w : Seated) (new : SessionValue) (j : JobValue) (q : ReadSet) (what : ReadTurn) → s.stop ≡ None → is_some s.at ≡ is_some (what_reads s.session) → TurnsRead s.session s.at j.line q what new
     → TakesRead (record s { session = new }) j.line what w → TakenIn s j q w
 turned_read s w new j q what goes both turned taken = by s.at refl what turned taken (what_reads s.session) refl
   where

@@ -9,7 +9,7 @@ use mathlib.Core.List.{IsPrefix}
 use Rattle.logbook.specs.Pages.{Book}
 use Rattle.gd_prim.specs.declared.Batch.{Batch}
 use Rattle.gd_defs.specs.Write.{WriteRequest}
-use Rattle.gd_runs.specs.Request.{Line, read, write, ReadRequest, reply_of}
+use Rattle.gd_runs.specs.Request.{Line, read, write, ReadSet, reply_of}
 use Rattle.gd_runs.specs.Core.{Reading}
 use Rattle.gd_runs.specs.Side.{WriteLine, Begun}
 use Rattle.gd_runs.proofs.Rounds.{no_some, some_same}
@@ -73,7 +73,7 @@ is_in {A = A} P o a e p = subst (λ (u : Option A). IfSome u P) e p
 
 -- ---- read and write jobs
 
-one_read : (j : JobValue) (s : ℕ) (q : ReadRequest) → j.work ≡ read s q → reads (j ∷ []) ≡ j ∷ []
+one_read : (j : JobValue) (s : ℕ) (q : ReadSet) → j.work ≡ read s q → reads (j ∷ []) ≡ j ∷ []
 one_read j s q e = rw e refl
 
 no_read : (j : JobValue) (s : ℕ) (w : WriteRequest) → j.work ≡ write s w → reads (j ∷ []) ≡ []
@@ -82,7 +82,7 @@ no_read j s w e = rw e refl
 reads_more : (jobs : List JobValue) (k : ℕ) (j : JobValue) → slice_get jobs k ≡ Some j → reads (take (k + 1) jobs) ≡ reads (take k jobs) ++ reads (j ∷ [])
 reads_more jobs k j at = ap reads (take_more jobs k j at) ∙ filter-append (λ (i : JobValue). is_read i.work) (take k jobs) (j ∷ [])
 
-reads_read : (jobs : List JobValue) (k : ℕ) (j : JobValue) → slice_get jobs k ≡ Some j → (s : ℕ) (q : ReadRequest) → j.work ≡ read s q → reads (take (k + 1) jobs) ≡ reads (take k jobs) ++ j ∷ []
+reads_read : (jobs : List JobValue) (k : ℕ) (j : JobValue) → slice_get jobs k ≡ Some j → (s : ℕ) (q : ReadSet) → j.work ≡ read s q → reads (take (k + 1) jobs) ≡ reads (take k jobs) ++ j ∷ []
 reads_read jobs k j at s q e = reads_more jobs k j at ∙ ap (λ js. reads (take k jobs) ++ js) (one_read j s q e)
 
 reads_write : (jobs : List JobValue) (k : ℕ) (j : JobValue) → slice_get jobs k ≡ Some j → (s : ℕ) (w : WriteRequest) → j.work ≡ write s w → reads (take (k + 1) jobs) ≡ reads (take k jobs)
@@ -100,7 +100,7 @@ last_more : (jobs : List JobValue) (k : ℕ) (j : JobValue) → slice_get jobs k
 last_more jobs k j at = ap (λ js. last_or None (map (λ (a : WriteLine). a.line) (writes js))) (take_more jobs k j at)
     ∙ ap (λ ls. last_or None (map (λ (a : WriteLine). a.line) ls)) (writes_append (take k jobs) (j ∷ []))
 
-last_read : (jobs : List JobValue) (k : ℕ) (j : JobValue) → slice_get jobs k ≡ Some j → (s : ℕ) (q : ReadRequest) → j.work ≡ read s q → last_write (take (k + 1) jobs) ≡ last_write (take k jobs)
+last_read : (jobs : List JobValue) (k : ℕ) (j : JobValue) → slice_get jobs k ≡ Some j → (s : ℕ) (q : ReadSet) → j.work ≡ read s q → last_write (take (k + 1) jobs) ≡ last_write (take k jobs)
 last_read jobs k j at s q e = last_more jobs k j at
     ∙ ap (λ (ls : List WriteLine). last_or None (map (λ (a : WriteLine). a.line) (writes (take k jobs) ++ ls))) (nothing e)
     ∙ ap (λ (ls : List WriteLine). last_or None (map (λ (a : WriteLine). a.line) ls)) (append-nil (writes (take k jobs)))
@@ -118,7 +118,7 @@ last_written jobs k j at s w e = last_more jobs k j at
     this e = rw e refl
 
 -- there is room for the reply of a read job
-pub has_room : (l : Begun) (table : Book) (v w : Share) (j : JobValue) → RunsPart l table v w → slice_get w.jobs w.done ≡ Some j → (s : ℕ) (q : ReadRequest) → j.work ≡ read s q → length w.replies < w.room
+pub has_room : (l : Begun) (table : Book) (v w : Share) (j : JobValue) → RunsPart l table v w → slice_get w.jobs w.done ≡ Some j → (s : ℕ) (q : ReadSet) → j.work ≡ read s q → length w.replies < w.room
 has_room l table v w j run at s q asks =
     let z : length (reads (take w.done w.jobs)) ≡ length w.replies = zip_length _ _ _ run.replies in
     let more : length (reads (take (w.done + 1) w.jobs)) ≡ length (reads (take w.done w.jobs)) + 1 = ap length (reads_read w.jobs w.done j at s q asks) ∙ length-append (reads (take w.done w.jobs)) (j ∷ []) in
@@ -209,7 +209,7 @@ module _ (l : Begun) (table : Book) (v w x : Share) (j : JobValue) (there : slic
   waited g h reading at =
       stays (as_many h.done) (same_before h.done h.before) g.entered g.seen (not_less g.turned_away) (replies_stay floor w x run.replies g.entered (same_reads h.done) h.replies) reading at (if_none (IsStop v.turned_away x) x.stop h.stop)
 
-  answered : (s : ℕ) (q : ReadRequest) → j.work ≡ read s q → (at : ℕ) (reply : Option (List ℕ)) → Grows w x → Answers w j at reply x → IfSome reply (λ bytes. RepliesAt floor x.entered j at bytes) → RunsPart l table v x
+  answered : (s : ℕ) (q : ReadSet) → j.work ≡ read s q → (at : ℕ) (reply : Option (List ℕ)) → Grows w x → Answers w j at reply x → IfSome reply (λ bytes. RepliesAt floor x.entered j at bytes) → RunsPart l table v x
   answered s q asks at reply g h is =
       let old = zip_then (IsReply floor w.entered) (IsReply floor x.entered) _ _ (reply_stays floor w.entered x.entered g.entered) run.replies in
       let new = zip_push (IsReply floor x.entered) (reads (take w.done w.jobs)) w.replies j (record { line = j.line; at = at; reply = reply }) old (record { line = refl; reply = is }) in
@@ -224,7 +224,7 @@ module _ (l : Begun) (table : Book) (v w x : Share) (j : JobValue) (there : slic
   this_job r _ i = some_same (sym i.there ∙ there)
 
   -- a turn at a read job
-  pub read_kept : (s : ℕ) (q : ReadRequest) → j.work ≡ read s q → ReadTurn w j q x → RunsPart l table v x
+  pub read_kept : (s : ℕ) (q : ReadSet) → j.work ≡ read s q → ReadTurn w j q x → RunsPart l table v x
   read_kept s q asks (begins r g late begun holds at h) = waited g h (if_is (IsReading floor x) x.reading r holds (record {
     job = j;
     there = (λ i. slice_get (same.jobs i) (h.done i)) ∙ there;
@@ -295,7 +295,7 @@ module _ (l : Begun) (table : Book) (v w x : Share) (j : JobValue) (there : slic
       })))
       h.step
     where
-      not_both : {a : Line} {t : ℕ} {r : ReadRequest} → a ≡ write s q → a ≡ read t r → ⊥
+      not_both : {a : Line} {t : ℕ} {r : ReadSet} → a ≡ write s q → a ≡ read t r → ⊥
       not_both p o = cc
 
 -- a session that did all its jobs holds no reading

@@ -1,8 +1,8 @@
 -- The jobs of a session, which refer to the reads and writes of a round.
 use Rattle.std.specs.Prelude.{◌≡◌, ℕ, ◌+◌, ◌^◌, ◌<◌, ◌≤◌, ◌==◌, List, ◌++◌, length, map, filter, Some, slice_get}
 use Rattle.std.specs.List.{AllByRecursion}
-use Rattle.gd_runs.specs.Request.{ReadRequest, read, write}
-use Rattle.gd_mql.specs.Requests.{read_view, write_view}
+use Rattle.gd_runs.specs.Request.{ReadSet, read, write}
+use Rattle.gd_mql.specs.Requests.{read_set_view, write_view}
 use Rattle.gd_round_lines.specs.declared.work.ReadLine.{ReadLine}
 use Rattle.gd_round_lines.specs.declared.work.WriteLine.{WriteLine}
 use Rattle.gd_round_lines.specs.declared.work.Works.{Works}
@@ -10,22 +10,22 @@ use Rattle.gd_round_lines.specs.Works.{write_of, AreWithin}
 use Rattle.gd_crew.specs.Runs.{JobValue, writes}
 
 -- one of these reads is of this line, and asks this
-pub record IsAmong (reads : List ReadLine) (line : ℕ) (q : ReadRequest) : Type 0 where
+pub record IsAmong (reads : List ReadLine) (line : ℕ) (q : ReadSet) : Type 0 where
   pub place : ℕ
   pub read : ReadLine
   pub there : slice_get reads place ≡ Some read
   pub line_is : read.line ≡ line
-  pub asks : read_view read.request ≡ q
+  pub asks : read_set_view read.request ≡ q
 
 -- a job is no longer than a line may be, and if it is a read, it is one of these reads
 pub record IsJob (reads : List ReadLine) (j : JobValue) : Type 0 where
   pub line : j.line < 2 ^ 63
   pub short : j.bytes ≤ 262_144
-  pub among : (s : ℕ) (q : ReadRequest) → j.work ≡ read s q → IsAmong reads j.line q
+  pub among : (s : ℕ) (q : ReadSet) → j.work ≡ read s q → IsAmong reads j.line q
 
 -- the job of a read, whose length is told nobody
 abbrev pub job_of_read : ReadLine → JobValue
-job_of_read r = record { line = r.line; bytes = 0; work = read r.session (read_view r.request) }
+job_of_read r = record { line = r.line; bytes = 0; work = read r.session (read_set_view r.request) }
 
 -- the job of a write
 abbrev pub job_of_write : WriteLine → JobValue

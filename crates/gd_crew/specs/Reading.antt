@@ -2,7 +2,7 @@
 use Rattle.std.specs.Prelude.{◌≡◌, ℕ, ◌≤◌, List, length, Option, Some, None, Ok, IfSome, option_map}
 use Rattle.std.specs.Global.{Vec}
 use mathlib.Core.List.{IsPrefix}
-use Rattle.gd_runs.specs.Request.{ReadRequest, reply_of}
+use Rattle.gd_runs.specs.Request.{ReadSet, reply_of}
 use Rattle.gd_runs.specs.Core as core
 use Rattle.gd_shared.specs.Shared.{SeatValue}
 use Rattle.gd_seats.specs.Session.{SessionValue, reads, seen_of}
@@ -18,7 +18,7 @@ pub record SeatGrows (old new : SeatValue) : Type 0 where
   pub turned_away : new.turned_away ≡ old.turned_away
 
 -- a session holds the reading of a request that began at all that it then entered, which is no less than it had seen
-pub record BeginsReading (old new : SessionValue) (q : ReadRequest) (n : ℕ) : Type 0 where
+pub record BeginsReading (old new : SessionValue) (q : ReadSet) (n : ℕ) : Type 0 where
   pub seat : SeatGrows old.seat new.seat
   pub begun : core.Reading
   pub of : core.reading_of new.seat.entered (length new.seat.entered) q ≡ Ok begun
@@ -27,7 +27,7 @@ pub record BeginsReading (old new : SessionValue) (q : ReadRequest) (n : ℕ) : 
   pub late : seen_of old.seat ≤ length new.seat.entered
 
 -- the reply line of line k of a read at a snapshot, which is no less than the session had seen, and no reading is held
-pub record RepliesAtOnce (old new : SessionValue) (k : ℕ) (q : ReadRequest) (n : ℕ) (reply : Option (List ℕ)) : Type 0 where
+pub record RepliesAtOnce (old new : SessionValue) (k : ℕ) (q : ReadSet) (n : ℕ) (reply : Option (List ℕ)) : Type 0 where
   pub seat : SeatGrows old.seat new.seat
   pub none : reads new ≡ None
   pub is : IfSome reply (λ bytes. (seen_of old.seat ≤ n) × (n ≤ length new.seat.entered) × (bytes ≡ reply_of new.seat.entered n k q))
@@ -43,7 +43,7 @@ abbrev pub bytes_of : Option (Vec ℕ) → Option (List ℕ)
 bytes_of reply = option_map (λ bytes. bytes.items) reply
 
 -- a turn that begins a read
-abbrev pub BeginTurn : SessionValue → ℕ → ReadRequest → ReadTurn → SessionValue → Type 0
+abbrev pub BeginTurn : SessionValue → ℕ → ReadSet → ReadTurn → SessionValue → Type 0
 BeginTurn old k q (turn.Going n) new = BeginsReading old new q n
 BeginTurn old k q (turn.Answered n reply) new = RepliesAtOnce old new k q n (bytes_of reply)
 BeginTurn old k q turn.Shut new = WasTurnedAway old new
@@ -55,6 +55,6 @@ SliceTurn old at k (turn.Answered n reply) new = RepliesOwed old new k (bytes_of
 SliceTurn old at k turn.Shut new = WasTurnedAway old new
 
 -- a turn, with the snapshot of the reading that is held, if one is
-abbrev pub TurnsRead : SessionValue → Option ℕ → ℕ → ReadRequest → ReadTurn → SessionValue → Type 0
+abbrev pub TurnsRead : SessionValue → Option ℕ → ℕ → ReadSet → ReadTurn → SessionValue → Type 0
 TurnsRead old None k q what new = BeginTurn old k q what new
 TurnsRead old (Some at) k q what new = SliceTurn old at k what new

@@ -8,6 +8,7 @@ use Rattle.gd_defs.specs.Write.{WriteRequest}
 use Rattle.gd_runs.specs.Legal.{Entry, History, batches, size}
 use Rattle.gd_runs.specs.Explained.{Numbered}
 use Rattle.gd_runs.specs.Side.{Told, Begun, KeepsHistory, KeepsRound, doubt_groups, session_lines}
+use Rattle.gd_core_laws.specs.Fronts.{StandsBetween, GrowsTold}
 use Rattle.gd_core_laws.specs.Round.{begun_at}
 use Rattle.gd_core_laws.specs.Writes.{AreNew}
 use Rattle.gd_writer.specs.Parts.{Tells}
@@ -81,12 +82,14 @@ pub record BeginsRound {D C : Type 0} (content : D → Option (List ℕ)) (momen
   pub outcomes : side.outcomes ≡ []
   pub fresh : AreNew (begun l)
 
--- What the lock keeps, beside what a side keeps: its publisher is of the table that the round names, its clock may give just the numbers that it names, its disk tells its content just where it did when the round began, its count has not fallen, and the facts of the definition's lock hold. Where the disk tells its content, all that a stop has left since then stands for what the lock may keep.
+-- What the lock keeps, beside what a side keeps: its publisher is of the table that the round names, its clock may give just the numbers that it names, its disk tells its content just where it did when the round began, its count has not fallen, and the facts of the definition's lock hold. Where the disk tells its content, all that a stop has left since then stands for what the lock may keep, and for a front of the history that the side has, or that and one batch in doubt.
 pub record IsLocked {D C : Type 0} (content : D → Option (List ℕ)) (moment : D → ℕ) (images : D → List ℕ → Type 0) (images_since : D → ℕ → List ℕ → Type 0) (faults : D → ℕ) (may : C → ℕ → Bool) (l : Named) (side : SideValue D C) : Type 0 where
   pub table : side.table ≡ l.table
   pub clock : may side.clock ≡ l.may
   pub told : is_some (content side.log.disk) ≡ l.told
   pub moments : Tells (content side.log.disk) → LeavesSince moment images images_since l.moment side.log.disk (StandsInRound l.may (begun l))
+  pub grows : GrowsTold l.history l.doubt [] side.history side.doubt side.outcomes
+  pub fronts : Tells (content side.log.disk) → LeavesSince moment images images_since l.moment side.log.disk (StandsBetween l.history l.doubt side.history side.outcomes)
   pub later : l.faults ≤ faults side.log.disk
   pub new : List Entry
   pub lock : KeepsRound (begun l) side.history (length side.shown) side.doubt (min (faults side.log.disk) most) most side.outcomes new

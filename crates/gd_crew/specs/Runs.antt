@@ -5,7 +5,7 @@ use mathlib.Core.List.{IsPrefix}
 use Rattle.logbook.specs.Pages.{Book}
 use Rattle.gd_base.specs.Counts.{Rose}
 use Rattle.gd_prim.specs.declared.Batch.{Batch}
-use Rattle.gd_runs.specs.Request.{Line, read, write, ReadRequest, reply_of}
+use Rattle.gd_runs.specs.Request.{Line, read, write, ReadSet, reply_of}
 use Rattle.gd_runs.specs.Core.{Reading, reading_of}
 use Rattle.gd_runs.specs.Side.{WriteLine, Begun}
 use Rattle.gd_core_laws.specs.Round.{one_write}
@@ -74,7 +74,7 @@ pub record AreOfRound (l : Begun) (sid : ℕ) (jobs : List JobValue) : Type 0 wh
 -- bytes are the reply to a read job at a snapshot of a list, which is at least this number
 pub record RepliesAt (floor : ℕ) (list : List Batch) (j : JobValue) (at : ℕ) (bytes : List ℕ) : Type 0 where
   pub session : ℕ
-  pub request : ReadRequest
+  pub request : ReadSet
   pub asks : j.work ≡ read session request
   pub late : floor ≤ at
   pub within : at ≤ length list
@@ -102,7 +102,7 @@ pub record IsReading (floor : ℕ) (v : Share) (r : Reading) : Type 0 where
   pub job : JobValue
   pub there : slice_get v.jobs v.done ≡ Some job
   pub session : ℕ
-  pub request : ReadRequest
+  pub request : ReadSet
   pub asks : job.work ≡ read session request
   pub at : ℕ
   pub began : v.at ≡ Some at

@@ -2,7 +2,7 @@
 use Rattle.std.specs.Prelude.{◌≡◌, ℕ, ◌+◌, ◌<◌, ◌≤◌, List, [], ◌∷◌, ◌++◌, length, map, Option, Some, None, Result, Ok, Err, slice_index_or, vec_capacity}
 use Rattle.logbook.specs.Pages.{Book}
 use Rattle.gd_base.specs.declared.memory.Memory.{Memory}
-use Rattle.gd_mql.specs.Requests.{read_view, write_view}
+use Rattle.gd_mql.specs.Requests.{read_set_view, write_view}
 use Rattle.gd_runs.specs.Request.{Line, read, write}
 use Rattle.gd_runs.specs.Side.{Begun}
 use Rattle.gd_seats.specs.Session.{SessionValue, reads as what_reads}
@@ -19,7 +19,7 @@ use Rattle.gd_crew.specs.Runs.{JobValue, ReplyValue, Share, reads, BeginsShare, 
 
 -- the read or the write that this refers to
 abbrev pub work_view : Work → Line
-work_view (Read sid r) = read sid (read_view r.now)
+work_view (Read sid r) = read sid (read_set_view r.now)
 work_view (Write sid w) = write sid (write_view w.now)
 
 -- the job that this is

@@ -2,7 +2,7 @@
 use Rattle.std.specs.Prelude.{◌≡◌, ℕ, ◌+◌, ◌≤◌, ◌⊎◌, List, [], ◌∷◌, ◌++◌, length, Option, Some, None, Ok, IfSome}
 use mathlib.Core.List.{IsPrefix}
 use Rattle.gd_base.specs.Counts.{Rose}
-use Rattle.gd_runs.specs.Request.{ReadRequest, reply_of}
+use Rattle.gd_runs.specs.Request.{ReadSet, reply_of}
 use Rattle.gd_runs.specs.Core.{Reading, reading_of, owed_line}
 use Rattle.gd_crew.specs.declared.job.StopCause.{StopCause}
 use Rattle.gd_crew.specs.declared.job.StopCause.TheVariants as cause
@@ -45,7 +45,7 @@ pub record Halts (v : Share) (j : JobValue) (why : StopCause) (w : Share) : Type
   pub stop : w.stop ≡ Some (record { line = j.line; cause = why })
 
 -- A turn at a read job: it begins a reading at the list that it then entered, or goes on with the one that it holds; a reply that is no reading's is kept, or the one that its reading owes, or want of memory; or it is turned away.
-pub data ReadTurn (v : Share) (j : JobValue) (q : ReadRequest) (w : Share) : Type 0 where
+pub data ReadTurn (v : Share) (j : JobValue) (q : ReadSet) (w : Share) : Type 0 where
   begins : (r : Reading) → Grows v w → seen_of v ≤ length w.entered → reading_of w.entered (length w.entered) q ≡ Ok r → w.reading ≡ Some r → w.at ≡ Some (length w.entered) → Waits v w → ReadTurn v j q w
   goes_on : Grows v w → w.reading ≡ v.reading → w.at ≡ v.at → Waits v w → ReadTurn v j q w
   is_refused : (at : ℕ) (reply : Option (List ℕ)) → Grows v w → IfSome reply (λ bytes. (seen_of v ≤ at) × (at ≤ length w.entered) × (bytes ≡ reply_of w.entered at j.line q)) → Answers v j at reply w → ReadTurn v j q w

@@ -1,5 +1,5 @@
 //! The workers of a round, with the seats and the jobs of its sessions.
-ghost use Rattle.std.specs.Prelude.{◌≡◌, ◌≤◌, ◌<◌, ◌+◌, length, vec_capacity, IfOk, OnOk, OnErr};
+ghost use Rattle.std.specs.Prelude.{◌≡◌, ◌≤◌, ◌<◌, ◌+◌, length, vec_capacity, IfOk, OnOk};
 ghost use Rattle.std.specs.Prelude.{MatchResult};
 ghost use Rattle.std.specs.List.{All};
 ghost use Rattle.gd_crew.specs.Jobs.{AreNumbered};
@@ -137,17 +137,6 @@ fn seat<'a>(
     seat_among(alloc, &mut worker.seated, sid, shown, works, seats)
 }
 
-/// Whether there is a seat for each session. `Memory`: there are fewer seats than sessions.
-fn seats_for(sessions: &[u32], seats: &[Session]) -> Result<(), Memory>
-    ensures enough { OnOk result (length sessions.now ≤ length seats.now) }
-    ensures fewer { OnErr result (length seats.now < length sessions.now) }
-{
-    if seats.len() < sessions.len() {
-        return Err(Memory);
-    }
-    Ok(())
-}
-
 /// Lends seats to these sessions, in their order. `Memory`: an allocation was refused.
 fn seat_all<'a, D: Disk, C: Clock>(
     alloc: Global,
@@ -181,8 +170,8 @@ fn seat_all<'a, D: Disk, C: Clock>(
 
 /// Lends a seat to each session that has a line in a round, which learns of all that is shown, with
 /// its reads and writes. Session `s` goes to worker `s` modulo `workers`; one who has no session is
-/// left out. A slice of a read has this budget of steps. `Memory`: an allocation was refused, or
-/// there are fewer seats than sessions; the seats are back, and nobody works.
+/// left out. A slice of a read has this budget of steps. Where there are fewer seats than sessions
+/// nobody works. `Memory`: an allocation was refused; the seats are back, and nobody works.
 pub fn assign<'a, D: Disk, C: Clock>(
     alloc: Global,
     workers: u32,
@@ -204,7 +193,9 @@ pub fn assign<'a, D: Disk, C: Clock>(
     ensures capacity { vec_capacity seats.new ≡ vec_capacity seats.old }
 {
     let sessions = sessions_of(alloc, works)?;
-    seats_for(sessions.as_slice(), seats.as_slice())?;
+    if seats.len() < sessions.len() {
+        return Ok(Vec::new(alloc));
+    }
     let mut hired = Vec::new(alloc);
     match seat_all(
         alloc,

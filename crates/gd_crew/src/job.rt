@@ -1,10 +1,10 @@
 //! What a worker has to do, and what it did.
-use gd_mql::request::{ReadRequest, WriteRequest};
+use gd_mql::request::{ReadSet, WriteRequest};
 
 /// What a job asks: a read or a write of a session, whose request stays with the caller.
 #[derive(Clone, Copy)]
 pub enum Work<'a> {
-    Read { sid: u32, request: &'a ReadRequest },
+    Read { sid: u32, request: &'a ReadSet },
     Write { sid: u32, request: &'a WriteRequest },
 }
 

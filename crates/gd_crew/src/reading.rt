@@ -1,12 +1,12 @@
 //! A turn of a session at a read line.
 ghost use Rattle.std.specs.Prelude.{◌≡◌, ◌≢◌, ◌<◌, ◌≤◌, ◌+◌, ◌^◌, None, Some, IfOk, is_some};
-ghost use Rattle.gd_mql.specs.Requests.{read_view};
+ghost use Rattle.gd_mql.specs.Requests.{read_set_view};
 ghost use Rattle.gd_seats.specs.Session.{reads};
 ghost use Rattle.gd_crew.specs.Reading.{BeginTurn, SliceTurn, TurnsRead};
 
 use gd_base::memory::Memory;
 use gd_base::steps::Steps;
-use gd_mql::request::ReadRequest;
+use gd_mql::request::ReadSet;
 use gd_outside::gate::Gate;
 use gd_read::reading::Progress;
 use gd_seats::fault::SessionFault;
@@ -25,8 +25,8 @@ pub(crate) enum ReadTurn {
 }
 
 /// The same read again.
-fn again(request: &ReadRequest) -> Result<ReadRequest, Memory>
-    ensures { IfOk result (λ copied. read_view copied ≡ read_view request.now) }
+fn again(request: &ReadSet) -> Result<ReadSet, Memory>
+    ensures { IfOk result (λ copied. read_set_view copied ≡ read_set_view request.now) }
 {
     request.copy()
 }
@@ -36,12 +36,12 @@ fn begin_read<L>(
     session: &mut Session,
     alloc: Global,
     line: u64,
-    request: &ReadRequest,
+    request: &ReadSet,
     steps: &mut Steps<L>,
 ) -> ReadTurn
     requires line { line < 2 ^ 63 }
     requires none { reads session.old ≡ None }
-    ensures { BeginTurn session.old line (read_view request.now) result session.new }
+    ensures { BeginTurn session.old line (read_set_view request.now) result session.new }
 {
     let Ok(request) = again(request) else {
         return ReadTurn::Answered { at: 0, reply: None };
@@ -92,13 +92,13 @@ pub(crate) fn read_turn<G: Gate, L>(
     at: Option<u32>,
     budget: u64,
     line: u64,
-    request: &ReadRequest,
+    request: &ReadSet,
     steps: &mut Steps<L>,
 ) -> ReadTurn
     requires line { line < 2 ^ 63 }
     requires budget { (0 < budget) × (budget ≤ 1_000_000) }
     requires held { is_some at ≡ is_some (reads session.old) }
-    ensures { TurnsRead session.old at line (read_view request.now) result session.new }
+    ensures { TurnsRead session.old at line (read_set_view request.now) result session.new }
 {
     match at {
         Some(at) => slice_read(session, alloc, at, budget, line, steps),

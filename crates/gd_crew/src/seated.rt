@@ -1,7 +1,7 @@
 //! A session with its jobs in a round.
 ghost use Rattle.std.specs.Prelude.{◌≡◌, ◌≢◌, ◌<◌, ◌≤◌, ◌+◌, ◌^◌, ◌++◌, ◌∷◌, [], length, map, None};
 ghost use Rattle.std.specs.Prelude.{Some, IfOk, IfErr, false, slice_get, vec_capacity};
-ghost use Rattle.gd_mql.specs.Requests.{read_view, write_view};
+ghost use Rattle.gd_mql.specs.Requests.{read_set_view, write_view};
 ghost use Rattle.gd_crew.specs.Round.{begun};
 ghost use Rattle.gd_crew.specs.Runs.{RunsPart, IsOver, Share};
 ghost use Rattle.gd_crew.specs.Seated.{share_of, IsNew, TakesRead, TakesWritten};

@@ -1,2 +1,3 @@
 mod WordRows
 mod PropertyRows
+pub mod Directives

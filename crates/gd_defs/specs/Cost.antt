@@ -1,5 +1,5 @@
 -- What it costs to resolve a query: how many ids and keys it has, and how much is said of the objects that its words and languages lead to.
-use Rattle.std.specs.Prelude.{ℕ, ◌+◌, List, length, sum_by, Bool, ◌&&◌, ◌||◌, Option, Some, None, if◌then◌else◌, codes, bytes_eq}
+use Rattle.std.specs.Prelude.{ℕ, ◌+◌, List, length, sum_by, ◌&&◌, ◌||◌, Option, Some, None, if◌then◌else◌, codes, bytes_eq}
 use Rattle.gd_prim.specs.declared.Primitive.{Primitive}
 use Rattle.gd_prim.specs.Live.{refers, places_where}
 use Rattle.gd_defs.specs.Ids.{id_keys, path_keys, object_of}

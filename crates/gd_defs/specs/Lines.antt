@@ -11,6 +11,11 @@ abbrev pub object_of : List (List ℕ × Json) → Members
 object_of [] = no_members
 object_of (m ∷ ms) = member m.0 m.1 (object_of ms)
 
+-- the items of a list that are these values
+abbrev pub items_of : List Json → Items
+items_of [] = no_items
+items_of (j ∷ js) = item j (items_of js)
+
 -- the items of a list that are these texts
 abbrev pub texts : List (List ℕ) → Items
 texts [] = no_items

@@ -3,7 +3,7 @@ pub mod Faults
 pub mod Names
 pub mod Operands
 pub mod Directive
-pub use Rattle.gd_defs.specs.Query.Faults.{Code, envelope, list_form, bad_word, left_out, bad_directive, bad_operand, bad_write, bad_create, bad_connect, bad_value, bad_operator, value_reversed, object_form, bad_sort, not_met, bad_previous, bad_lang, Fault, root_fault, fault, or_fault, within}
+pub use Rattle.gd_defs.specs.Query.Faults.{Code, envelope, list_form, bad_word, left_out, bad_directive, bad_operand, bad_write, bad_create, bad_connect, bad_value, bad_operator, value_reversed, object_form, bad_sort, not_met, bad_previous, bad_lang, Fault, root_fault, or_root, fault, or_fault, within, each_numbered}
 pub use Rattle.gd_defs.specs.Query.Names.{Operator, no_operator, one_of, differs, below, at_most, above, at_least, words, Name, is_path, name_of, has_operator, is_left_out, is_word, is_identity, is_computed, is_link}
 pub use Rattle.gd_defs.specs.Query.Operands.{is_literal, is_id_text, all_items, operand_fits}
 pub use Rattle.gd_defs.specs.Query.Directive.{Mode, required, optional, forbidden, SortWord, Directives, no_directives, is_directive, mode_of, limit_of, sort_of, is_count}

@@ -18,7 +18,7 @@ use Rattle.gd_defs.specs.Query as query
 use Rattle.gd_defs.specs.Property.{answers, answer_datum, first}
 use Rattle.gd_defs.specs.Asked.{Own, its_id, its_namespace, its_lang, Style, as_operand, as_value, as_id, as_clause, SortKey, Asking, Members, no_members, own, asks, Asked, asked_query, Unknown, no_such_id, no_such_property, bad_query, name_property}
 use Rattle.gd_defs.specs.Rows.{Row, row_cmp, own_datum, met, printed, rows, candidates, row_weight}
-use Rattle.gd_defs.specs.Lines.{Refusal, refusal, refused_at, too_wide, too_large, ok_line, ok_cursor_line, err_line, count_json, texts}
+use Rattle.gd_defs.specs.Lines.{Refusal, object_of, refusal, refused_at, too_wide, too_large, ok_line, ok_cursor_line, err_line, count_json, texts}
 
 -- ---- codes as they print
 
@@ -200,11 +200,30 @@ max_reply = 1_048_576
 abbrev pub within_reply : ℕ → ℕ → List ℕ → List ℕ
 within_reply dateline line bytes = if nat_lt max_reply (length bytes) then err_line dateline line (too_large (length bytes)) else bytes
 
+-- what a query comes to: its result, with the cursor where one is asked, or its refusal
+abbrev pub Answer : Type 0
+Answer = Result (Option Json × Json) Refusal
+
+-- what a page comes to, with its cursor where one is asked, or the refusal of two answers
+abbrev pub page_answer : Option Json → Result Json Path → Answer
+page_answer cursor (Err path) = Err (refused_at (codes "NotUnique") path)
+page_answer cursor (Ok j) = Ok (cursor, j)
+
+-- the reply line of an answer
+abbrev pub answer_line : ℕ → ℕ → Answer → List ℕ
+answer_line dateline line (Err r) = err_line dateline line r
+answer_line dateline line (Ok (None, j)) = within_reply dateline line (ok_line dateline line j)
+answer_line dateline line (Ok (Some c, j)) = within_reply dateline line (ok_cursor_line dateline line c j)
+
+-- an answer as it prints among others
+abbrev pub answer_item : Answer → Json
+answer_item (Err r) = object (object_of ((codes "error", text r.error) ∷ (codes "info", object r.info) ∷ []))
+answer_item (Ok (None, j)) = object (object_of ((codes "result", j) ∷ []))
+answer_item (Ok (Some c, j)) = object (object_of ((codes "cursor", c) ∷ (codes "result", j) ∷ []))
+
 -- the reply line of a page, with its cursor where one is asked, or the refusal of two answers
 abbrev pub result_line : ℕ → ℕ → Option Json → Result Json Path → List ℕ
-result_line dateline line cursor (Err path) = err_line dateline line (refused_at (codes "NotUnique") path)
-result_line dateline line None (Ok j) = within_reply dateline line (ok_line dateline line j)
-result_line dateline line (Some c) (Ok j) = within_reply dateline line (ok_cursor_line dateline line c j)
+result_line dateline line cursor r = answer_line dateline line (page_answer cursor r)
 
 -- a candidate of the query weighs too much
 abbrev pub has_heavy_candidate : List Primitive → Asked → Bool
@@ -218,19 +237,31 @@ is_heavy_page prims q after = not q.count && nat_lt max_page_weight (sum_by (λ 
 abbrev pub is_too_wide : List Primitive → Asked → Option Mark → Bool
 is_too_wide prims q after = has_heavy_candidate prims q || is_heavy_page prims q after
 
+-- what a query with its words looked up comes to, for the page after a mark
+abbrev pub asked_answer : List Primitive → ℕ → Bool → Option Mark → Asked → Answer
+asked_answer prims dateline with_cursor after q =
+    if has_heavy_candidate prims q then Err (too_wide (max_candidate_weight + 1))
+    else if is_heavy_page prims q after then Err (too_wide (max_page_weight + 1))
+    else page_answer (if with_cursor then Some (page_cursor dateline (page prims q after) (has_more prims q after)) else None)
+    (result_json prims q (rows_after prims q after) (page prims q after))
+
+-- what a query that may have no meaning at the dateline comes to
+abbrev pub meant_answer : List Primitive → ℕ → Bool → Option Mark → Result Asked Unknown → Answer
+meant_answer prims dateline with_cursor after (Err u) = Err (unknown_refusal u)
+meant_answer prims dateline with_cursor after (Ok q) = asked_answer prims dateline with_cursor after q
+
+-- what a query comes to at a dateline, for the page after a mark; it has a cursor where one is asked
+abbrev pub answer : List Primitive → ℕ → Bool → Option Mark → Query → Answer
+answer prims dateline with_cursor after q = meant_answer prims dateline with_cursor after (asked_query prims q)
+
 -- the reply line to a query with its words looked up, for the page after a mark
 abbrev pub asked_line : List Primitive → ℕ → ℕ → Bool → Option Mark → Asked → List ℕ
-asked_line prims dateline line with_cursor after q =
-    if has_heavy_candidate prims q then err_line dateline line (too_wide (max_candidate_weight + 1))
-    else if is_heavy_page prims q after then err_line dateline line (too_wide (max_page_weight + 1))
-    else result_line dateline line (if with_cursor then Some (page_cursor dateline (page prims q after) (has_more prims q after)) else None)
-    (result_json prims q (rows_after prims q after) (page prims q after))
+asked_line prims dateline line with_cursor after q = answer_line dateline line (asked_answer prims dateline with_cursor after q)
 
 -- the reply line to a query that may have no meaning at the dateline
 abbrev pub meant_line : List Primitive → ℕ → ℕ → Bool → Option Mark → Result Asked Unknown → List ℕ
-meant_line prims dateline line with_cursor after (Err u) = err_line dateline line (unknown_refusal u)
-meant_line prims dateline line with_cursor after (Ok q) = asked_line prims dateline line with_cursor after q
+meant_line prims dateline line with_cursor after r = answer_line dateline line (meant_answer prims dateline with_cursor after r)
 
--- the reply line to a query at a dateline, for the page after a mark; it has a cursor where one is asked
+-- the reply line to a query at a dateline, for the page after a mark
 abbrev pub reply : List Primitive → ℕ → ℕ → Bool → Option Mark → Query → List ℕ
-reply prims dateline line with_cursor after q = meant_line prims dateline line with_cursor after (asked_query prims q)
+reply prims dateline line with_cursor after q = answer_line dateline line (answer prims dateline with_cursor after q)

@@ -8,7 +8,7 @@ use gd_fault::fault::LineFault;
 use gd_json::from::{JsonFault, json_from};
 use gd_json::value::JsonText;
 use gd_mql::line::LINE_LIMIT;
-use gd_mql::request::{ReadRequest, WriteRequest};
+use gd_mql::request::{ReadSet, WriteRequest};
 use std::alloc::Global;
 
 /// What one line asks of the core. A session is a number from 0 to 63.
@@ -17,7 +17,7 @@ pub enum Event {
     /// The session begins a read, and drops the reading that it held.
     Begin {
         sid: u32,
-        request: ReadRequest,
+        request: ReadSet,
     },
     /// The session goes on with its reading for a budget of steps, from 1 to 1,000,000.
     Slice {
@@ -41,7 +41,7 @@ pub enum Event {
     /// The session begins a read from the text of a reading.
     Thaw {
         sid: u32,
-        request: ReadRequest,
+        request: ReadSet,
         text: JsonText,
     },
     /// The store is closed and opened again.

@@ -1,5 +1,5 @@
 -- The directives of a clause, which its members spell.
-use Rattle.std.proofs.Common.{◌≡◌, ℕ, List, [], ◌∷◌, Bool, true, false, Option, Some, None, Result, Ok, Err, codes, refl, sym, ap, ◌∙◌, subst}
+use Rattle.std.proofs.Common.{◌≡◌, ℕ, List, [], ◌∷◌, Bool, true, false, Option, Some, None, Result, Ok, Err, refl, sym, ap, ◌∙◌}
 use Rattle.std.specs.Prelude.{if◌then◌else◌, bytes_eq, ◌&&◌}
 use Rattle.std.specs.Option.{ok_or}
 use Rattle.std.specs.Result.{result_err}
@@ -10,6 +10,7 @@ use Rattle.gd_tree.specs.Json.{Json, Members as JsonMembers, no_members as no_js
 use Rattle.gd_tree.specs.Look.{get}
 use Rattle.gd_defs.specs.Query as query
 use Rattle.gd_defs.specs.Query.{Fault, Form, Name, Clause, Directives, Mode, SortWord, no_directives, with_directive, with_member, member_name, form_or_operand, form_of, clause_of, clause_or_default, or_fault, bad_directive, is_directive, mode_of, limit_of, sort_of, is_count, optional}
+use Rattle.gd_defs.proofs.Directives.{optional_name, sort_name, limit_name, return_name, each_name, IsOther, other_name}
 use Rattle.gd_form_laws.specs.Faults.{clause_fault}
 use Rattle.gd_form_laws.specs.Spelled.{clause_or, spelled_clause, spelled_directives}
 use Rattle.gd_form_laws.proofs.First.{given}
@@ -66,50 +67,43 @@ name_head (Err e) f d none = cc
 abbrev HeadIs : Bool → List ℕ → Json → JsonMembers → Type 0
 HeadIs root k j ms = result_err (clause_of root (json_member k j ms)) ≡ None → head (clause_of root (json_member k j ms)) ≡ spelled_directives (json_member k j ms)
 
-at_optional : (root : Bool) (j : Json) (ms : JsonMembers) (d : Clause) → clause_of root ms ≡ Ok d → d.0 ≡ spelled_directives ms → HeadIs root (codes "optional") j ms
+at_optional : (root : Bool) (j : Json) (ms : JsonMembers) (d : Clause) → clause_of root ms ≡ Ok d → d.0 ≡ spelled_directives ms → HeadIs root optional_name j ms
 at_optional root j ms d rest heads none =
-    let whole : clause_of root (json_member (codes "optional") j ms) ≡ clauses (or_fault bad_directive (codes "optional") (if root then None else mode_of j)) (λ m. (record d.0 { mode = Some m }, d.1)) = rw rest refl in
+    let whole : clause_of root (json_member optional_name j ms) ≡ clauses (or_fault bad_directive optional_name (if root then None else mode_of j)) (λ m. (record d.0 { mode = Some m }, d.1)) = rw rest refl in
     ap head whole ∙ (optional_head root (mode_of j) d _ (sym (ap result_err whole) ∙ none) ∙ ap (λ (h : Directives). record h { mode = mode_of j }) heads)
 
-at_limit : (root : Bool) (j : Json) (ms : JsonMembers) (d : Clause) → clause_of root ms ≡ Ok d → d.0 ≡ spelled_directives ms → HeadIs root (codes "limit") j ms
+at_limit : (root : Bool) (j : Json) (ms : JsonMembers) (d : Clause) → clause_of root ms ≡ Ok d → d.0 ≡ spelled_directives ms → HeadIs root limit_name j ms
 at_limit root j ms d rest heads none =
-    let whole : clause_of root (json_member (codes "limit") j ms) ≡ clauses (or_fault bad_directive (codes "limit") (limit_of j)) (λ n. (record d.0 { limit = Some n }, d.1)) = rw rest refl in
+    let whole : clause_of root (json_member limit_name j ms) ≡ clauses (or_fault bad_directive limit_name (limit_of j)) (λ n. (record d.0 { limit = Some n }, d.1)) = rw rest refl in
     ap head whole ∙ (limit_head (limit_of j) d _ (sym (ap result_err whole) ∙ none) ∙ ap (λ (h : Directives). record h { limit = limit_of j }) heads)
 
-at_sort : (root : Bool) (j : Json) (ms : JsonMembers) (d : Clause) → clause_of root ms ≡ Ok d → d.0 ≡ spelled_directives ms → HeadIs root (codes "sort") j ms
+at_sort : (root : Bool) (j : Json) (ms : JsonMembers) (d : Clause) → clause_of root ms ≡ Ok d → d.0 ≡ spelled_directives ms → HeadIs root sort_name j ms
 at_sort root j ms d rest heads none =
-    let whole : clause_of root (json_member (codes "sort") j ms) ≡ clauses (or_fault bad_directive (codes "sort") (sort_of j)) (λ ws. (d.0, query.sort_by ws d.1)) = rw rest refl in
+    let whole : clause_of root (json_member sort_name j ms) ≡ clauses (or_fault bad_directive sort_name (sort_of j)) (λ ws. (d.0, query.sort_by ws d.1)) = rw rest refl in
     ap head whole ∙ (sort_head (sort_of j) d _ (sym (ap result_err whole) ∙ none) ∙ heads)
 
-at_return : (root : Bool) (j : Json) (ms : JsonMembers) (d : Clause) → clause_of root ms ≡ Ok d → d.0 ≡ spelled_directives ms → HeadIs root (codes "return") j ms
+at_return : (root : Bool) (j : Json) (ms : JsonMembers) (d : Clause) → clause_of root ms ≡ Ok d → d.0 ≡ spelled_directives ms → HeadIs root return_name j ms
 at_return root j ms d rest heads none =
-    let whole : clause_of root (json_member (codes "return") j ms) ≡ counts (root && is_count j) d (record { code = bad_directive; path = codes "return" ∷ [] }) = rw rest refl in
+    let whole : clause_of root (json_member return_name j ms) ≡ counts (root && is_count j) d (record { code = bad_directive; path = return_name ∷ [] }) = rw rest refl in
     ap head whole ∙ (count_head (root && is_count j) d _ (sym (ap result_err whole) ∙ none) ∙ ap (λ (h : Directives). record h { count = true }) heads)
 
-at_name : (root : Bool) (k : List ℕ) (j : Json) (ms : JsonMembers) (d : Clause) → clause_of root ms ≡ Ok d → d.0 ≡ spelled_directives ms → is_directive k ≡ false → bytes_eq k (codes "optional") ≡ false → bytes_eq k (codes "limit") ≡ false
-    → bytes_eq k (codes "return") ≡ false → HeadIs root k j ms
-at_name root k j ms d rest heads other o l r none =
+at_name : (root : Bool) (k : List ℕ) (j : Json) (ms : JsonMembers) (d : Clause) → clause_of root ms ≡ Ok d → d.0 ≡ spelled_directives ms → is_directive k ≡ false → HeadIs root k j ms
+at_name root k j ms d rest heads other none =
     let whole : clause_of root (json_member k j ms) ≡ (member_name root k >>= λ n. clauses (form_or_operand n j (form_of n j)) (λ x. with_member n x d)) = rw (other, rest) refl in
     ap head whole ∙ (name_head (member_name root k) (λ n. form_or_operand n j (form_of n j)) d (sym (ap result_err whole) ∙ none) ∙ (heads ∙ same))
   where
-    same : spelled_directives ms ≡ spelled_directives (json_member k j ms)
-    same = rw (passed (codes "optional") k j ms o, passed (codes "limit") k j ms l, passed (codes "return") k j ms r) refl
+    no : IsOther k
+    no = other_name k other
 
-renamed : (root : Bool) (k l : List ℕ) (j : Json) (ms : JsonMembers) → bytes_eq k l ≡ true → HeadIs root l j ms → HeadIs root k j ms
-renamed root k l j ms same is = subst (λ (k : List ℕ). HeadIs root k j ms) (sym ((bytes_eq-Decides k l).0 same)) is
+    same : spelled_directives ms ≡ spelled_directives (json_member k j ms)
+    same = rw (passed optional_name k j ms no.no_optional, passed limit_name k j ms no.no_limit, passed return_name k j ms no.no_return) refl
 
 first_head : (root : Bool) (k : List ℕ) (j : Json) (ms : JsonMembers) (d : Clause) → clause_of root ms ≡ Ok d → d.0 ≡ spelled_directives ms → HeadIs root k j ms
-first_head root k j ms d rest heads =
-    by (bytes_eq k (codes "optional")) (bytes_eq k (codes "sort")) (bytes_eq k (codes "limit")) (bytes_eq k (codes "return")) refl refl refl refl
+first_head root k j ms d rest heads = by (is_directive k) refl
   where
-    by : (o s l r : Bool) → bytes_eq k (codes "optional") ≡ o → bytes_eq k (codes "sort") ≡ s → bytes_eq k (codes "limit") ≡ l → bytes_eq k (codes "return") ≡ r → HeadIs root k j ms
-    by true s l r o_is s_is l_is r_is = renamed root k (codes "optional") j ms o_is (at_optional root j ms d rest heads)
-    by false true l r o_is s_is l_is r_is = renamed root k (codes "sort") j ms s_is (at_sort root j ms d rest heads)
-    by false false true r o_is s_is l_is r_is = renamed root k (codes "limit") j ms l_is (at_limit root j ms d rest heads)
-    by false false false true o_is s_is l_is r_is = renamed root k (codes "return") j ms r_is (at_return root j ms d rest heads)
-    by false false false false o_is s_is l_is r_is =
-        let none : is_directive k ≡ false = rw (o_is, s_is, l_is, r_is) refl in
-        at_name root k j ms d rest heads none o_is l_is r_is
+    by : (b : Bool) → is_directive k ≡ b → HeadIs root k j ms
+    by true is = each_name (λ k. HeadIs root k j ms) (at_optional root j ms d rest heads) (at_sort root j ms d rest heads) (at_limit root j ms d rest heads) (at_return root j ms d rest heads) k is
+    by false other = at_name root k j ms d rest heads other
 
 -- the directives of a clause without a fault
 heads-told : (root : Bool) (ms : JsonMembers) → clause_fault root ms ≡ None → head (clause_of root ms) ≡ spelled_directives ms

@@ -1,11 +1,13 @@
 -- What a clause without a fault of form spells, member by member.
-use Rattle.std.proofs.Common.{◌≡◌, ℕ, List, Bool, true, false, not, ◌||◌, Option, Some, None, Result, Ok, Err, codes, refl, sym, ap, ◌∙◌}
+use Rattle.std.proofs.Common.{◌≡◌, ℕ, List, Bool, true, false, not, ◌||◌, Option, Some, None, Result, Ok, Err, refl, sym, ap, ◌∙◌}
 use Rattle.std.specs.Prelude.{if◌then◌else◌, option_map, bytes_eq, ◌&&◌}
 use Rattle.std.specs.Result.{result_err}
+use Rattle.gd_grammar.specs.Chain.{◌>>=◌}
 use Rattle.gd_tree.specs.Json.{Json, list, object, no_items, item, Members as JsonMembers, no_members as no_json_members, member as json_member}
 use Rattle.gd_tree.specs.Look.{is_null}
 use Rattle.gd_defs.specs.Query as query
-use Rattle.gd_defs.specs.Query.{Fault, Clause, Form, Name, Members, no_members, member, sort_by, SortWord, no_directives, with_directive, with_member, member_name, form_or_operand, form_of, clause_of, clause_or_default, default_members, as_one, as_many, within, or_fault, bad_directive, is_directive, mode_of, limit_of, sort_of, is_count, query_of, root_query, has_operator, is_computed, is_link, is_literal, is_other_list, operand_fits}
+use Rattle.gd_defs.specs.Query.{Fault, Clause, Form, Name, Members, no_members, member, sort_by, SortWord, no_directives, with_directive, with_member, member_name, form_or_operand, form_of, clause_of, clause_or_default, default_members, as_one, as_many, within, fault, or_fault, bad_directive, is_directive, mode_of, limit_of, sort_of, is_count, query_of, root_query, has_operator, is_computed, is_link, is_literal, is_other_list, operand_fits}
+use Rattle.gd_defs.proofs.Directives.{sort_name, each_unsorted}
 use Rattle.gd_form_laws.specs.Faults.{clause_fault, member_fault, form_fault, value_fault, query_fault, below}
 use Rattle.gd_form_laws.specs.Spelled.{clause_or, query_or, spelled_members, spelled_clause, spelled_query}
 use Rattle.gd_form_laws.proofs.First.{Given, given, or-first, or-second}
@@ -36,21 +38,24 @@ named-part root k j ms n f none other name form =
     let whole : clause_of root (json_member k j ms) ≡ Ok (with_member n f rest.value) = rw (other, name, form, rest.is) refl in
     ap members_of whole ∙ ap (λ r. member n f (members_of r)) (sym rest.is)
 
-directive-rest : (root : Bool) (k : List ℕ) (j : Json) (d : Clause) → bytes_eq k (codes "sort") ≡ false → result_err (with_directive root k j (Ok no_clause)) ≡ None
+directive-rest : (root : Bool) (k : List ℕ) (j : Json) (d : Clause) → bytes_eq k sort_name ≡ false → result_err (with_directive root k j (Ok no_clause)) ≡ None
     → (clause_or (with_directive root k j (Ok d))).1 ≡ d.1
-directive-rest root k j d unsorted none = by (bytes_eq k (codes "optional")) (bytes_eq k (codes "limit")) (root && is_count j) (if root then None else mode_of j) (limit_of j) refl refl refl refl refl
+directive-rest root k j d unsorted none =
+    each_unsorted (λ (f : Result Clause Fault → Result Clause Fault). result_err (f (Ok no_clause)) ≡ None → (clause_or (f (Ok d))).1 ≡ d.1) root k j unsorted
+    (kept (or_fault bad_directive k (if root then None else mode_of j)) (λ m c. (record c.0 { mode = Some m }, c.1)) (λ m. refl))
+    (kept (or_fault bad_directive k (limit_of j)) (λ n c. (record c.0 { limit = Some n }, c.1)) (λ n. refl))
+    (counted (root && is_count j)) none
   where
-    by : (o l c : Bool) (m : Option query.Mode) (n : Option ℕ) → bytes_eq k (codes "optional") ≡ o → bytes_eq k (codes "limit") ≡ l → (root && is_count j) ≡ c → (if root then None else mode_of j) ≡ m → limit_of j ≡ n
-        → (clause_or (with_directive root k j (Ok d))).1 ≡ d.1
-    by true l c (Some m) n o_is l_is c_is m_is n_is = rw (o_is, m_is) refl
-    by true l c None n o_is l_is c_is m_is n_is = absurd (let bad = rw (o_is, m_is) at none in cc)
-    by false true c m (Some n) o_is l_is c_is m_is n_is = rw (o_is, l_is, n_is) refl
-    by false true c m None o_is l_is c_is m_is n_is = absurd (let bad = rw (o_is, l_is, n_is) at none in cc)
-    by false false true m n o_is l_is c_is m_is n_is = rw (o_is, l_is, unsorted, c_is) refl
-    by false false false m n o_is l_is c_is m_is n_is = absurd (let bad = rw (o_is, l_is, unsorted, c_is) at none in cc)
+    kept : {A : Type 0} (a : Result A Fault) (g : A → Clause → Clause) → ((x : A) → (g x d).1 ≡ d.1) → result_err (a >>= λ x. Ok (g x no_clause)) ≡ None → (clause_or (a >>= λ x. Ok (g x d))).1 ≡ d.1
+    kept (Ok x) g same none = same x
+    kept (Err e) g same none = absurd (cc)
+
+    counted : (b : Bool) → result_err {T = Clause} (if b then Ok (record no_clause.0 { count = true }, no_clause.1) else fault bad_directive k) ≡ None → (clause_or (if b then Ok (record d.0 { count = true }, d.1) else fault bad_directive k)).1 ≡ d.1
+    counted true none = refl
+    counted false none = absurd (cc)
 
 -- another directive than `sort` is none of the members
-pub directive-part : (root : Bool) (k : List ℕ) (j : Json) (ms : JsonMembers) → clause_fault root ms ≡ None → is_directive k ≡ true → bytes_eq k (codes "sort") ≡ false → member_fault root k j ≡ None
+pub directive-part : (root : Bool) (k : List ℕ) (j : Json) (ms : JsonMembers) → clause_fault root ms ≡ None → is_directive k ≡ true → bytes_eq k sort_name ≡ false → member_fault root k j ≡ None
     → spelled_members root (json_member k j ms) ≡ spelled_members root ms
 unfolding spelled_members member_fault
 directive-part root k j ms none is unsorted alone =
@@ -60,11 +65,11 @@ directive-part root k j ms none is unsorted alone =
     ap members_of whole ∙ (directive-rest root k j rest.value unsorted told ∙ ap members_of (sym rest.is))
 
 -- `sort` stands in front of the others
-pub sort-part : (root : Bool) (j : Json) (ms : JsonMembers) (ws : List SortWord) → clause_fault root ms ≡ None → sort_of j ≡ Some ws → spelled_members root (json_member (codes "sort") j ms) ≡ sort_by ws (spelled_members root ms)
+pub sort-part : (root : Bool) (j : Json) (ms : JsonMembers) (ws : List SortWord) → clause_fault root ms ≡ None → sort_of j ≡ Some ws → spelled_members root (json_member sort_name j ms) ≡ sort_by ws (spelled_members root ms)
 unfolding spelled_members
 sort-part root j ms ws none sorts =
     let rest = clause_given root ms none in
-    let whole : clause_of root (json_member (codes "sort") j ms) ≡ Ok (rest.value.0, sort_by ws rest.value.1) = rw (sorts, rest.is) refl in
+    let whole : clause_of root (json_member sort_name j ms) ≡ Ok (rest.value.0, sort_by ws rest.value.1) = rw (sorts, rest.is) refl in
     ap members_of whole ∙ ap (λ r. sort_by ws (members_of r)) (sym rest.is)
 
 -- ---- what stands behind a name

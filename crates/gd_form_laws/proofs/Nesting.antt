@@ -1,6 +1,6 @@
 -- Forms nest no deeper than the JSON that spells them.
-use Rattle.std.proofs.Common.{◌≡◌, ◌≤◌, ℕ, ◌+◌, List, Bool, true, false, not, ◌||◌, Some, None, Result, Ok, Err, codes, refl, sym, subst, arith}
-use Rattle.std.specs.Prelude.{if◌then◌else◌, max, bytes_eq, ◌&&◌}
+use Rattle.std.proofs.Common.{◌≡◌, ◌≤◌, ℕ, ◌+◌, List, Bool, true, false, not, ◌||◌, Some, None, Result, Ok, Err, refl, sym, subst, arith}
+use Rattle.std.specs.Prelude.{if◌then◌else◌, max, ◌&&◌}
 use Rattle.gd_grammar.specs.Chain.{◌>>=◌}
 use Rattle.gd_grammar.proofs.Steps.{steps, ok_same, not_ok}
 use Rattle.gd_tree.specs.Json.{Json, null, boolean, number, text, list, object, Items, no_items, item, Members as JsonMembers, no_members as no_json_members, member as json_member}
@@ -8,6 +8,7 @@ use Rattle.gd_tree.specs.Look.{is_null}
 use Rattle.gd_tree.specs.Bounds.{json_depth, items_depth, members_depth}
 use Rattle.gd_defs.specs.Query as query
 use Rattle.gd_defs.specs.Query.{Fault, Clause, Form, Name, Members, no_directives, with_directive, with_member, member_name, form_or_operand, form_of, clause_of, clause_or_default, default_members, as_one, as_many, within, fault, or_fault, bad_directive, bad_operand, list_form, is_directive, mode_of, limit_of, sort_of, is_count, has_operator, is_computed, is_link, is_other_list, operand_fits, query_of, root_query}
+use Rattle.gd_defs.proofs.Directives.{each_effect}
 use Rattle.gd_form_laws.specs.Spelled.{form_depth, forms_depth, clause_or, query_or, spelled_clause, spelled_query}
 
 -- what an outcome gives is at most so deep
@@ -31,10 +32,11 @@ chosen P false x y one other = other
 
 directive-within : (m : ℕ) (root : Bool) (k : List ℕ) (j : Json) (rest : Result Clause Fault) → ClauseWithin m rest → ClauseWithin m (with_directive root k j rest)
 directive-within m root k j rest within =
-    chosen (ClauseWithin m) (bytes_eq k (codes "optional")) _ _ (same_depth m (or_fault bad_directive k (if root then None else mode_of j)) rest (λ x d. (record d.0 { mode = Some x }, d.1)) (λ x d. refl) within)
-    (chosen (ClauseWithin m) (bytes_eq k (codes "limit")) _ _ (same_depth m (or_fault bad_directive k (limit_of j)) rest (λ x d. (record d.0 { limit = Some x }, d.1)) (λ x d. refl) within)
-    (chosen (ClauseWithin m) (bytes_eq k (codes "sort")) _ _ (same_depth m (or_fault bad_directive k (sort_of j)) rest (λ ws d. (d.0, query.sort_by ws d.1)) (λ x d. refl) within)
-    (chosen (ClauseWithin m) (root && is_count j) _ _ counted (λ c is. not_ok _ c is))))
+    each_effect (λ (f : Result Clause Fault → Result Clause Fault). ClauseWithin m (f rest)) root k j
+    (same_depth m (or_fault bad_directive k (if root then None else mode_of j)) rest (λ x d. (record d.0 { mode = Some x }, d.1)) (λ x d. refl) within)
+    (same_depth m (or_fault bad_directive k (limit_of j)) rest (λ x d. (record d.0 { limit = Some x }, d.1)) (λ x d. refl) within)
+    (same_depth m (or_fault bad_directive k (sort_of j)) rest (λ ws d. (d.0, query.sort_by ws d.1)) (λ x d. refl) within)
+    (chosen (ClauseWithin m) (root && is_count j) _ _ counted (λ c is. not_ok _ c is))
   where
     counted : ClauseWithin m (rest >>= λ d. Ok (record d.0 { count = true }, d.1))
     counted c is =

@@ -1,6 +1,6 @@
 -- The first fault of a query, member by member.
-use Rattle.std.proofs.Common.{◌≡◌, ℕ, List, [], ◌∷◌, Bool, true, false, not, ◌||◌, Some, None, Result, Ok, Err, codes, refl, ap, ◌∙◌}
-use Rattle.std.specs.Prelude.{if◌then◌else◌, option_map, is_some, bytes_eq, ◌&&◌}
+use Rattle.std.proofs.Common.{◌≡◌, ℕ, List, [], ◌∷◌, Bool, true, false, not, ◌||◌, Some, None, Result, Ok, Err, refl, ap, ◌∙◌}
+use Rattle.std.specs.Prelude.{if◌then◌else◌, option_map, is_some, ◌&&◌}
 use Rattle.std.specs.Option.{option_or}
 use Rattle.std.specs.Result.{result_err}
 use Rattle.gd_grammar.specs.Chain.{◌>>=◌}
@@ -8,6 +8,7 @@ use Rattle.gd_tree.specs.Json.{Json, null, boolean, number, text, list, object, 
 use Rattle.gd_tree.specs.Look.{is_null, members_in, items_in}
 use Rattle.gd_defs.specs.Query as query
 use Rattle.gd_defs.specs.Query.{Fault, Clause, Form, Name, no_directives, with_directive, with_member, member_name, name_of, form_or_operand, form_of, clause_of, clause_or_default, as_one, as_many, within, fault, or_fault, bad_directive, bad_word, left_out, bad_operand, list_form, is_directive, mode_of, limit_of, sort_of, is_count, query_of, root_query, has_operator, is_computed, is_link, is_left_out, is_other_list, operand_fits}
+use Rattle.gd_defs.proofs.Directives.{each_effect}
 use Rattle.gd_form_laws.specs.Faults.{clause_fault, member_fault, form_fault, value_fault, query_fault, below}
 use Rattle.gd_form_laws.proofs.First.{err-map, err-map_err, err-chain, err-rest, err-if, untrue, unfalse}
 
@@ -18,10 +19,11 @@ no_clause = (no_directives, query.no_members)
 directive-first : (root : Bool) (k : List ℕ) (j : Json) (rest : Result Clause Fault)
     → result_err (with_directive root k j rest) ≡ option_or (result_err (with_directive root k j (Ok no_clause))) (result_err rest)
 directive-first root k j rest =
-    err-if (bytes_eq k (codes "optional")) _ _ _ _ _ (err-chain (or_fault bad_directive k (if root then None else mode_of j)) rest (λ m c. (record c.0 { mode = Some m }, c.1)) no_clause)
-    (err-if (bytes_eq k (codes "limit")) _ _ _ _ _ (err-chain (or_fault bad_directive k (limit_of j)) rest (λ n c. (record c.0 { limit = Some n }, c.1)) no_clause)
-    (err-if (bytes_eq k (codes "sort")) _ _ _ _ _ (err-chain (or_fault bad_directive k (sort_of j)) rest (λ ws c. (c.0, query.sort_by ws c.1)) no_clause)
-    (err-if (root && is_count j) _ _ _ _ _ (err-rest rest (λ c. (record c.0 { count = true }, c.1))) refl)))
+    each_effect (λ (f : Result Clause Fault → Result Clause Fault). result_err (f rest) ≡ option_or (result_err (f (Ok no_clause))) (result_err rest)) root k j
+    (err-chain (or_fault bad_directive k (if root then None else mode_of j)) rest (λ m c. (record c.0 { mode = Some m }, c.1)) no_clause)
+    (err-chain (or_fault bad_directive k (limit_of j)) rest (λ n c. (record c.0 { limit = Some n }, c.1)) no_clause)
+    (err-chain (or_fault bad_directive k (sort_of j)) rest (λ ws c. (c.0, query.sort_by ws c.1)) no_clause)
+    (err-if (root && is_count j) _ _ _ _ _ (err-rest rest (λ c. (record c.0 { count = true }, c.1))) refl)
 
 named-first : (name : Result Name Fault) (form : Name → Result Form Fault) (rest : Result Clause Fault)
     → result_err (name >>= λ n. form n >>= λ f. rest >>= λ c. Ok (with_member n f c)) ≡ option_or (result_err (name >>= λ n. form n >>= λ f. Ok (with_member n f no_clause))) (result_err rest)

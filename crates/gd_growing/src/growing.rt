@@ -1,5 +1,5 @@
 //! The primitives below a dateline, and those that a write has made so far.
-ghost use Rattle.std.specs.Prelude.{◌≡◌, ◌+◌, ◌≤◌, [], ◌∷◌, ◌++◌, length, drop, option_map};
+ghost use Rattle.std.specs.Prelude.{◌≡◌, ◌+◌, ◌≤◌, ◌<◌, [], ◌∷◌, ◌++◌, length, drop, option_map};
 ghost use Rattle.std.specs.Prelude.{slice_get, OnOk, OnErr};
 ghost use Rattle.gd_prim.specs.History.{prims_of};
 ghost use Rattle.gd_prim.specs.Live as live;
@@ -36,6 +36,18 @@ impl<'a> Model for Growing<'a> {
     ghost invariant = { λ g. HasPlaces (prims_of g.below) g.first g.made.items };
 }
 
+/// Whether places are left behind one for so many primitives. `Memory`: there would be more than
+/// 4,294,967,295 primitives, and it comes there alone.
+fn has_places(end: Id, more: usize) -> Result<(), Memory>
+    ensures room { OnOk result (end + more ≤ 4_294_967_295) }
+    ensures limit { OnErr result (4_294_967_295 < end + more) }
+{
+    if more > (u32::MAX - end.place()) as usize {
+        return Err(Memory);
+    }
+    Ok(())
+}
+
 impl<'a> Growing<'a> {
     /// The primitives below the view's dateline, before anything is made.
     pub fn new(alloc: Global, below: View<'a>) -> Growing<'a>
@@ -55,9 +67,7 @@ impl<'a> Growing<'a> {
         ensures below { self.new.batches ≡ self.old.batches }
         ensures err { OnErr result (self.new ≡ self.old) }
     {
-        if self.end().place() == u32::MAX {
-            return Err(Memory);
-        }
+        has_places(self.end(), 1)?;
         self.made.push(prim)?;
         Ok(())
     }
@@ -69,9 +79,7 @@ impl<'a> Growing<'a> {
         ensures below { self.new.batches ≡ self.old.batches }
         ensures err { OnErr result (self.new ≡ self.old) }
     {
-        if more.len() > (u32::MAX - self.end().place()) as usize {
-            return Err(Memory);
-        }
+        has_places(self.end(), more.len())?;
         let mut more = more;
         self.made.append(&mut more)?;
         Ok(())

@@ -1,3 +1,4 @@
 pub mod Before
+pub mod Changes
 pub mod Roots
 pub mod Walks

@@ -2,8 +2,10 @@
 use Rattle.std.specs.Prelude.{ℕ, List, [], ◌∷◌, Option, map}
 use Rattle.gd_tree.specs.Json as tree
 use Rattle.gd_json.specs.View.{view as json_view, members_view as json_members}
+use Rattle.gd_defs.specs.Write as write
 use Rattle.gd_defs.specs.Write.Parts as parts
 use Rattle.gd_mql.specs.Changes.{connect_view, create_view}
+use Rattle.gd_mql.specs.Entries.{root_view}
 use Rattle.gd_growing.specs.Seen.{target_view}
 use Rattle.gd_intent.specs.declared.intent.Spelled.{Spelled}
 use Rattle.gd_intent.specs.declared.intent.Spelled.TheVariants as spelled
@@ -11,6 +13,7 @@ use Rattle.gd_intent.specs.declared.intent.Entry.{Entry}
 use Rattle.gd_intent.specs.declared.intent.Entry.TheVariants as entry
 use Rattle.gd_intent.specs.declared.intent.Item.{Item, fold-Item}
 use Rattle.gd_intent.specs.declared.intent.Item.TheOpen.{Item-F}
+use Rattle.gd_intent.specs.declared.intent.ResolvedChange.{ResolvedChange}
 use Rattle.gd_intent.specs.declared.intent.Intent.{Intent}
 
 -- a value as it was spelled
@@ -69,6 +72,10 @@ members_view es = before es parts.no_members
 abbrev pub many_view : List Item → parts.ManyItems
 many_view is = many_before is parts.no_more
 
--- a write: its scope, the existing object of its root, and the members of that
-abbrev pub intent_view : Intent → Option ℕ × (Option ℕ × parts.Members)
-intent_view i = (i.scope, (i.on, members_view i.members.items))
+-- a change with its words looked up
+abbrev pub resolved_view : ResolvedChange → write.Resolved
+resolved_view c = record { path = map (λ name. name.now) c.path.items; root = root_view c.root; on = c.on; members = members_view c.members.items }
+
+-- a write: its scope, and its changes in order
+abbrev pub intent_view : Intent → Option ℕ × List write.Resolved
+intent_view i = (i.scope, map resolved_view i.changes.items)

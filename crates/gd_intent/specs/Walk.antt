@@ -64,10 +64,10 @@ operand_target prims e path j = asked.operand_datum prims e path j >>= λ d. Ok 
 abbrev pub language_named : List Primitive → List (List ℕ) → Property → List ℕ → Result Property asked.Unknown
 language_named prims path p t = asked.place_named prims t >>= λ l. if is_language prims l then Ok (record p { language = Some l }) else asked.bad bad_lang (path ++ codes "lang" ∷ [])
 
--- what a write does in a scope that was found
-abbrev pub root_in : Option ℕ → List Primitive → change.Change → Result (Option ℕ × (Option ℕ × parts.Members)) asked.Unknown
-root_in scope prims c = write.resolved_root prims c >>= λ r. Ok (scope, r)
+-- a change with its words looked up, where its root has this path
+abbrev pub change_resolved : List Primitive → List (List ℕ) → change.Change → Result write.Resolved asked.Unknown
+change_resolved prims path c = write.resolved_root prims path c >>= λ r. Ok (record { path = path; root = c.root; on = r.0; members = r.1 })
 
--- the scope of a write, the existing object of its root, if it names one, and the members with their words looked up
-abbrev pub intent_of : List Primitive → write.WriteRequest → Result (Option ℕ × (Option ℕ × parts.Members)) asked.Unknown
-intent_of prims w = write.scope_of prims w.scope >>= λ s. root_in s prims w.change
+-- the scope of a write, and its changes with their words looked up
+abbrev pub intent_of : List Primitive → write.WriteRequest → Result (Option ℕ × List write.Resolved) asked.Unknown
+intent_of prims w = write.scope_of prims w.scope >>= λ s. write.resolved_all prims (write.changes_of w.asks) >>= λ rs. Ok (s, rs)

@@ -2,6 +2,7 @@
 use gd_base::id::Id;
 use gd_growing::target::Target;
 use gd_json::value::{Json, JsonText};
+use gd_mql::change::Root;
 use gd_mql::write_parts::{ConnectWord, CreateWord};
 use gd_resolve::property::Property;
 
@@ -63,13 +64,24 @@ pub enum Item<'a> {
     Several(Vec<Item<'a>>),
 }
 
+/// A change of a write with its words looked up. Contracts see it by `resolved_view`.
+#[derive(Drop)]
+pub struct ResolvedChange<'a> {
+    /// The path of its root: its number among several, nothing where it is the only one.
+    pub path: Vec<&'a str>,
+    /// What it is carried out on, as it was spelled.
+    pub root: Root<'a>,
+    /// The existing object on which it is carried out, if it does not create one.
+    pub on: Option<Id>,
+    /// What the members of its root clause do.
+    pub members: Vec<Entry<'a, Item<'a>>>,
+}
+
 /// A write with its words looked up. Contracts see it by `intent_view`.
 #[derive(Drop)]
 pub struct Intent<'a> {
     /// The scope of all that it makes.
     pub scope: Option<Id>,
-    /// The existing object on which it is carried out, if it does not create one.
-    pub on: Option<Id>,
-    /// What the members of its root clause do.
-    pub members: Vec<Entry<'a, Item<'a>>>,
+    /// Its changes, in order.
+    pub changes: Vec<ResolvedChange<'a>>,
 }

@@ -1,5 +1,6 @@
 //! A write with its words looked up at a view's dateline, clause by clause.
-ghost use Rattle.std.specs.Prelude.{◌≡◌, ◌≤◌, ◌++◌, ◌∷◌, [], Ok, OnOk, map, option_map};
+ghost use Rattle.std.specs.Prelude.{◌≡◌, ◌<◌, ◌≤◌, ◌++◌, ◌∷◌, [], Ok, IfOk, OnOk, map, option_map};
+ghost use Rattle.std.specs.Prelude.{length, decimal};
 ghost use Rattle.std.specs.Option.{option_or};
 ghost use Rattle.gd_prim.specs.History.{prims_of};
 ghost use Rattle.gd_tree.specs.Look.{text_of};
@@ -11,14 +12,15 @@ ghost use Rattle.gd_mql.specs.Changes.{create_view};
 ghost use Rattle.gd_mql.specs.Names.{name_view};
 ghost use Rattle.gd_mql.specs.Entries.{change_view, root_view, entries_left, items_left};
 ghost use Rattle.gd_mql.specs.Entries.{item_view as item_spelled, with_entry as with_spelled};
-ghost use Rattle.gd_mql.specs.Requests.{write_view};
+ghost use Rattle.gd_mql.specs.Requests.{asked_change, write_set_view, write_view};
 ghost use Rattle.gd_compile.specs.Fault.{Finds};
 ghost use Rattle.gd_intent.specs.Seen.{intent_view, item_view, many_view, members_view};
-ghost use Rattle.gd_intent.specs.Walk.{Leads, clause_resolved, intent_of, member_item};
-ghost use Rattle.gd_intent.specs.Walk.{property_item, root_in, root_object};
+ghost use Rattle.gd_intent.specs.Seen.{resolved_view};
+ghost use Rattle.gd_intent.specs.Walk.{Leads, change_resolved, clause_resolved, intent_of};
+ghost use Rattle.gd_intent.specs.Walk.{member_item, property_item, root_object};
 
 use crate::facts::{connect_item, fact_item, form_fact, identity_item, is_computed};
-use crate::intent::{Entry, Intent, Item, Spelled};
+use crate::intent::{Entry, Intent, Item, ResolvedChange, Spelled};
 use gd_base::id::Id;
 use gd_base::memory::Memory;
 use gd_base::steps::Steps;
@@ -32,7 +34,8 @@ use gd_mql::change::{
     Members as SpelledMembers, Root,
 };
 use gd_mql::name::Name;
-use gd_mql::request::WriteRequest;
+use gd_mql::number::number_text;
+use gd_mql::request::{ChangeRequest, WriteRequest, WriteSet};
 use gd_mql::write_parts::CreateWord;
 use gd_plan::expects::{expects_of, holds_values};
 use gd_resolve::property::Property;
@@ -374,31 +377,132 @@ fn root_object<L>(
     }
 }
 
-/// What a write does at the view's dateline, in a scope that was found: the existing object of its
-/// root, if it names one, and what its members do.
+/// A change with its words looked up at the view's dateline, where its root has this path: the
+/// existing object of its root, if it names one, and what its members do.
 pub fn resolved_root<'a, L>(
     alloc: Global,
     view: &View<'_>,
-    scope: Option<Id>,
+    path: Vec<&'a str>,
     change: &Change<'a>,
     steps: &mut Steps<L>,
-) -> Result<Intent<'a>, Unknown>
-    ensures root { Finds intent_view
-        (root_in scope (prims_of view.now) (change_view change.entry.now)) result }
+) -> Result<ResolvedChange<'a>, Unknown>
+    ensures root { Finds resolved_view (change_resolved (prims_of view.now)
+        (map (λ name. name.now) path.entry.items) (change_view change.entry.now)) result }
     ensures later { steps.old ≤ steps.new }
 {
-    let on = root_object(alloc, view, change.root, steps)?;
-    let members = resolved_clause(alloc, view, same(&on), None, &[], &change.members, steps)?;
-    Ok(Intent { scope, on, members })
+    let root = change.root;
+    let on = root_object(alloc, view, root, steps)?;
+    let members = resolved_clause(alloc, view, same(&on), None, &path, &change.members, steps)?;
+    Ok(ResolvedChange {
+        path,
+        root,
+        on,
+        members,
+    })
 }
 
-/// A write with its words looked up at the view's dateline: the object of its scope, the existing
-/// object of its root, and what its members do. It has no meaning where an id or a property is not
-/// there, where a target does not go with what its property holds, or where an existing object does
-/// not have a value that is stated of it. The first refusal decides: the scope first, then the
-/// object of the root, then clause by clause and member by member, each clause's context type
-/// before its members, with the path of the member from the root down. `Memory`: an allocation was
-/// refused.
+fn push_change<'a>(
+    changes: &mut Vec<ResolvedChange<'a>>,
+    change: ResolvedChange<'a>,
+) -> Result<(), Memory>
+    ensures { OnOk result (changes.new.items ≡ changes.old.items ++ change.entry ∷ []) }
+{
+    changes.push(change)?;
+    Ok(())
+}
+
+/// The only change of a write.
+fn resolved_alone<'a, L>(
+    alloc: Global,
+    view: &View<'_>,
+    request: &'a ChangeRequest,
+    steps: &mut Steps<L>,
+) -> Result<Vec<ResolvedChange<'a>>, Unknown>
+    ensures changes { Finds (λ changes. map resolved_view changes.items)
+        (write.resolved_all (prims_of view.now) (([], asked_change request.entry.now) ∷ []))
+        result }
+    ensures later { steps.old ≤ steps.new }
+{
+    let mut changes = Vec::new(alloc);
+    let change = resolved_root(alloc, view, Vec::new(alloc), &request.change(), steps)?;
+    push_change(&mut changes, change)?;
+    Ok(changes)
+}
+
+/// The path of the root of a change among several: its number.
+fn numbered_path<'a>(alloc: Global, number: usize) -> Result<Vec<&'a str>, Memory>
+    requires { number < 16 }
+    ensures { IfOk result (λ path. map (λ name. name.now) path.items ≡ decimal number ∷ []) }
+{
+    let mut path = Vec::new(alloc);
+    path.push(number_text(number))?;
+    Ok(path)
+}
+
+/// The change with this number among several.
+fn resolved_numbered<'a, L>(
+    alloc: Global,
+    view: &View<'_>,
+    number: usize,
+    request: &'a ChangeRequest,
+    steps: &mut Steps<L>,
+) -> Result<ResolvedChange<'a>, Unknown>
+    requires { number < 16 }
+    ensures change { Finds resolved_view (change_resolved (prims_of view.now)
+        (decimal number ∷ []) (asked_change request.entry.now)) result }
+    ensures later { steps.old ≤ steps.new }
+{
+    let path = numbered_path(alloc, number)?;
+    resolved_root(alloc, view, path, &request.change(), steps)
+}
+
+/// The changes of a list, in order, the path of each its number.
+fn resolved_list<'a, L>(
+    alloc: Global,
+    view: &View<'_>,
+    requests: &'a [ChangeRequest],
+    steps: &mut Steps<L>,
+) -> Result<Vec<ResolvedChange<'a>>, Unknown>
+    requires { length requests.now ≤ 16 }
+    ensures changes { Finds (λ changes. map resolved_view changes.items)
+        (write.resolved_all (prims_of view.now)
+        (write.numbered 0 (map asked_change requests.entry.now))) result }
+    ensures later { steps.old ≤ steps.new }
+{
+    let mut changes = Vec::new(alloc);
+    for (number, request) in requests.iter().enumerate() {
+        let change = resolved_numbered(alloc, view, number, request, steps)?;
+        push_change(&mut changes, change)?;
+    }
+    Ok(changes)
+}
+
+/// The changes of a write, in order.
+fn resolved_changes<'a, L>(
+    alloc: Global,
+    view: &View<'_>,
+    asks: &'a WriteSet,
+    steps: &mut Steps<L>,
+) -> Result<Vec<ResolvedChange<'a>>, Unknown>
+    ensures changes { Finds (λ changes. map resolved_view changes.items)
+        (write.resolved_all (prims_of view.now) (write.changes_of (write_set_view asks.entry.now)))
+        result }
+    ensures later { steps.old ≤ steps.new }
+{
+    match asks {
+        WriteSet::One(request) => resolved_alone(alloc, view, request, steps),
+        WriteSet::Several(requests) => resolved_list(alloc, view, requests.as_slice(), steps),
+    }
+}
+
+/// A write with its words looked up at the view's dateline: the object of its scope, and of each of
+/// its changes the existing object of its root, and what its members do. All changes are looked up
+/// at this one state. The write has no meaning where an id or a property is not there, where a
+/// target does not go with what its property holds, or where an existing object does not have a
+/// value that is stated of it. The first refusal decides: the scope first, then change by change
+/// the object of the root, then clause by clause and member by member, each clause's context type
+/// before its members, with the path of the member from the root down. Where several changes are
+/// asked the number of the change begins the path. `Memory`: an allocation was refused.
 pub fn resolved_write<'a, L>(
     alloc: Global,
     view: &View<'_>,
@@ -410,5 +514,6 @@ pub fn resolved_write<'a, L>(
     ensures later { steps.old ≤ steps.new }
 {
     let scope = scope_of(alloc, view, &request.scope, steps)?;
-    resolved_root(alloc, view, scope, &request.change(), steps)
+    let changes = resolved_changes(alloc, view, &request.asks, steps)?;
+    Ok(Intent { scope, changes })
 }

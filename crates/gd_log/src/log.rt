@@ -1,5 +1,6 @@
 //! A log: groups of batches in a file, to which one more may be added.
-ghost use Rattle.std.specs.Prelude.{◌≡◌, ◌≤◌, ◌++◌, ◌∷◌, ◌↔◌, [], List, ℕ, None, Some, length};
+ghost use Rattle.std.specs.Prelude.{◌≡◌, ◌≤◌, ◌<◌, ◌^◌, ◌++◌, ◌∷◌, ◌↔◌, [], List, ℕ, None, Some};
+ghost use Rattle.std.specs.Prelude.{length};
 ghost use Rattle.std.specs.Prelude.{IsSome, IsErr, IsErrOf, IfSome, OnOk, IfOk, IfErr, MatchBool};
 ghost use Rattle.std.specs.Option.{ForSome, is_some};
 ghost use Rattle.gd_prim.specs.declared.Batch.{Batch};
@@ -40,6 +41,18 @@ impl<D: Disk> Model for Log<D> {
     ghost view = { λ log. log.journal };
 
     ghost invariant = { λ log. log.journal.damaged ≡ None };
+}
+
+/// Whether a group may be added behind a gate. `Memory`: the gate stands at 2 ^ 61 or behind, and it
+/// comes there alone.
+fn is_near(gate: u64) -> Result<(), JournalFault>
+    ensures near { OnOk result (gate < 2 ^ 61) }
+    ensures far { IfErr result (λ fault. (fault ≡ JournalFault.Memory) × (2 ^ 61 ≤ gate)) }
+{
+    if gate >= FAR {
+        return Err(JournalFault::Memory);
+    }
+    Ok(())
 }
 
 impl<D: Disk> Log<D> {
@@ -104,9 +117,7 @@ impl<D: Disk> Log<D> {
         ensures later { D.faults self.old.disk ≤ D.faults self.new.disk }
         ensures cause { IfErr result (HasReason (D.faults self.old.disk) (D.faults self.new.disk)) }
     {
-        if self.journal.gate() >= FAR {
-            return Err(JournalFault::Memory);
-        }
+        is_near(self.journal.gate())?;
         let payload = encode_group(alloc, batches)?;
         self.journal.append(payload.as_slice())
     }

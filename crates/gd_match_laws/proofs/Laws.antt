@@ -20,20 +20,20 @@ pub heavy_stays : HeavyStays
 heavy_stays prims order t s f fs is heavy = heavy-so-far prims order t s f fs is heavy
 
 pub scans_stay : ScansStay
-scans_stay prims q dateline k with_cursor after cs m some runs light = suspended prims q dateline k with_cursor after cs m some runs light
+scans_stay prims q dateline with_cursor after cs m some runs light = suspended prims q dateline with_cursor after cs m some runs light
 
 pub scans_refuse : ScansRefuse
-scans_refuse prims q dateline k with_cursor after kept s m cs runs heavy = scanning-too-wide prims q dateline k with_cursor after kept s m cs runs heavy
+scans_refuse prims q dateline with_cursor after kept s m cs runs heavy = scanning-too-wide prims q dateline with_cursor after kept s m cs runs heavy
 
 pub readings_print : ReadingsPrint
-readings_print prims q dateline k with_cursor after cs ds m e n some listed scans ended light builds built rows_light page_light =
-    whole-reading prims q dateline k with_cursor after cs ds m e n some listed scans ended.frames ended.places light builds built.frames built.places rows_light page_light
+readings_print prims q dateline with_cursor after cs ds m e n some listed scans ended light builds built rows_light page_light =
+    whole-reading prims q dateline with_cursor after cs ds m e n some listed scans ended.frames ended.places light builds built.frames built.places rows_light page_light
 
 pub counts_print : CountsPrint
-counts_print prims q dateline k with_cursor after cs m n some counts scans ended light = whole-count prims q dateline k with_cursor after cs m n some counts scans ended.frames ended.places light
+counts_print prims q dateline with_cursor after cs m n some counts scans ended light = whole-count prims q dateline with_cursor after cs m n some counts scans ended.frames ended.places light
 
 pub building_refuses : BuildingRefuses
-building_refuses prims q dateline k with_cursor after kept w ts s m cs listed runs heavy = building-too-wide prims q dateline k with_cursor after kept w ts s m cs listed runs heavy
+building_refuses prims q dateline with_cursor after kept w ts s m cs listed runs heavy = building-too-wide prims q dateline with_cursor after kept w ts s m cs listed runs heavy
 
 pub walks_tell : WalksTell
-walks_tell prims q dateline k with_cursor after kept n m ts ws tell = printing-told prims q dateline k with_cursor after kept n m ts ws tell
+walks_tell prims q dateline with_cursor after kept n m ts ws tell = printing-told prims q dateline with_cursor after kept n m ts ws tell

@@ -64,7 +64,8 @@ pub fn building_refuses()
     ensures { BuildingRefuses }
 {}
 
-/// Walks that tell the first of the ids that a page prints leave the line of a reading that prints.
+/// Walks that tell the first of the ids that a page prints leave the answer of a reading that
+/// prints.
 pub fn walks_tell()
     ensures { WalksTell }
 {}

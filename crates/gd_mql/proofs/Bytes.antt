@@ -9,9 +9,3 @@ use Rattle.gd_runs.specs.Input.{no_json, line_from, as_line}
 
 within : (n : ℕ) → n ≤ 262_144 → nat_lt 262_144 n ≡ false
 within n short = grind (arith, nat_tests)
-
-pub line-no_json : (bytes : List ℕ) (f : JsonFault) → length bytes ≤ 262_144 → json_from bytes ≡ Err f → line_from bytes ≡ Err (no_json f)
-line-no_json bytes f short json = let fits : nat_lt 262_144 (length bytes) ≡ false = within (length bytes) short in rw (fits, json) refl
-
-pub line-of : (bytes : List ℕ) (j : Json) → length bytes ≤ 262_144 → json_from bytes ≡ Ok j → line_from bytes ≡ as_line (line_of j)
-line-of bytes j short json = let fits : nat_lt 262_144 (length bytes) ≡ false = within (length bytes) short in rw (fits, json) refl

@@ -1,36 +1,33 @@
--- Which fault of a request comes first.
-use Rattle.std.proofs.Common.{◌≡◌, ◌≤◌, ℕ, ◌+◌, List, [], ◌∷◌, Bool, true, false, not, ◌||◌, Option, Some, None, Result, Ok, Err, codes, refl, sym, ap, ◌∙◌, arith}
-use Rattle.std.specs.Prelude.{if◌then◌else◌, option_map, is_some, unwrap_or, ◌&&◌, bytes_eq, max}
+-- What envelopes spell, step by step.
+use Rattle.std.proofs.Common.{◌≡◌, ◌≢◌, ◌≤◌, ℕ, ◌+◌, List, [], ◌∷◌, Bool, true, false, ◌||◌, Option, Some, None, Vec, Global, Result, Ok, Err, codes, refl, sym, ap, ◌∙◌, arith}
+use Rattle.std.specs.Prelude.{if◌then◌else◌, option_map, option_and_then, IfSome, is_some, ◌&&◌, bytes_eq, max}
+use Rattle.std.specs.Int.{is_in_range}
+use Rattle.std.specs.Option.{option_map_or}
 use Rattle.std.specs.Result.{result_err}
 use Rattle.gd_grammar.specs.Chain.{◌>>=◌, map_err}
 use Rattle.gd_grammar.proofs.Steps.{some_same, ok_same}
+use Rattle.gd_json.specs.View.{items_view}
+use Rattle.gd_json.specs.declared.value.Json.{Json as JsonValue}
 use Rattle.gd_tree.specs.Json.{Json, null, boolean, number, text, list, object, Items, no_items, item, Members, no_members, member}
-use Rattle.gd_tree.specs.Look.{get, only, members_in, member_of, text_of}
-use Rattle.gd_tree.specs.Bounds.{json_depth, members_depth}
-use Rattle.gd_defs.specs.Ids.{is_id}
-use Rattle.gd_defs.specs.Query.{Fault, Query, query_of, envelope, root_fault}
+use Rattle.gd_tree.specs.Look.{get, only, members_in, member_of, items_len}
+use Rattle.gd_tree.specs.Bounds.{json_depth, items_depth, members_depth}
+use Rattle.gd_defs.specs.Query.{Fault, Query, query_of, envelope, root_fault, each_numbered}
 use Rattle.gd_defs.specs.Change.{Change, change_of}
-use Rattle.gd_defs.specs.Write.{WriteRequest}
-use Rattle.gd_runs.specs.Request.{CursorAsk, no_cursor, cursor_ask, asks_page, has_pages, read_of, scope_ask, write_of, ReadRequest, Line, read, write, bad_form}
+use Rattle.gd_defs.specs.Write.{WriteRequest, one_change, changes}
+use Rattle.gd_runs.specs.Request.{CursorAsk, cursor_ask, has_pages, is_misplaced, request_of, few_items, read_of, one_query, queries, scope_ask, clause_of, query_in, write_of, ReadRequest, ReadSet, Line, read, write, bad_form}
 use Rattle.gd_runs.specs.Input.{InputFault, no_line, as_line}
+use Rattle.gd_fault.specs.declared.fault.LineFault.TheVariants as line
 use Rattle.gd_form_laws.specs.Faults.{query_fault}
-use Rattle.gd_form_laws.specs.WriteFaults.{change_fault}
 use Rattle.gd_form_laws.specs.Spelled.{spelled_query}
 use Rattle.gd_form_laws.proofs.Clauses.{query-given}
+use Rattle.gd_form_laws.specs.WriteFaults.{change_fault}
 use Rattle.gd_form_laws.specs.SpelledChange.{change_or, spelled_change}
-use Rattle.gd_mql.specs.Envelopes.{read_fault, write_fault, envelope_fault, paged_fault, written_fault, read_request_of, write_request_of, read_line_of, write_line_of}
-
--- ---- names of members
-
-twice : (x y : Bool) → (x || (y || false)) ≡ (x || (y || (y || (y || false))))
-twice true y = refl
-twice false true = refl
-twice false false = refl
-
--- a name that stands thrice counts once
-pub only_two : (a b : List ℕ) (ms : Members) → only (a ∷ b ∷ []) ms ≡ only (a ∷ b ∷ b ∷ b ∷ []) ms
-only_two a b no_members = refl
-only_two a b (member l j ms) = ap (λ t. t && only (a ∷ b ∷ []) ms) (twice (bytes_eq l a) (bytes_eq l b)) ∙ ap (λ t. (bytes_eq l a || (bytes_eq l b || (bytes_eq l b || (bytes_eq l b || false)))) && t) (only_two a b ms)
+use Rattle.gd_mql.specs.declared.form_fault.FormFault.{FormFault}
+use Rattle.gd_mql.specs.declared.form_fault.FormFault.TheVariants.{Bad, Memory}
+use Rattle.gd_mql.specs.FormFault.{Refuses, fault_under, line_fault}
+use Rattle.gd_mql.specs.Line.{fault_view}
+use Rattle.gd_mql.proofs.Numbered.{step-refused}
+use Rattle.gd_mql.specs.Envelopes.{or_envelope, paged_of, few_of, written_fault, write_set_in, read_request_of, write_request_of, read_line_of, write_line_of}
 
 -- a list of more than one has pages
 pub more_pages : (a b : Json) (js : Items) → has_pages (list (item a (item b js))) ≡ true
@@ -41,216 +38,151 @@ more_pages (text t) b js = refl
 more_pages (list is) b js = refl
 more_pages (object ms) b js = refl
 
-pub no_pages : has_pages (list no_items) ≡ true
-no_pages = refl
+-- ---- a query with its page
 
--- ---- reads
-
--- an envelope that is no object
-pub no_read : (j : Json) → None ≡ members_in j → read_fault j ≡ envelope_fault
-unfolding read_fault
-no_read null is = refl
-no_read (boolean b) is = refl
-no_read (number n) is = refl
-no_read (text t) is = refl
-no_read (list js) is = refl
-no_read (object ms) is = cc
-
--- or has other members
-pub other_read : (ms : Members) → only (codes "cursor" ∷ codes "query" ∷ []) ms ≡ false → read_fault (object ms) ≡ envelope_fault
-unfolding read_fault
-other_read ms is = rw is refl
-
--- or no query
-pub unasked_read : (ms : Members) → only (codes "cursor" ∷ codes "query" ∷ []) ms ≡ true → get (codes "query") ms ≡ None → read_fault (object ms) ≡ envelope_fault
-unfolding read_fault
-unasked_read ms is none = by (cursor_ask (get (codes "cursor") ms)) refl
-  where
-    by : (c : Option CursorAsk) → cursor_ask (get (codes "cursor") ms) ≡ c → result_err (read_of (object ms)) ≡ envelope_fault
-    by (Some c) cursor = rw (is, none, cursor) refl
-    by None cursor = rw (is, none, cursor) refl
+-- a page that may not be asked for
+pub misplaced : (among : Bool) (c : CursorAsk) (q : Json) → is_misplaced among c q ≡ true → paged_of among c q ≡ root_fault envelope
+misplaced among c q is = rw is refl
 
 query_step : (c : CursorAsk) (r : Result Query Fault) → result_err {T = ReadRequest} (r >>= λ q. Ok (record { cursor = c; query = q })) ≡ result_err r
 query_step c (Ok q) = refl
 query_step c (Err f) = refl
 
--- or its cursor and its query decide
-pub paged_read : (ms : Members) (q : Json) → only (codes "cursor" ∷ codes "query" ∷ []) ms ≡ true → get (codes "query") ms ≡ Some q
-    → read_fault (object ms) ≡ paged_fault (option_map asks_page (cursor_ask (get (codes "cursor") ms))) q
-unfolding read_fault query_fault
-paged_read ms q is there = by (cursor_ask (get (codes "cursor") ms)) refl
-  where
-    asked : (c : CursorAsk) (b : Bool) → result_err {T = ReadRequest} (if b then root_fault envelope else (query_of q >>= λ x. Ok (record { cursor = c; query = x }))) ≡ (if b then envelope_fault else result_err (query_of q))
-    asked c true = refl
-    asked c false = query_step c (query_of q)
+-- a query with a fault, and one without
+pub paged-refused : (among : Bool) (c : CursorAsk) (q : Json) → is_misplaced among c q ≡ false → result_err (paged_of among c q) ≡ query_fault q
+unfolding query_fault
+paged-refused among c q is = rw is (query_step c (query_of q))
 
-    by : (c : Option CursorAsk) → cursor_ask (get (codes "cursor") ms) ≡ c → result_err (read_of (object ms)) ≡ paged_fault (option_map asks_page c) q
-    by (Some c) cursor = rw (is, there, cursor) (asked c (asks_page c && not (has_pages q)))
-    by None cursor = rw (is, there, cursor) refl
+pub paged-given : (among : Bool) (c : CursorAsk) (q : Json) → is_misplaced among c q ≡ false → query_fault q ≡ None → paged_of among c q ≡ Ok (record { cursor = c; query = spelled_query q })
+paged-given among c q is right = rw (is, query-given q right) refl
+
+-- no members but of some names
+abbrev has_only : List (List ℕ) → Json → Bool
+has_only names j = option_map_or (only names) (members_in j) false
+
+-- an envelope with other members, or that is none
+pub request-other : (among : Bool) (j : Json) → has_only (codes "cursor" ∷ codes "query" ∷ []) j ≡ false → request_of among j ≡ root_fault envelope
+request-other among null is = refl
+request-other among (boolean b) is = refl
+request-other among (number n) is = refl
+request-other among (text t) is = refl
+request-other among (list js) is = refl
+request-other among (object ms) is = rw is refl
+
+-- or with the members of one
+pub request-steps : (among : Bool) (j : Json) → has_only (codes "cursor" ∷ codes "query" ∷ []) j ≡ true
+    → request_of among j ≡ (or_envelope (cursor_ask (member_of (codes "cursor") j)) >>= λ c. or_envelope (member_of (codes "query") j) >>= λ q. paged_of among c q)
+request-steps among null is = cc
+request-steps among (boolean b) is = cc
+request-steps among (number n) is = cc
+request-steps among (text t) is = cc
+request-steps among (list js) is = cc
+request-steps among (object ms) is = by (cursor_ask (get (codes "cursor") ms)) (get (codes "query") ms) refl refl
+  where
+    by : (c : Option CursorAsk) (q : Option Json) → cursor_ask (get (codes "cursor") ms) ≡ c → get (codes "query") ms ≡ q
+        → request_of among (object ms) ≡ (or_envelope (cursor_ask (get (codes "cursor") ms)) >>= λ c. or_envelope (get (codes "query") ms) >>= λ q. paged_of among c q)
+    by (Some c) (Some q) cursor query = rw (is, cursor, query) refl
+    by (Some c) None cursor query = rw (is, cursor, query) refl
+    by None q cursor query = rw (is, cursor) refl
+
+-- a cursor that has not the form of one, a query that is not there, and one that is
+pub request-uncursored : (among : Bool) (j : Json) (o : Option Json) (f : FormFault) → has_only (codes "cursor" ∷ codes "query" ∷ []) j ≡ true → o ≡ member_of (codes "cursor") j → Refuses (result_err (or_envelope (cursor_ask o))) f
+    → Refuses (result_err (request_of among j)) f
+request-uncursored among j o f is cursor refuses = rw (request-steps among j is, ← cursor) (step-refused (or_envelope (cursor_ask o)) _ f refuses)
+
+pub request-unasked : (among : Bool) (j : Json) (o : Option Json) (c : CursorAsk) → has_only (codes "cursor" ∷ codes "query" ∷ []) j ≡ true → o ≡ member_of (codes "cursor") j → or_envelope (cursor_ask o) ≡ Ok c
+    → None ≡ member_of (codes "query") j → request_of among j ≡ root_fault envelope
+request-unasked among j o c is cursor asks query = rw (request-steps among j is, ← cursor, asks, ← query) refl
+
+pub request-paged : (among : Bool) (j q : Json) (o : Option Json) (c : CursorAsk) → has_only (codes "cursor" ∷ codes "query" ∷ []) j ≡ true → o ≡ member_of (codes "cursor") j → or_envelope (cursor_ask o) ≡ Ok c
+    → Some q ≡ member_of (codes "query") j → request_of among j ≡ paged_of among c q
+request-paged among j q o c is cursor asks query = rw (request-steps among j is, ← cursor, asks, ← query) refl
+
+-- ---- several queries
+
+-- a name that stands twice counts once
+twice : (x : Bool) → (x || false) ≡ (x || (x || false))
+twice true = refl
+twice false = refl
+
+only_once : (a : List ℕ) (ms : Members) → only (a ∷ []) ms ≡ only (a ∷ a ∷ []) ms
+only_once a no_members = refl
+only_once a (member l j ms) = ap (λ t. t && only (a ∷ []) ms) (twice (bytes_eq l a)) ∙ ap (λ t. (bytes_eq l a || (bytes_eq l a || false)) && t) (only_once a ms)
+
+-- what they spell in a read
+pub several-steps : (j : Json) → is_some (member_of (codes "queries") j) ≡ true → read_of j ≡ (or_envelope (few_of (codes "queries") j) >>= λ js. each_numbered (request_of true) 0 js >>= λ rs. Ok (queries rs))
+several-steps null is = cc
+several-steps (boolean b) is = cc
+several-steps (number n) is = cc
+several-steps (text t) is = cc
+several-steps (list js) is = cc
+several-steps (object ms) is = rw (is, only_once (codes "queries") ms) refl
+
+pub several-none : (j : Json) → is_some (member_of (codes "queries") j) ≡ true → None ≡ few_of (codes "queries") j → read_of j ≡ root_fault envelope
+several-none j is none = rw (several-steps j is, ← none) refl
+
+pub several-refused : (j : Json) (js : Items) (f : FormFault) → is_some (member_of (codes "queries") j) ≡ true → Some js ≡ few_of (codes "queries") j → Refuses (result_err (each_numbered (request_of true) 0 js)) f → Refuses (result_err (read_of j)) f
+several-refused j js f is there refuses = rw (several-steps j is, ← there) (step-refused (each_numbered (request_of true) 0 js) _ f refuses)
+
+pub several-told : (j : Json) (js : Items) (rs : List ReadRequest) → is_some (member_of (codes "queries") j) ≡ true → Some js ≡ few_of (codes "queries") j → each_numbered (request_of true) 0 js ≡ Ok rs → read_of j ≡ Ok (queries rs)
+several-told j js rs is there told = rw (several-steps j is, ← there, told) refl
+
+-- one query
+pub one-steps : (j : Json) → is_some (member_of (codes "queries") j) ≡ false → read_of j ≡ (request_of false j >>= λ r. Ok (one_query r))
+one-steps null is = refl
+one-steps (boolean b) is = refl
+one-steps (number n) is = refl
+one-steps (text t) is = refl
+one-steps (list js) is = refl
+one-steps (object ms) is = rw is refl
+
+pub one-refused : (j : Json) (f : FormFault) → is_some (member_of (codes "queries") j) ≡ false → Refuses (result_err (request_of false j)) f → Refuses (result_err (read_of j)) f
+one-refused j f is refuses = rw (one-steps j is) (step-refused (request_of false j) _ f refuses)
 
 -- ---- writes
 
-pub no_write : (j : Json) → None ≡ members_in j → write_fault j ≡ envelope_fault
-unfolding write_fault
-no_write null is = refl
-no_write (boolean b) is = refl
-no_write (number n) is = refl
-no_write (text t) is = refl
-no_write (list js) is = refl
-no_write (object ms) is = cc
+pub write-steps : (j : Json) → write_of j ≡ (or_envelope (scope_ask (member_of (codes "scope") j)) >>= λ s. write_set_in j >>= λ a. Ok (record { scope = s; asks = a }))
+write-steps null = refl
+write-steps (boolean b) = refl
+write-steps (number n) = refl
+write-steps (text t) = refl
+write-steps (list js) = refl
+write-steps (object ms) = refl
 
-pub other_write : (ms : Members) → only (codes "query" ∷ codes "scope" ∷ []) ms ≡ false → write_fault (object ms) ≡ envelope_fault
-unfolding write_fault
-other_write ms is = rw is refl
+-- a scope that has not the form of one, and one that has
+pub write-unscoped : (j : Json) (o : Option Json) (f : FormFault) → o ≡ member_of (codes "scope") j → Refuses (result_err (or_envelope (scope_ask o))) f → Refuses (result_err (write_of j)) f
+write-unscoped j o f scope refuses = rw (write-steps j, ← scope) (step-refused (or_envelope (scope_ask o)) _ f refuses)
 
-pub unscoped_write : (ms : Members) → only (codes "query" ∷ codes "scope" ∷ []) ms ≡ true → is_some (scope_ask (get (codes "scope") ms)) ≡ false → write_fault (object ms) ≡ envelope_fault
-unfolding write_fault
-unscoped_write ms is none = by (scope_ask (get (codes "scope") ms)) refl
-  where
-    by : (s : Option (Option (List ℕ))) → scope_ask (get (codes "scope") ms) ≡ s → result_err (write_of (object ms)) ≡ envelope_fault
-    by (Some s) scope = absurd (let bad = rw scope at none in cc)
-    by None scope = rw (is, scope) refl
-
-pub unasked_write : (ms : Members) → only (codes "query" ∷ codes "scope" ∷ []) ms ≡ true → get (codes "query") ms ≡ None → write_fault (object ms) ≡ envelope_fault
-unfolding write_fault
-unasked_write ms is none = by (scope_ask (get (codes "scope") ms)) refl
-  where
-    by : (s : Option (Option (List ℕ))) → scope_ask (get (codes "scope") ms) ≡ s → result_err (write_of (object ms)) ≡ envelope_fault
-    by (Some s) scope = rw (is, none, scope) refl
-    by None scope = rw (is, none, scope) refl
-
-change_step : (s : Option (List ℕ)) (r : Result Change Fault) → result_err {T = WriteRequest} (r >>= λ c. Ok (record { scope = s; change = c })) ≡ result_err r
-change_step s (Ok c) = refl
-change_step s (Err f) = refl
-
-pub asked_write : (ms : Members) (q : Json) → only (codes "query" ∷ codes "scope" ∷ []) ms ≡ true → is_some (scope_ask (get (codes "scope") ms)) ≡ true → get (codes "query") ms ≡ Some q → write_fault (object ms) ≡ written_fault q
-unfolding write_fault change_fault
-asked_write ms q is scoped there = by (scope_ask (get (codes "scope") ms)) refl q there
-  where
-    by : (s : Option (Option (List ℕ))) → scope_ask (get (codes "scope") ms) ≡ s → (q : Json) → get (codes "query") ms ≡ Some q → result_err (write_of (object ms)) ≡ written_fault q
-    by (Some s) scope null there = rw (is, there, scope) refl
-    by (Some s) scope (boolean b) there = rw (is, there, scope) refl
-    by (Some s) scope (number n) there = rw (is, there, scope) refl
-    by (Some s) scope (text t) there = rw (is, there, scope) refl
-    by (Some s) scope (list js) there = rw (is, there, scope) refl
-    by (Some s) scope (object c) there = rw (is, there, scope) (change_step s (change_of (object c)))
-    by None scope q there = absurd (let bad = rw scope at scoped in cc)
-
--- the query of a write that is an object, or is none
-pub object_written : (q : Json) (ms : Members) → Some ms ≡ members_in q → written_fault q ≡ change_fault (object ms)
-object_written null ms is = cc
-object_written (boolean b) ms is = cc
-object_written (number n) ms is = cc
-object_written (text t) ms is = cc
-object_written (list js) ms is = cc
-object_written (object ns) ms is = ap (λ ms. change_fault (object ms)) (sym (some_same ms ns is))
-
-pub other_written : (q : Json) → None ≡ members_in q → written_fault q ≡ envelope_fault
-other_written null is = refl
-other_written (boolean b) is = refl
-other_written (number n) is = refl
-other_written (text t) is = refl
-other_written (list js) is = refl
-other_written (object ms) is = cc
-
--- an envelope that is an object
-pub object_read : (j : Json) (ms : Members) → Some ms ≡ members_in j → j ≡ object ms
-object_read null ms is = cc
-object_read (boolean b) ms is = cc
-object_read (number n) ms is = cc
-object_read (text t) ms is = cc
-object_read (list js) ms is = cc
-object_read (object ns) ms is = ap object (sym (some_same ms ns is))
-
--- ---- what an envelope without a fault spells
-
--- the read of its query
-pub record ReadGiven (j q : Json) : Type 0 where
-  pub right : query_fault q ≡ None
-  pub spells : read_of j ≡ Ok (record { cursor = unwrap_or (cursor_ask (member_of (codes "cursor") j)) no_cursor; query = spelled_query q })
-
-pub read_given : (j q : Json) → read_fault j ≡ None → Some q ≡ member_of (codes "query") j → ReadGiven j q
-read_given null q none there = cc
-read_given (boolean b) q none there = cc
-read_given (number n) q none there = cc
-read_given (text t) q none there = cc
-read_given (list js) q none there = cc
-read_given (object ms) q none there = by (only (codes "cursor" ∷ codes "query" ∷ []) ms) refl
-  where
-    by_test : (c : CursorAsk) (b : Bool) → only (codes "cursor" ∷ codes "query" ∷ []) ms ≡ true → cursor_ask (get (codes "cursor") ms) ≡ Some c → (asks_page c && not (has_pages q)) ≡ b → (if b then envelope_fault else query_fault q) ≡ None
-        → ReadGiven (object ms) q
-    by_test c true is cursor test right = cc
-    by_test c false is cursor test right =
-        let asked : get (codes "query") ms ≡ Some q = sym there in
-        record { right = right; spells = rw (is, asked, cursor, test, query-given q right) refl }
-
-    by_cursor : (c : Option CursorAsk) → only (codes "cursor" ∷ codes "query" ∷ []) ms ≡ true → cursor_ask (get (codes "cursor") ms) ≡ c → paged_fault (option_map asks_page c) q ≡ None → ReadGiven (object ms) q
-    by_cursor (Some c) is cursor right = by_test c (asks_page c && not (has_pages q)) is cursor refl right
-    by_cursor None is cursor right = cc
-
-    by : (b : Bool) → only (codes "cursor" ∷ codes "query" ∷ []) ms ≡ b → ReadGiven (object ms) q
-    by true is = by_cursor (cursor_ask (get (codes "cursor") ms)) is refl (sym (paged_read ms q is (sym there)) ∙ none)
-    by false is = let bad = sym (other_read ms is) ∙ none in cc
-
--- it has a query
-pub read_asked : (j : Json) → read_fault j ≡ None → None ≡ member_of (codes "query") j → ⊥
-read_asked null none there = let bad = sym (no_read null refl) ∙ none in cc
-read_asked (boolean b) none there = let bad = sym (no_read (boolean b) refl) ∙ none in cc
-read_asked (number n) none there = let bad = sym (no_read (number n) refl) ∙ none in cc
-read_asked (text t) none there = let bad = sym (no_read (text t) refl) ∙ none in cc
-read_asked (list js) none there = let bad = sym (no_read (list js) refl) ∙ none in cc
-read_asked (object ms) none there = by (only (codes "cursor" ∷ codes "query" ∷ []) ms) refl
-  where
-    by : (b : Bool) → only (codes "cursor" ∷ codes "query" ∷ []) ms ≡ b → ⊥
-    by true is = let bad = sym (unasked_read ms is (sym there)) ∙ none in cc
-    by false is = let bad = sym (other_read ms is) ∙ none in cc
+-- the fault of a clause, and the change of one without
+pub clause-refused : (q : Json) → result_err (clause_of q) ≡ written_fault q
+unfolding change_fault
+clause-refused null = refl
+clause-refused (boolean b) = refl
+clause-refused (number n) = refl
+clause-refused (text t) = refl
+clause-refused (list js) = refl
+clause-refused (object ms) = refl
 
 change_given : (r : Result Change Fault) → result_err r ≡ None → r ≡ Ok (change_or r)
 change_given (Ok c) none = refl
 change_given (Err f) none = cc
 
-spelled_given : (q : Json) → change_fault q ≡ None → change_of q ≡ Ok (spelled_change q)
+pub clause-given : (q : Json) → written_fault q ≡ None → clause_of q ≡ Ok (spelled_change q)
 unfolding change_fault spelled_change
-spelled_given q none = change_given (change_of q) none
+clause-given (object ms) none = change_given (change_of (object ms)) none
+clause-given null none = cc
+clause-given (boolean b) none = cc
+clause-given (number n) none = cc
+clause-given (text t) none = cc
+clause-given (list js) none = cc
 
--- the write of its clause
-pub record WriteGiven (j q : Json) (scope : Option (List ℕ)) : Type 0 where
-  pub right : change_fault q ≡ None
-  pub spells : write_of j ≡ Ok (record { scope = scope; change = spelled_change q })
-
-pub write_given : (j q : Json) (scope : Option (List ℕ)) → write_fault j ≡ None → Some q ≡ member_of (codes "query") j → (is_some (scope_ask (member_of (codes "scope") j)) ≡ true → scope_ask (member_of (codes "scope") j) ≡ Some scope)
-    → WriteGiven j q scope
-write_given null q scope none there scoped = cc
-write_given (boolean b) q scope none there scoped = cc
-write_given (number n) q scope none there scoped = cc
-write_given (text t) q scope none there scoped = cc
-write_given (list js) q scope none there scoped = cc
-write_given (object ms) q scope none there scoped = by (only (codes "query" ∷ codes "scope" ∷ []) ms) (is_some (scope_ask (get (codes "scope") ms))) refl refl
-  where
-    by_query : (q : Json) → get (codes "query") ms ≡ Some q → only (codes "query" ∷ codes "scope" ∷ []) ms ≡ true → scope_ask (get (codes "scope") ms) ≡ Some scope → written_fault q ≡ None → WriteGiven (object ms) q scope
-    by_query null asked is s right = cc
-    by_query (boolean b) asked is s right = cc
-    by_query (number n) asked is s right = cc
-    by_query (text t) asked is s right = cc
-    by_query (list js) asked is s right = cc
-    by_query (object c) asked is s right = record { right = right; spells = rw (is, asked, s, spelled_given (object c) right) refl }
-
-    by : (b t : Bool) → only (codes "query" ∷ codes "scope" ∷ []) ms ≡ b → is_some (scope_ask (get (codes "scope") ms)) ≡ t → WriteGiven (object ms) q scope
-    by true true is s = by_query q (sym there) is (scoped s) (sym (asked_write ms q is s (sym there)) ∙ none)
-    by true false is s = let bad = sym (unscoped_write ms is s) ∙ none in cc
-    by false t is s = let bad = sym (other_write ms is) ∙ none in cc
-
-pub write_asked : (j : Json) → write_fault j ≡ None → None ≡ member_of (codes "query") j → ⊥
-write_asked null none there = let bad = sym (no_write null refl) ∙ none in cc
-write_asked (boolean b) none there = let bad = sym (no_write (boolean b) refl) ∙ none in cc
-write_asked (number n) none there = let bad = sym (no_write (number n) refl) ∙ none in cc
-write_asked (text t) none there = let bad = sym (no_write (text t) refl) ∙ none in cc
-write_asked (list js) none there = let bad = sym (no_write (list js) refl) ∙ none in cc
-write_asked (object ms) none there = by (only (codes "query" ∷ codes "scope" ∷ []) ms) refl
-  where
-    by : (b : Bool) → only (codes "query" ∷ codes "scope" ∷ []) ms ≡ b → ⊥
-    by true is = let bad = sym (unasked_write ms is (sym there)) ∙ none in cc
-    by false is = let bad = sym (other_write ms is) ∙ none in cc
+pub change-right : (q : Json) → written_fault q ≡ None → change_fault q ≡ None
+change-right (object ms) none = none
+change-right null none = cc
+change-right (boolean b) none = cc
+change-right (number n) none = cc
+change-right (text t) none = cc
+change-right (list js) none = cc
 
 -- ---- depth
 
@@ -271,31 +203,51 @@ member_depth k (text t) x there = cc
 member_depth k (list js) x there = cc
 member_depth k (object ms) x there = let h : json_depth x ≤ members_depth ms = get_depth k ms x there in omega arith
 
+-- the items of a list lie one level below it
+pub list_depth : (j : Json) (js : Items) → Some js ≡ few_items (Some j) → 1 + items_depth js ≤ json_depth j
+list_depth null js there = cc
+list_depth (boolean b) js there = cc
+list_depth (number n) js there = cc
+list_depth (text t) js there = cc
+list_depth (object ms) js there = cc
+list_depth (list is) js there = by (is_in_range 1 16 (items_len is)) there
+  where
+    by : (b : Bool) → Some js ≡ (if b then Some is else None) → 1 + items_depth js ≤ json_depth (list is)
+    by true there = let same : items_depth js ≡ items_depth is = ap items_depth (some_same js is there) in omega arith
+    by false there = cc
+
+-- so does the value of `query`, and the items of `queries`
+pub query_depth : (j q : Json) → Some q ≡ option_and_then query_in (members_in j) → 1 + json_depth q ≤ json_depth j
+query_depth null q there = cc
+query_depth (boolean b) q there = cc
+query_depth (number n) q there = cc
+query_depth (text t) q there = cc
+query_depth (list js) q there = cc
+query_depth (object ms) q there = by (only (codes "query" ∷ codes "scope" ∷ []) ms) there
+  where
+    by : (b : Bool) → Some q ≡ (if b then get (codes "query") ms else None) → 1 + json_depth q ≤ json_depth (object ms)
+    by true there = member_depth (codes "query") (object ms) q there
+    by false there = cc
+
+pub items_below : (j q : Json) (o : Option (Vec JsonValue Global)) → json_depth j ≤ 15 → Some q ≡ member_of (codes "queries") j → option_map (λ items. items_view items.items) o ≡ few_items (Some q)
+    → IfSome o (λ items. items_depth (items_view items.items) ≤ 13)
+items_below j q None shallow there few = tt
+items_below j q (Some items) shallow there few =
+    let member : 1 + json_depth q ≤ json_depth j = member_depth (codes "queries") j q there in
+    let below : 1 + items_depth (items_view items.items) ≤ json_depth q = list_depth q (items_view items.items) few in
+    omega arith
+
 -- ---- lines
 
--- the request of a fault of form
-pub read_refused : (j : Json) (f : Fault) → read_fault j ≡ Some f → read_request_of j ≡ Err (no_line (bad_form f))
-unfolding read_fault
-read_refused j f is = by (read_of j) is
-  where
-    by : (r : Result ReadRequest Fault) → result_err r ≡ Some f → map_err no_line (map_err bad_form r) ≡ Err (no_line (bad_form f))
-    by (Ok r) is = cc
-    by (Err e) is = ap (λ e. Err (no_line (bad_form e))) (some_same e f is)
+-- a request that is refused
+pub request-refused : {A : Type 0} (r : Result A Fault) (f : FormFault) → Refuses (result_err r) f → line_fault f ≢ line.Memory → map_err no_line (map_err bad_form r) ≡ Err (fault_view (line_fault f))
+request-refused r Memory refuses named = absurd (named refl)
+request-refused (Ok x) (Bad code names) refuses named = cc
+request-refused (Err e) (Bad code names) refuses named = ap (λ e. Err (no_line (bad_form e))) (some_same e (fault_under code names.items) refuses)
 
-pub write_refused : (j : Json) (f : Fault) → write_fault j ≡ Some f → write_request_of j ≡ Err (no_line (bad_form f))
-unfolding write_fault
-write_refused j f is = by (write_of j) is
-  where
-    by : (r : Result WriteRequest Fault) → result_err r ≡ Some f → map_err no_line (map_err bad_form r) ≡ Err (no_line (bad_form f))
-    by (Ok r) is = cc
-    by (Err e) is = ap (λ e. Err (no_line (bad_form e))) (some_same e f is)
-
--- a request without one
-pub read_told : (j : Json) (r : ReadRequest) → read_of j ≡ Ok r → read_request_of j ≡ Ok r
-read_told j r is = rw is refl
-
-pub write_told : (j : Json) (w : WriteRequest) → write_of j ≡ Ok w → write_request_of j ≡ Ok w
-write_told j w is = rw is refl
+-- and one that is not
+pub request-told : {A : Type 0} (r : Result A Fault) (x : A) → r ≡ Ok x → map_err no_line (map_err bad_form r) ≡ Ok x
+request-told r x is = rw is refl
 
 err_same : {A E : Type 0} (x y : E) → ◌≡◌ {A = Result A E} (Err x) (Err y) → x ≡ y
 err_same x y is = cc
@@ -315,21 +267,8 @@ read_line_failed sid j f is = line_failed (read_of j) (read sid) f is
 pub write_line_failed : (sid : ℕ) (j : Json) (f : InputFault) → write_request_of j ≡ Err f → write_line_of sid j ≡ Err f
 write_line_failed sid j f is = line_failed (write_of j) (write sid) f is
 
-pub read_line_made : (sid : ℕ) (j : Json) (r : ReadRequest) → read_request_of j ≡ Ok r → read_line_of sid j ≡ Ok (read sid r)
+pub read_line_made : (sid : ℕ) (j : Json) (r : ReadSet) → read_request_of j ≡ Ok r → read_line_of sid j ≡ Ok (read sid r)
 read_line_made sid j r is = line_made (read_of j) (read sid) r is
 
 pub write_line_made : (sid : ℕ) (j : Json) (w : WriteRequest) → write_request_of j ≡ Ok w → write_line_of sid j ≡ Ok (write sid w)
 write_line_made sid j w is = line_made (write_of j) (write sid) w is
-
--- the scope of a write that has one
-scope_of_test : (b : Bool) (t : List ℕ) → is_some {T = Option (List ℕ)} (if b then Some (Some t) else None) ≡ true → (if b then Some (Some t) else None) ≡ Some (Some t)
-scope_of_test true t is = refl
-scope_of_test false t is = cc
-
-pub scope_told : (j : Json) (t : List ℕ) → Some t ≡ text_of j → is_some (scope_ask (Some j)) ≡ true → scope_ask (Some j) ≡ Some (Some t)
-scope_told null t there is = cc
-scope_told (boolean b) t there is = cc
-scope_told (number n) t there is = cc
-scope_told (text u) t there is = scope_of_test (is_id u) u is ∙ ap (λ (u : List ℕ). Some (Some u)) (some_same u t (sym there))
-scope_told (list js) t there is = cc
-scope_told (object ms) t there is = cc

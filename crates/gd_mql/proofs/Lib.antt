@@ -7,6 +7,6 @@ pub mod Walked
 pub mod Written
 pub mod Shown
 pub mod Envelopes
-pub mod Refused
+pub mod Numbered
 pub mod SortedBy
 pub mod Entered

@@ -41,13 +41,6 @@ session-fits (number n) = refl
 session-fits (text t) = refl
 session-fits (list js) = refl
 
-pub has_session : (j : Json) (s : ℕ) → line_session j ≡ Some s → line_of j ≡ Err bad_line → ⊥
-has_session j s session bad = let P : Option ℕ → Type 0 = λ o. FitsSession o (line_of j) in subst P session (session-fits j) bad
-
--- what has no session is no line
-pub no_session : (j : Json) → line_session j ≡ None → line_of j ≡ Err bad_line
-no_session j session = let P : Option ℕ → Type 0 = λ o. FitsSession o (line_of j) in subst P session (session-fits j)
-
 -- ---- the request of a line
 
 by_read : (ms : Members) (names : Bool) (t : Option ℕ) (w : Option Json) (s : ℕ) (r : Json)
@@ -88,21 +81,3 @@ line_read (number n) r s session there = cc
 line_read (text t) r s session there = cc
 line_read (list js) r s session there = cc
 line_read (object ms) r s session there = by_read ms _ _ _ s r refl refl (sym there) refl session
-
--- a line with a write
-pub line_write : (j w : Json) (s : ℕ) → line_session j ≡ Some s → None ≡ member_of (codes "read") j → Some w ≡ member_of (codes "write") j → as_line (line_of j) ≡ write_line_of s w
-line_write null w s session none there = cc
-line_write (boolean b) w s session none there = cc
-line_write (number n) w s session none there = cc
-line_write (text t) w s session none there = cc
-line_write (list js) w s session none there = cc
-line_write (object ms) w s session none there = by_write ms _ _ s w refl refl (sym none) (sym there) session
-
--- it has one of them
-pub line_asks : (j : Json) (s : ℕ) → line_session j ≡ Some s → None ≡ member_of (codes "read") j → None ≡ member_of (codes "write") j → ⊥
-line_asks null s session none none' = cc
-line_asks (boolean b) s session none none' = cc
-line_asks (number n) s session none none' = cc
-line_asks (text t) s session none none' = cc
-line_asks (list js) s session none none' = cc
-line_asks (object ms) s session none none' = by_none ms _ _ s refl refl (sym none) (sym none') session

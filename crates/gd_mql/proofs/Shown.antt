@@ -96,15 +96,6 @@ list_right n j js is none = sym (ap (form_fault n) (list_shape j js is)) ∙ non
 pub list_shown : (n : Name) (j : tree.Json) (js : tree.Items) (f : Form) → Some js ≡ items_in j → form_of n (tree.list js) ≡ Ok f → form_of n j ≡ Ok f
 list_shown n j js f is shown = ap (form_of n) (list_shape j js is) ∙ shown
 
--- null and literals
-pub plain_shown : (n : Name) (j : tree.Json) (b : Bool) → None ≡ members_in j → None ≡ items_in j → b ≡ is_null j → form_of n j ≡ Ok (if b then query.ask else query.literal j)
-plain_shown n tree.null b no_object no_list is = rw is refl
-plain_shown n (tree.boolean t) b no_object no_list is = rw is refl
-plain_shown n (tree.number m) b no_object no_list is = rw is refl
-plain_shown n (tree.text t) b no_object no_list is = rw is refl
-plain_shown n (tree.list js) b no_object no_list is = cc
-plain_shown n (tree.object ms) b no_object no_list is = cc
-
 -- ---- parts
 
 named_sort : (k s : List ℕ) → s ≡ k → true ≡ bytes_eq s (codes "sort") → k ≡ codes "sort"

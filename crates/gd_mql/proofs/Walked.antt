@@ -16,6 +16,9 @@ use Rattle.gd_form_laws.proofs.Queries.{no_clause, clause-first, object-fault, s
 use Rattle.gd_mql.specs.declared.form_fault.FormFault.{FormFault}
 use Rattle.gd_mql.specs.declared.form_fault.FormFault.TheVariants.{Bad, Memory}
 use Rattle.gd_mql.specs.FormFault.{Checks, Refuses, fault_under}
+use Rattle.gd_mql.specs.Directives.{word_name, word_named}
+use Rattle.gd_mql.specs.declared.directive.DirectiveWord.{DirectiveWord}
+use Rattle.gd_mql.proofs.Literals.{word-name, word-directive}
 
 -- the fault of the members from an index on: that of the first of them, else that of the others
 members-drop : (root : Bool) (ms : List (List ℕ × Json)) (i : ℕ) (m : List ℕ × Json) → i < length ms → m ≡ get_or ms i m
@@ -49,10 +52,6 @@ pub sole_object-form : (n : Name) (v : Vec (List ℕ × Json) Global) (j : Json)
 sole_object-form n v j is =
     ap (λ (j : Json). form_fault n (tree.list (item (view j) no_items))) is
     ∙ (ap (λ t. form_fault n (tree.list (item t no_items))) (view-Object v) ∙ sole_object-fault n (members_view v.items))
-
--- the form of a list
-pub list-form : (n : Name) (v : Vec Json Global) (j : Json) → j ≡ List' v → form_fault n (view j) ≡ form_fault n (tree.list (items_view v.items))
-list-form n v j is = ap (λ (j : Json). form_fault n (view j)) is ∙ ap (λ t. form_fault n t) (view-List v)
 
 -- the query of an object, of a list, and of a list of one object
 pub object-query_of : (v : Vec (List ℕ × Json) Global) (j : Json) → j ≡ Object v → query_fault (view j) ≡ clause_fault true (members_view v.items)
@@ -99,11 +98,12 @@ none_view (a ∷ js) len = absurd (past len)
 -- ---- a member, whose name was read as a text
 
 -- a directive
-pub member-directive : (root : Bool) (k s : List ℕ) (j : tree.Json) (r : Result (Unit {0}) FormFault) → s ≡ k → true ≡ is_directive s → Checks (result_err (with_directive root s j (Ok no_clause))) r
+pub member-directive : (root : Bool) (k s : List ℕ) (j : tree.Json) (w : DirectiveWord) (r : Result (Unit {0}) FormFault) → s ≡ k → Some w ≡ word_named s → Checks (result_err (with_directive root (word_name w) j (Ok no_clause))) r
     → Checks (member_fault root k j) r
-member-directive root k s j r same is checks =
-    let named : is_directive k ≡ true = ap is_directive (sym same) ∙ sym is in
-    subst (λ e. Checks e r) (ap (λ s. result_err (with_directive root s j (Ok no_clause))) same ∙ sym (directive-alone root k j named)) checks
+member-directive root k s j w r same is checks =
+    let name : word_name w ≡ k = sym (word-name s w is) ∙ same in
+    let named : is_directive k ≡ true = ap is_directive (sym name) ∙ word-directive w in
+    subst (λ e. Checks e r) (ap (λ s. result_err (with_directive root s j (Ok no_clause))) name ∙ sym (directive-alone root k j named)) checks
 
 -- a name with what stands behind it
 pub member-named : (root : Bool) (k s : List ℕ) (j : tree.Json) (n : Name) (r : Result (Unit {0}) FormFault) → s ≡ k → false ≡ is_directive s → member_name root s ≡ Ok n → Checks (value_fault n j) r

@@ -1,39 +1,38 @@
--- The first faults of form of requests, as words of their own.
-use Rattle.std.specs.Prelude.{ℕ, Bool, not, ◌&&◌, Option, Some, None, [], Result, Ok, if◌then◌else◌}
-use Rattle.std.specs.Result.{result_err}
+-- What envelopes spell, step by step, and the lines in which they stand.
+use Rattle.std.specs.Prelude.{ℕ, List, [], ◌∷◌, Bool, Option, Some, codes, option_and_then, Result, Ok, if◌then◌else◌}
+use Rattle.std.specs.Option.{option_map_or}
 use Rattle.gd_grammar.specs.Chain.{◌>>=◌, map_err}
-use Rattle.gd_tree.specs.Json.{Json, object}
-use Rattle.gd_defs.specs.Query.{Fault, envelope}
-use Rattle.gd_form_laws.specs.Faults.{query_fault}
+use Rattle.gd_tree.specs.Json.{Json, object, Items}
+use Rattle.gd_tree.specs.Look.{members_in}
+use Rattle.gd_defs.specs.Query.{Fault, envelope, root_fault, or_root, query_of}
 use Rattle.gd_form_laws.specs.WriteFaults.{change_fault}
-use Rattle.gd_defs.specs.Write.{WriteRequest}
-use Rattle.gd_runs.specs.Request.{Line, ReadRequest, read, write, bad_form, read_of, write_of, has_pages}
+use Rattle.gd_defs.specs.Write.{WriteSet, WriteRequest}
+use Rattle.gd_runs.specs.Request.{Line, CursorAsk, ReadRequest, ReadSet, read, write, bad_form, read_of, write_of, is_misplaced, queries_in, write_set_of}
 use Rattle.gd_runs.specs.Input.{InputFault, no_line, as_line}
 
--- the first fault of a read
-unfoldable pub read_fault : Json → Option Fault
-read_fault j = result_err (read_of j)
+-- the value, or where there is none a fault of the envelope
+abbrev pub or_envelope : {A : Type 0} → Option A → Result A Fault
+or_envelope x = or_root envelope x
 
--- the first fault of a write
-unfoldable pub write_fault : Json → Option Fault
-write_fault j = result_err (write_of j)
+-- a query with its page, by itself or among several, where the page may be asked for
+abbrev pub paged_of : Bool → CursorAsk → Json → Result ReadRequest Fault
+paged_of among c j = if is_misplaced among c j then root_fault envelope else (query_of j >>= λ q. Ok (record { cursor = c; query = q }))
 
--- a fault of the envelope
-abbrev pub envelope_fault : Option Fault
-envelope_fault = Some (record { code = envelope; path = [] })
+-- the items of the member `queries` of an envelope that has no members but of that name and of another
+abbrev pub few_of : List ℕ → Json → Option Items
+few_of other j = option_and_then (queries_in (codes "queries" ∷ other ∷ [])) (members_in j)
 
--- the first fault of the query of a read, which asks for a cursor or does not, or has a cursor that is none
-abbrev pub paged_fault : Option Bool → Json → Option Fault
-paged_fault None q = envelope_fault
-paged_fault (Some asks) q = if asks && not (has_pages q) then envelope_fault else query_fault q
-
--- the first fault of the query of a write
+-- the first fault of a clause in the envelope of a write
 abbrev pub written_fault : Json → Option Fault
 written_fault (object ms) = change_fault (object ms)
-written_fault _ = envelope_fault
+written_fault _ = Some (record { code = envelope; path = [] })
+
+-- what the members of an envelope ask of a write
+abbrev pub write_set_in : Json → Result WriteSet Fault
+write_set_in j = option_map_or write_set_of (members_in j) (root_fault envelope)
 
 -- the read that an envelope spells, or the fault of the line that it stands in
-abbrev pub read_request_of : Json → Result ReadRequest InputFault
+abbrev pub read_request_of : Json → Result ReadSet InputFault
 read_request_of j = map_err no_line (map_err bad_form (read_of j))
 
 -- the write that an envelope spells, or the fault of the line that it stands in

@@ -1,7 +1,8 @@
 -- Requests as the definitions have them.
-use Rattle.std.specs.Prelude.{◌≡◌, ◌≢◌, Result, Ok, Err, MatchResult}
+use Rattle.std.specs.Prelude.{◌≡◌, ◌≢◌, map, Result, Ok, Err, MatchResult}
 use Rattle.gd_json.specs.View.{view}
 use Rattle.gd_defs.specs.Query as query
+use Rattle.gd_defs.specs.Change as change
 use Rattle.gd_defs.specs.Write as write
 use Rattle.gd_runs.specs.Request as request
 use Rattle.gd_runs.specs.Input.{InputFault}
@@ -14,6 +15,11 @@ use Rattle.gd_fault.specs.declared.fault.LineFault.TheVariants as fault
 use Rattle.gd_mql.specs.declared.request.CursorAsk.{CursorAsk}
 use Rattle.gd_mql.specs.declared.request.CursorAsk.TheVariants as cursor
 use Rattle.gd_mql.specs.declared.request.ReadRequest.{ReadRequest}
+use Rattle.gd_mql.specs.declared.request.ReadSet.{ReadSet}
+use Rattle.gd_mql.specs.declared.request.ReadSet.TheVariants as asked
+use Rattle.gd_mql.specs.declared.request.ChangeRequest.{ChangeRequest}
+use Rattle.gd_mql.specs.declared.request.WriteSet.{WriteSet}
+use Rattle.gd_mql.specs.declared.request.WriteSet.TheVariants as wanted
 use Rattle.gd_mql.specs.declared.request.WriteRequest.{WriteRequest}
 use Rattle.gd_mql.specs.declared.request.Query.{Query}
 use Rattle.gd_mql.specs.declared.request.Line.{Line}
@@ -29,9 +35,23 @@ cursor_view (cursor.After t) = request.page_after t
 abbrev pub read_view : ReadRequest → request.ReadRequest
 read_view r = record { cursor = cursor_view r.cursor; query = spelled_query (view r.query) }
 
+-- what this asks: one query, or several
+abbrev pub read_set_view : ReadSet → request.ReadSet
+read_set_view (asked.One r) = request.one_query (read_view r)
+read_set_view (asked.Several rs) = request.queries (map read_view rs)
+
+-- the change that this is
+abbrev pub asked_change : ChangeRequest → change.Change
+asked_change c = spelled_change (view c.query)
+
+-- what this asks: one change, or several
+abbrev pub write_set_view : WriteSet → write.WriteSet
+write_set_view (wanted.One c) = write.one_change (asked_change c)
+write_set_view (wanted.Several cs) = write.changes (map asked_change cs)
+
 -- the write that this is
 abbrev pub write_view : WriteRequest → write.WriteRequest
-write_view w = record { scope = w.scope; change = spelled_change (view w.query) }
+write_view w = record { scope = w.scope; asks = write_set_view w.asks }
 
 -- the query that this is
 abbrev pub query_view : Query → query.Query
@@ -39,7 +59,7 @@ query_view q = record { listed = q.listed; directives = (clause_view q.root).0; 
 
 -- the line that this is
 abbrev pub line_view : Line → request.Line
-line_view (Read sid r) = request.read sid (read_view r)
+line_view (Read sid r) = request.read sid (read_set_view r)
 line_view (Write sid w) = request.write sid (write_view w)
 
 -- the call gives the line or the fault that is expected, or else memory was wanting

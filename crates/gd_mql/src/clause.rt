@@ -1,7 +1,7 @@
 //! A query that was read, walked clause by clause: it takes no memory, and nothing in it can fail.
 ghost use Rattle.std.specs.Prelude.{◌≡◌, ◌≢◌, ◌≤◌, ◌<◌, true, false, None, Ok, Option, MatchOption};
 ghost use Rattle.std.specs.Prelude.{is_none, is_some, option_map, option_and_then, if◌then◌else◌};
-ghost use Rattle.std.specs.Prelude.{codes, bytes_eq, not, ◌&&◌};
+ghost use Rattle.std.specs.Prelude.{bytes_eq, not, ◌&&◌};
 ghost use Rattle.gd_tree.specs.Look.{get};
 ghost use Rattle.gd_tree.specs.Json.{Members as JsonMembers, member as json_member, list, item};
 ghost use Rattle.gd_tree.specs.Json.{no_items};
@@ -10,11 +10,12 @@ ghost use Rattle.gd_json.specs.View.{view, items_view, members_view};
 ghost use Rattle.gd_form_laws.specs.Faults.{clause_fault, member_fault, value_fault, form_fault};
 ghost use Rattle.gd_form_laws.specs.Spelled.{spelled_members};
 ghost use Rattle.gd_mql.specs.Names.{name_view};
-ghost use Rattle.gd_mql.specs.Directives.{mode_view, directives_view};
+ghost use Rattle.gd_mql.specs.Directives.{mode_view, directives_view, word_name};
 ghost use Rattle.gd_mql.specs.QueryForm.{takes_operand};
 
 use crate::directive::{
-    Directives, Mode, SortWord, is_directive, item_word, limit_of, mode_of, sort_word,
+    DirectiveWord, Directives, Mode, SortWord, is_directive, item_word, limit_of, mode_of,
+    sort_word,
 };
 use crate::name::{Name, Operator};
 use crate::object::{has, member};
@@ -67,23 +68,24 @@ pub enum Part<'a> {
 
 fn spelled_mode(members: &[(JsonText, Json)]) -> Option<Mode>
     ensures { option_map mode_view result ≡ option_and_then query.mode_of
-        (get (codes "optional") (members_view members.now)) }
+        (get (word_name DirectiveWord.Optional) (members_view members.now)) }
 {
-    mode_of(member(members, "optional")?)
+    mode_of(member(members, DirectiveWord::Optional.name())?)
 }
 
 fn spelled_limit(members: &[(JsonText, Json)]) -> Option<u32>
     ensures { result ≡ option_and_then query.limit_of
-        (get (codes "limit") (members_view members.now)) }
+        (get (word_name DirectiveWord.Limit) (members_view members.now)) }
 {
-    limit_of(member(members, "limit")?)
+    limit_of(member(members, DirectiveWord::Limit.name())?)
 }
 
 /// Whether the name is that of a directive other than `sort`.
 fn is_no_part(name: &str) -> bool
-    ensures { result ≡ (query.is_directive name.now && not (bytes_eq name.now (codes "sort"))) }
+    ensures { result ≡ (query.is_directive name.now
+        && not (bytes_eq name.now (word_name DirectiveWord.Sort))) }
 {
-    is_directive(name) && name != "sort"
+    is_directive(name) && !DirectiveWord::Sort.is_named(name)
 }
 
 impl<'a> Clause<'a> {
@@ -115,7 +117,7 @@ impl<'a> Clause<'a> {
         Directives {
             mode: spelled_mode(self.members),
             limit: spelled_limit(self.members),
-            count: has(self.members, "return"),
+            count: has(self.members, DirectiveWord::Return.name()),
         }
     }
 
@@ -249,15 +251,15 @@ impl<'a> Part<'a> {
 
     /// The part that a member is, which is `sort` or no directive and has no fault of form.
     fn of(root: bool, name: &'a JsonText, value: &'a Json) -> Part<'a>
-        requires part { (query.is_directive name.now && not (bytes_eq name.now (codes "sort")))
-            ≡ false }
+        requires part { (query.is_directive name.now
+            && not (bytes_eq name.now (word_name DirectiveWord.Sort))) ≡ false }
         requires right { member_fault root name.now (view value.now) ≡ None }
         ensures { (ms : JsonMembers) → clause_fault root ms ≡ None
             → spelled_members root (json_member name.now (view value.now) ms)
             ≡ with_part result (spelled_members root ms) }
     {
         let spelled = name.as_str();
-        if spelled == "sort" {
+        if DirectiveWord::Sort.is_named(spelled) {
             return Part::Sort(SortWords { spelled: value });
         }
         match member_name(root, spelled) {

@@ -1,6 +1,6 @@
 //! Directives of a clause: `optional`, `sort`, `limit` and `return`.
 ghost use Rattle.std.specs.Prelude.{◌≡◌, ◌&&◌, option_map, option_and_then, is_some, if◌then◌else◌};
-ghost use Rattle.std.specs.Prelude.{Some, None, false};
+ghost use Rattle.std.specs.Prelude.{Some, None, false, bytes_eq};
 ghost use Rattle.std.specs.Int.{is_in_range};
 ghost use Rattle.std.specs.Option.{option_map_or};
 ghost use Rattle.gd_tree.specs.Json.{text};
@@ -8,7 +8,8 @@ ghost use Rattle.gd_tree.specs.Look.{text_of, items_len};
 ghost use Rattle.gd_defs.specs.Query.{is_directive as names_directive};
 ghost use Rattle.gd_defs.specs.Query.Directive as defined;
 ghost use Rattle.gd_json.specs.View.{view, items_view};
-ghost use Rattle.gd_mql.specs.Directives.{mode_view, sort_word_view, directive_fits as fits};
+ghost use Rattle.gd_mql.specs.Directives.{mode_view, sort_word_view, word_named};
+ghost use Rattle.gd_mql.specs.Directives.{directive_fits as fits};
 
 use crate::operand::counts_to;
 use gd_fault::ids::{is_key, is_key_path};
@@ -44,17 +45,60 @@ pub struct Directives {
     pub count: bool,
 }
 
+/// The directives.
+#[derive(Clone, Copy)]
+pub enum DirectiveWord {
+    Optional,
+    Sort,
+    Limit,
+    Return,
+}
+
+impl DirectiveWord {
+    ghost use Rattle.gd_mql.specs.Directives.{word_name};
+
+    /// The name of the directive.
+    pub fn name(self) -> &'static str
+        ensures { result.now ≡ word_name self }
+    {
+        match self {
+            DirectiveWord::Optional => "optional",
+            DirectiveWord::Sort => "sort",
+            DirectiveWord::Limit => "limit",
+            DirectiveWord::Return => "return",
+        }
+    }
+
+    /// Whether the name is that of the directive.
+    pub fn is_named(self, name: &str) -> bool
+        ensures { result ≡ bytes_eq name.now (word_name self) }
+    {
+        name == self.name()
+    }
+}
+
+/// The directive of this name.
+pub fn directive_word(name: &str) -> Option<DirectiveWord>
+    ensures { result ≡ word_named name.now }
+{
+    if DirectiveWord::Optional.is_named(name) {
+        Some(DirectiveWord::Optional)
+    } else if DirectiveWord::Sort.is_named(name) {
+        Some(DirectiveWord::Sort)
+    } else if DirectiveWord::Limit.is_named(name) {
+        Some(DirectiveWord::Limit)
+    } else if DirectiveWord::Return.is_named(name) {
+        Some(DirectiveWord::Return)
+    } else {
+        None
+    }
+}
+
 /// Whether the name is that of a directive.
 pub fn is_directive(name: &str) -> bool
     ensures { result ≡ names_directive name.now }
 {
-    match name {
-        "optional" => true,
-        "sort" => true,
-        "limit" => true,
-        "return" => true,
-        _ => false,
-    }
+    directive_word(name).is_some()
 }
 
 fn mode_word(word: &str) -> Option<Mode>
@@ -201,18 +245,15 @@ fn optional_fits(root: bool, value: &Json) -> bool
     }
 }
 
-/// Whether the directive of this name may have the value, at the root or elsewhere: the root has no
-/// `optional`, and it alone has `return`.
-pub fn directive_fits(root: bool, name: &str, value: &Json) -> bool
-    ensures { result ≡ fits root name.now (view value.now) }
+/// Whether the directive may have the value, at the root or elsewhere: the root has no `optional`,
+/// and it alone has `return`.
+pub fn directive_fits(root: bool, word: DirectiveWord, value: &Json) -> bool
+    ensures { result ≡ fits root word (view value.now) }
 {
-    if name == "optional" {
-        optional_fits(root, value)
-    } else if name == "limit" {
-        limit_of(value).is_some()
-    } else if name == "sort" {
-        is_sort(value)
-    } else {
-        root && is_count(value)
+    match word {
+        DirectiveWord::Optional => optional_fits(root, value),
+        DirectiveWord::Sort => is_sort(value),
+        DirectiveWord::Limit => limit_of(value).is_some(),
+        DirectiveWord::Return => root && is_count(value),
     }
 }

@@ -8,7 +8,7 @@ ghost use Rattle.gd_mql.specs.FormFault.{Refuses};
 use gd_base::memory::Memory;
 use gd_fault::fault::{Code, LineFault, Path};
 use gd_json::value::JsonText;
-use std::alloc::Global;
+use std::alloc::{AllocError, AllocFailed, Global};
 
 /// A code at the member to which names lead, the innermost first; or want of memory.
 #[derive(Drop)]
@@ -33,6 +33,36 @@ impl From<FormFault> for LineFault {
             }
             FormFault::Memory => LineFault::Memory,
         }
+    }
+}
+
+impl From<Memory> for FormFault {
+    ghost use Rattle.gd_mql.specs.declared.form_fault.FormFault.TheVariants.{Memory as no_memory};
+
+    ghost from_gives = { λ _ fault. fault ≡ no_memory };
+
+    fn from(_refused: Memory) -> FormFault {
+        FormFault::Memory
+    }
+}
+
+impl From<AllocError> for FormFault {
+    ghost use Rattle.gd_mql.specs.declared.form_fault.FormFault.TheVariants.{Memory as no_memory};
+
+    ghost from_gives = { λ _ fault. fault ≡ no_memory };
+
+    fn from(_refused: AllocError) -> FormFault {
+        FormFault::Memory
+    }
+}
+
+impl<T: Drop> From<AllocFailed<T>> for FormFault {
+    ghost use Rattle.gd_mql.specs.declared.form_fault.FormFault.TheVariants.{Memory as no_memory};
+
+    ghost from_gives = { λ _ fault. fault ≡ no_memory };
+
+    fn from(_refused: AllocFailed<T>) -> FormFault {
+        FormFault::Memory
     }
 }
 

@@ -9,6 +9,7 @@ mod envelope;
 mod form_fault;
 pub mod line;
 pub mod name;
+pub mod number;
 pub mod object;
 mod operand;
 pub mod query_form;

@@ -1,7 +1,8 @@
 //! Looking into the members of an object.
-ghost use Rattle.std.specs.Prelude.{◌≡◌, ◌||◌, ◌∷◌, [], is_some, option_map, bytes_eq};
+ghost use Rattle.std.specs.Prelude.{◌≡◌, ◌||◌, ◌∷◌, [], false, is_some, option_map, bytes_eq};
 ghost use Rattle.std.specs.List.{list_all};
-ghost use Rattle.gd_tree.specs.Look.{get, only, member_of};
+ghost use Rattle.std.specs.Option.{option_map_or};
+ghost use Rattle.gd_tree.specs.Look.{get, only, member_of, members_in};
 ghost use Rattle.gd_defs.specs.Change.{text_member, made_of};
 ghost use Rattle.gd_json.specs.View.{view, members_view};
 
@@ -115,6 +116,27 @@ pub fn is_made_of_three_or(
         (members_view members.now) }
 {
     has(members, a) && has(members, b) && has(members, c) && only_of(members, a, b, c, more)
+}
+
+/// Whether the name of each member is one of these two.
+fn all_named(members: &[(JsonText, Json)], first: &str, second: &str) -> bool
+    ensures { result ≡ list_all (λ member. bytes_eq member.0 first.now
+        || bytes_eq member.0 second.now) members.now }
+{
+    members
+        .iter()
+        .all(|member| is_either(member.0.as_str(), first, second))
+}
+
+/// Whether the value is an object that has no members but of these two names.
+pub(crate) fn has_only(value: &Json, first: &str, second: &str) -> bool
+    ensures { result ≡ option_map_or (only (first.now ∷ second.now ∷ []))
+        (members_in (view value.now)) false }
+{
+    match value.as_object() {
+        Some(members) => all_named(members, first, second),
+        None => false,
+    }
 }
 
 /// The value of the member of this name, taken out of its object.

@@ -9,11 +9,12 @@ ghost use Rattle.gd_defs.specs.Query as defined;
 ghost use Rattle.gd_json.specs.View.{view, items_view, members_view};
 ghost use Rattle.gd_form_laws.specs.Faults.{clause_fault, member_fault, form_fault, value_fault};
 ghost use Rattle.gd_form_laws.specs.Faults.{query_fault, below as seen_below};
+ghost use Rattle.gd_mql.specs.Directives.{word_name};
 ghost use Rattle.gd_mql.specs.FormFault.{Checks};
 ghost use Rattle.gd_mql.specs.Names.{name_view};
 ghost use Rattle.gd_mql.specs.QueryForm.{NameGives, takes_operand};
 
-use crate::directive::{directive_fits, is_directive};
+use crate::directive::{DirectiveWord, directive_fits, directive_word};
 use crate::form_fault::{FormFault, below, fault_at, root_fault};
 use crate::name::{Name, Operator, name_from};
 use crate::operand::{is_computed, is_left_out, is_link, operand_fits};
@@ -115,14 +116,19 @@ fn check_operand(alloc: Global, name: &Name<'_>, value: &Json) -> Result<(), For
     }
 }
 
-fn check_directive(alloc: Global, root: bool, name: &str, value: &Json) -> Result<(), FormFault>
-    ensures { Checks (result_err (defined.with_directive root name.now (view value.now)
+fn check_directive(
+    alloc: Global,
+    root: bool,
+    word: DirectiveWord,
+    value: &Json,
+) -> Result<(), FormFault>
+    ensures { Checks (result_err (defined.with_directive root (word_name word) (view value.now)
         (Ok (defined.no_directives, defined.no_members)))) result }
 {
-    if directive_fits(root, name, value) {
+    if directive_fits(root, word, value) {
         Ok(())
     } else {
-        Err(fault_at(alloc, Code::BadDirective, name))
+        Err(fault_at(alloc, Code::BadDirective, word.name()))
     }
 }
 
@@ -146,8 +152,8 @@ fn check_member(alloc: Global, root: bool, name: &JsonText, value: &Json) -> Res
     ensures { Checks (member_fault root name.now (view value.now)) result }
 {
     let spelled = name.as_str();
-    if is_directive(spelled) {
-        return check_directive(alloc, root, spelled, value);
+    if let Some(word) = directive_word(spelled) {
+        return check_directive(alloc, root, word, value);
     }
     match member_name(root, spelled) {
         Ok(name) => check_form(alloc, &name, value),

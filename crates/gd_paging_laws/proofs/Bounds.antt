@@ -1,6 +1,6 @@
 -- A query that was read has four sort keys at most, and a limit of one at least.
-use Rattle.std.proofs.Common.{◌≡◌, ◌≤◌, ◌<◌, ℕ, List, [], ◌∷◌, ◌++◌, Bool, true, false, ◌&&◌, Option, Some, None, Result, Ok, codes, length, refl, ap, sym, subst, arith, pos}
-use Rattle.std.specs.Prelude.{if◌then◌else◌, bytes_eq, option_map, unwrap_or, negsuc}
+use Rattle.std.proofs.Common.{◌≡◌, ◌≤◌, ◌<◌, ℕ, List, [], ◌∷◌, ◌++◌, Bool, true, false, ◌&&◌, Option, Some, None, Result, Ok, length, refl, ap, sym, subst, arith, pos}
+use Rattle.std.specs.Prelude.{if◌then◌else◌, option_map, unwrap_or, negsuc}
 use Rattle.std.specs.Option.{option_map_or}
 use Rattle.std.specs.Int.{is_in_range}
 use Rattle.std.proofs.lemmas.Bool.Decides.{nat_tests}
@@ -12,6 +12,7 @@ use Rattle.gd_tree.specs.Look.{items_len}
 use Rattle.gd_defs.specs.Query as query
 use Rattle.gd_defs.specs.Query.{Fault, Name, Form, Members, Clause, Query, SortWord, Directives, no_directives, optional, bad_directive, or_fault, fault, is_directive, mode_of, limit_of, sort_of, is_count, default_members, clause_or_default, with_member, member_name, with_directive, form_or_operand, clause_of, form_of, root_query, query_of}
 use Rattle.gd_defs.specs.Query.Directive.{sort_word, sort_words}
+use Rattle.gd_defs.proofs.Directives.{sort_name, each_effect}
 use Rattle.gd_defs.specs.Asked as defs
 use Rattle.gd_defs.specs.Asked.Forms.{asks_single}
 use Rattle.gd_defs.specs.Property.{Property}
@@ -81,7 +82,12 @@ sort_few (object ms) ws is = absurd (cc)
 -- ---- clauses
 
 directive_bounded : (root : Bool) (k : List ℕ) (j : Json) (rest : Result Clause Fault) (c : Clause) → ((d : Clause) → rest ≡ Ok d → Bounded d) → with_directive root k j rest ≡ Ok c → Bounded c
-directive_bounded root k j rest c more is = by (bytes_eq k (codes "optional")) (bytes_eq k (codes "limit")) (bytes_eq k (codes "sort")) (root && is_count j) is
+directive_bounded root k j rest c more is =
+    each_effect (λ (f : Result Clause Fault → Result Clause Fault). f rest ≡ Ok c → Bounded c) root k j
+    (with_value (or_fault bad_directive k (if root then None else mode_of j)) (λ m c. (record c.0 { mode = Some m }, c.1)) (λ x here d bounded. record { few = bounded.few; some = bounded.some }))
+    (with_value (or_fault bad_directive k (limit_of j)) (λ n c. (record c.0 { limit = Some n }, c.1)) (λ x here d bounded. record { few = bounded.few; some = limit_some j x (some_given (limit_of j) _ x here) }))
+    (with_value (or_fault bad_directive k (sort_of j)) (λ ws c. (c.0, query.sort_by ws c.1)) (λ x here d bounded. record { few = sort_few j x (some_given (sort_of j) _ x here); some = bounded.some }))
+    (counted (root && is_count j)) is
   where
     changed : (change : Clause → Clause) → ((d : Clause) → Bounded d → Bounded (change d)) → (rest >>= λ c. Ok (change c)) ≡ Ok c → Bounded c
     changed change keeps is =
@@ -93,17 +99,9 @@ directive_bounded root k j rest c more is = by (bytes_eq k (codes "optional")) (
         let step = steps v (λ x. rest >>= λ c. Ok (change x c)) c is in
         changed (change step.value) (keeps step.value step.gave) step.then_gave
 
-    by : (b1 b2 b3 b4 : Bool)
-        → (if b1 then (or_fault bad_directive k (if root then None else mode_of j) >>= λ m. rest >>= λ (c : Clause). Ok (record c.0 { mode = Some m }, c.1))
-        else if b2 then (or_fault bad_directive k (limit_of j) >>= λ n. rest >>= λ (c : Clause). Ok (record c.0 { limit = Some n }, c.1))
-        else if b3 then (or_fault bad_directive k (sort_of j) >>= λ ws. rest >>= λ c. Ok (c.0, query.sort_by ws c.1))
-        else if b4 then (rest >>= λ (c : Clause). Ok (record c.0 { count = true }, c.1)) else fault bad_directive k) ≡ Ok c
-        → Bounded c
-    by true b2 b3 b4 is = with_value (or_fault bad_directive k (if root then None else mode_of j)) (λ m c. (record c.0 { mode = Some m }, c.1)) (λ x here d bounded. record { few = bounded.few; some = bounded.some }) is
-    by false true b3 b4 is = with_value (or_fault bad_directive k (limit_of j)) (λ n c. (record c.0 { limit = Some n }, c.1)) (λ x here d bounded. record { few = bounded.few; some = limit_some j x (some_given (limit_of j) _ x here) }) is
-    by false false true b4 is = with_value (or_fault bad_directive k (sort_of j)) (λ ws c. (c.0, query.sort_by ws c.1)) (λ x here d bounded. record { few = sort_few j x (some_given (sort_of j) _ x here); some = bounded.some }) is
-    by false false false true is = changed (λ c. (record c.0 { count = true }, c.1)) (λ d bounded. record { few = bounded.few; some = bounded.some }) is
-    by false false false false is = absurd (cc)
+    counted : (b : Bool) → (if b then (rest >>= λ (c : Clause). Ok (record c.0 { count = true }, c.1)) else fault bad_directive k) ≡ Ok c → Bounded c
+    counted true is = changed (λ c. (record c.0 { count = true }, c.1)) (λ d bounded. record { few = bounded.few; some = bounded.some }) is
+    counted false is = absurd (cc)
 
 member_bounded : (root : Bool) (k : List ℕ) (j : Json) (form : Name → Result Form Fault) (rest : Result Clause Fault) (c : Clause) → ((d : Clause) → rest ≡ Ok d → Bounded d)
     → (if is_directive k then with_directive root k j rest else (member_name root k >>= λ n. form_or_operand n j (form n) >>= λ f. rest >>= λ c. Ok (with_member n f c))) ≡ Ok c → Bounded c
@@ -177,9 +175,9 @@ member_few prims context path n f r form c more is = by (own_of n.word) is
 asked_few : (prims : List Primitive) (context : Option ℕ) (path : List (List ℕ)) (ms : Members) (c : defs.Clause) → Few ms → asked prims context path ms ≡ Ok c → length c.1 ≤ 4
 asked_few prims context path query.no_members c few is = subst (λ (c : defs.Clause). length c.1 ≤ 4) (ok_same (defs.no_members, []) c is) (omega arith)
 asked_few prims context path (query.sort_by ws ms) c few is =
-    let one = steps (sort_keys prims context (path ++ codes "sort" ∷ []) ws) (λ ks. asked prims context path ms >>= λ c. Ok (c.0, ks)) c is in
+    let one = steps (sort_keys prims context (path ++ sort_name ∷ []) ws) (λ ks. asked prims context path ms >>= λ c. Ok (c.0, ks)) c is in
     let more = steps (asked prims context path ms) (λ c. Ok (c.0, one.value)) c one.then_gave in
-    let len = keys_len prims context (path ++ codes "sort" ∷ []) ws one.value one.gave in
+    let len = keys_len prims context (path ++ sort_name ∷ []) ws one.value one.gave in
     subst (λ (c : defs.Clause). length c.1 ≤ 4) (ok_same (more.value.0, one.value) c more.then_gave) (omega arith)
 asked_few prims context path (query.member n f ms) c few is =
     member_few prims context (path ++ n.spelled ∷ []) n f (asked prims context path ms) (λ p. asked_form prims (path ++ n.spelled ∷ []) n p f) c (λ d made. asked_few prims context path ms d few made) is

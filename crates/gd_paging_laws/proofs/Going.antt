@@ -1,5 +1,5 @@
 -- The cursor that the line of a page tells, and the store of an earlier page.
-use Rattle.std.proofs.Common.{◌≡◌, ℕ, Bool, true, false, if◌then◌else◌, List, [], ◌∷◌, ◌++◌, length, flat_map, refl, Some, None, Result, Ok, Err, subst, ap, arith, append_assoc, length-append, sym, ◌∙◌}
+use Rattle.std.proofs.Common.{◌≡◌, ℕ, Bool, true, false, if◌then◌else◌, List, [], ◌∷◌, ◌++◌, length, flat_map, refl, Some, None, Result, Ok, Err, ap, arith, append_assoc, length-append, sym, ◌∙◌}
 use Rattle.std.specs.Prelude.{nat_lt}
 use Rattle.gd_prim.specs.declared.Batch.{Batch}
 use Rattle.gd_prim.specs.Builtin.{builtin}
@@ -9,14 +9,14 @@ use Rattle.gd_tree.specs.Json.{Json, list, Items}
 use Rattle.gd_defs.specs.Query.{Query}
 use Rattle.gd_defs.specs.Lines.{err_line, bad_cursor, cursor_ahead, ok_cursor_line}
 use Rattle.gd_defs.specs.Reply.{reply}
-use Rattle.gd_runs.specs.Request.{CursorAsk, no_cursor, first_page, page_after, page_reply, reply_of}
+use Rattle.gd_runs.specs.Request.{CursorAsk, no_cursor, first_page, page_after, page_reply, query_reply}
 use Rattle.gd_paging_laws.specs.Paged.{Grown, AreWithin}
 use Rattle.gd_paging_laws.specs.Told.{IsCursor}
 use Rattle.gd_paging_laws.proofs.Told.{not_refused}
 use Rattle.gd_paging_laws.proofs.Lines.{line_cursor}
 
 -- the cursor of a page is false or a clear text
-pub page_told : (batches : List Batch) (n line d : ℕ) (ask : CursorAsk) (q : Query) (c : Json) (js : Items) → reply_of batches n line (record { cursor = ask; query = q }) ≡ ok_cursor_line d line c (list js) → IsCursor c
+pub page_told : (batches : List Batch) (n line d : ℕ) (ask : CursorAsk) (q : Query) (c : Json) (js : Items) → query_reply batches n line (record { cursor = ask; query = q }) ≡ ok_cursor_line d line c (list js) → IsCursor c
 page_told batches n line d no_cursor q c js e = line_cursor (prims_at batches n) q n line d false None c js e
 page_told batches n line d first_page q c js e = line_cursor (prims_at batches n) q n line d true None c js e
 page_told batches n line d (page_after t) q c js e = by (cursor_of t) e

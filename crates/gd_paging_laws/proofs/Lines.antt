@@ -10,7 +10,7 @@ use Rattle.gd_defs.specs.Query.{Query}
 use Rattle.gd_defs.specs.Asked.{Asked, Unknown, asked_query}
 use Rattle.gd_defs.specs.Rows.{Row}
 use Rattle.gd_defs.specs.Lines.{err_line, ok_line, ok_cursor_line, count_json, refused_at, too_large, too_wide}
-use Rattle.gd_defs.specs.Reply.{Path, each_row, as_list, first_item, object_json, is_ambiguous, rows_after, page, has_more, page_cursor, result_json, result_line, max_reply, max_candidate_weight, max_page_weight, has_heavy_candidate, is_heavy_page, meant_line, asked_line, reply, unknown_refusal}
+use Rattle.gd_defs.specs.Reply.{Path, each_row, as_list, first_item, object_json, is_ambiguous, rows_after, page, has_more, page_cursor, result_json, result_line, answer_line, page_answer, max_reply, max_candidate_weight, max_page_weight, has_heavy_candidate, is_heavy_page, meant_line, asked_line, reply, unknown_refusal}
 use Rattle.gd_order_laws.specs.Pages.{next_mark}
 use Rattle.gd_order_laws.proofs.Marks.{cursor_marks}
 use Rattle.gd_paging_laws.proofs.Bytes.{head_same, clear_cursor}
@@ -121,8 +121,8 @@ module _ (prims : List Primitive) (a : Asked) where
   asked_told : (dateline line d : ℕ) (with_cursor : Bool) (mark : Option Mark) (c : Json) (js : Items) → asked_line prims dateline line with_cursor mark a ≡ ok_cursor_line d line c (list js) → Line dateline d with_cursor mark c js
   asked_told dateline line d with_cursor mark c js e = by (has_heavy_candidate prims a) (is_heavy_page prims a mark) e
     where
-      by : (heavy wide : Bool) → (if heavy then err_line dateline line (too_wide (max_candidate_weight + 1)) else if wide then err_line dateline line (too_wide (max_page_weight + 1))
-          else result_line dateline line (if with_cursor then Some (cursor_at dateline mark) else None) (result_json prims a (rows_after prims a mark) (page prims a mark))) ≡ ok_cursor_line d line c (list js)
+      by : (heavy wide : Bool) → answer_line dateline line (if heavy then Err (too_wide (max_candidate_weight + 1)) else if wide then Err (too_wide (max_page_weight + 1))
+          else page_answer (if with_cursor then Some (cursor_at dateline mark) else None) (result_json prims a (rows_after prims a mark) (page prims a mark))) ≡ ok_cursor_line d line c (list js)
           → Line dateline d with_cursor mark c js
       by true wide e = absurd (not_refused dateline d line line (too_wide (max_candidate_weight + 1)) c (list js) e)
       by false true e = absurd (not_refused dateline d line line (too_wide (max_page_weight + 1)) c (list js) e)

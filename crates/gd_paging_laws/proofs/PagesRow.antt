@@ -7,7 +7,7 @@ use Rattle.gd_tree.specs.Json.{Json, boolean, text, list, Items, no_items, item,
 use Rattle.gd_tree.specs.Json as json
 use Rattle.gd_defs.specs.Query as query
 use Rattle.gd_defs.specs.Query.{Query}
-use Rattle.gd_runs.specs.Request.{Line, read, first_page, page_after}
+use Rattle.gd_runs.specs.Request.{Line, read, one_query, first_page, page_after}
 use Rattle.gd_runs.specs.Input.{line_from, InputFault}
 use Rattle.gd_runs.specs.Legal.{Entry, History, IsLegal}
 use Rattle.gd_runs.specs.Explained.{Run, answered, lines_of, entry_at, told_dateline, Prints, HasNumber, IsBounded, IsExplainedBy}
@@ -43,9 +43,9 @@ second_run = record { line = record { bytes = second_bytes; round = 0 }; outcome
 abbrev runs : List Run
 runs = first_run ∷ second_run ∷ []
 
--- the query of a line
+-- the query of a line that reads one
 abbrev query_in : Result Line InputFault → Query
-query_in (Ok (read s r)) = r.query
+query_in (Ok (read s (one_query r))) = r.query
 query_in _ = record { listed = true; directives = query.no_directives; members = query.no_members }
 
 abbrev asked : Query
@@ -81,11 +81,11 @@ one_le = omega arith
 
 printed_first : Prints history 0 first_bytes (answered 1) first_reply
 unfolding computing
-printed_first = (0, record { cursor = first_page; query = asked }, refl, one_le, refl)
+printed_first = (0, one_query (record { cursor = first_page; query = asked }), refl, one_le, refl)
 
 printed_second : Prints history 1 second_bytes (answered 1) second_reply
 unfolding computing
-printed_second = (0, record { cursor = page_after (codes "c1:1:70"); query = asked }, refl, one_le, refl)
+printed_second = (0, one_query (record { cursor = page_after (codes "c1:1:70"); query = asked }), refl, one_le, refl)
 
 some_eq : {A : Type 0} {x y : A} → Some x ≡ Some y → x ≡ y
 some_eq e = cc

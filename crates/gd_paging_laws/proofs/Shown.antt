@@ -14,7 +14,7 @@ use Rattle.gd_defs.specs.Query.{Query}
 use Rattle.gd_defs.specs.Write.{WriteRequest}
 use Rattle.gd_defs.specs.Reply.{reply}
 use Rattle.gd_defs.specs.Lines.{refusal, err_line, ok_cursor_line, bad_cursor, cursor_ahead, count_json}
-use Rattle.gd_runs.specs.Request.{CursorAsk, cursor_ask, no_cursor, first_page, page_after, ReadRequest, Line, read, write, page_reply, reply_of}
+use Rattle.gd_runs.specs.Request.{CursorAsk, cursor_ask, no_cursor, first_page, page_after, ReadSet, one_query, Line, read, write, page_reply, reply_of}
 use Rattle.gd_runs.specs.Input.{InputFault, line_from}
 use Rattle.gd_runs.specs.Legal.{History, batches, size}
 use Rattle.gd_runs.specs.Explained.{Numbered, Run, Outcome, no_request, no_memory, stored, refused, late, in_doubt, not_tried, answered, Prints, IsExplainedBy}
@@ -33,19 +33,19 @@ use Rattle.gd_paging_laws.proofs.Whole.{whole}
 -- ---- a read that shows a page was answered
 
 -- a read was answered over so many batches of the history
-record Answers (h : History) (k : ℕ) (o : Outcome) (r : ReadRequest) (line : List ℕ) : Type 0 where
+record Answers (h : History) (k : ℕ) (o : Outcome) (r : ReadSet) (line : List ℕ) : Type 0 where
   pub snapshot : ℕ
   pub is : o ≡ answered snapshot
   pub within : snapshot ≤ size h
   pub replies : line ≡ reply_of (batches h) snapshot k r
 
-no_write : {P : Type 0} (bytes : List ℕ) (s t : ℕ) (r : ReadRequest) (w : WriteRequest) → line_from bytes ≡ Ok (read s r) → line_from bytes ≡ Ok (write t w) → P
+no_write : {P : Type 0} (bytes : List ℕ) (s t : ℕ) (r : ReadSet) (w : WriteRequest) → line_from bytes ≡ Ok (read s r) → line_from bytes ≡ Ok (write t w) → P
 no_write bytes s t r w asks other = let same : ◌≡◌ {A = Result Line InputFault} (Ok (write t w)) (Ok (read s r)) = sym other ∙ asks in absurd (cc)
 
-same_read : (bytes : List ℕ) (s t : ℕ) (r q : ReadRequest) → line_from bytes ≡ Ok (read s r) → line_from bytes ≡ Ok (read t q) → q ≡ r
+same_read : (bytes : List ℕ) (s t : ℕ) (r q : ReadSet) → line_from bytes ≡ Ok (read s r) → line_from bytes ≡ Ok (read t q) → q ≡ r
 same_read bytes s t r q asks other = let same : ◌≡◌ {A = Result Line InputFault} (Ok (read t q)) (Ok (read s r)) = sym other ∙ asks in cc
 
-was_answered : (h : History) (k : ℕ) (bytes : List ℕ) (o : Outcome) (line : List ℕ) (s : ℕ) (r : ReadRequest) (d : ℕ) (c j : Json) → Prints h k bytes o line → line_from bytes ≡ Ok (read s r) → line ≡ ok_cursor_line d k c j → Answers h k o r line
+was_answered : (h : History) (k : ℕ) (bytes : List ℕ) (o : Outcome) (line : List ℕ) (s : ℕ) (r : ReadSet) (d : ℕ) (c j : Json) → Prints h k bytes o line → line_from bytes ≡ Ok (read s r) → line ≡ ok_cursor_line d k c j → Answers h k o r line
 was_answered h k bytes no_request line s r d c j (f, none, is) asks tells = not_ok f (read s r) (sym none ∙ asks)
 was_answered h k bytes no_memory line s r d c j is asks tells = absurd (not_plain d k k (refusal (codes "Memory") []) c j (sym is ∙ tells))
 was_answered h k bytes (stored e) line s r d c j (entry, t, of, other, is) asks tells = no_write bytes s t r entry.request asks other
@@ -71,14 +71,14 @@ front_prims : (m : ℕ) (bs : List Batch) → prims_at (take m bs) (length (take
 front_prims m bs = ap prims_of (take_whole (length (take m bs)) (take m bs) (omega arith))
 
 -- the first page is one of the store of its snapshot
-first_of : (q : Query) (s : Shown) (bs : List Batch) (m d : ℕ) → m ≤ length bs → reply_of bs m s.line (record { cursor = first_page; query = q }) ≡ line_of_page d s → IsPageOf q (boolean true) (page_of (take m bs) s)
+first_of : (q : Query) (s : Shown) (bs : List Batch) (m d : ℕ) → m ≤ length bs → reply_of bs m s.line (one_query (record { cursor = first_page; query = q })) ≡ line_of_page d s → IsPageOf q (boolean true) (page_of (take m bs) s)
 first_of q s bs m d within is = record { ask = first_page; asked = refl; tells = record { dateline = d; is = moved } }
   where
-    moved : reply_of (take m bs) (length (take m bs)) s.line (record { cursor = first_page; query = q }) ≡ line_of_page d s
+    moved : reply_of (take m bs) (length (take m bs)) s.line (one_query (record { cursor = first_page; query = q })) ≡ line_of_page d s
     moved = ap (λ (l : List Primitive). reply l (length (take m bs)) s.line true None q) (front_prims m bs) ∙ ap (λ (n : ℕ). reply (prims_at bs m) n s.line true None q) (front_long m bs within) ∙ is
 
 -- a further one is one of the store of any later snapshot
-later_of : (q : Query) (t : List ℕ) (s : Shown) (bs : List Batch) (m d : ℕ) → m ≤ length bs → reply_of bs m s.line (record { cursor = page_after t; query = q }) ≡ line_of_page d s → IsPageOf q (text t) (page_of bs s)
+later_of : (q : Query) (t : List ℕ) (s : Shown) (bs : List Batch) (m d : ℕ) → m ≤ length bs → reply_of bs m s.line (one_query (record { cursor = page_after t; query = q })) ≡ line_of_page d s → IsPageOf q (text t) (page_of bs s)
 later_of q t s bs m d within is = record { ask = page_after t; asked = refl; tells = record { dateline = d; is = by (cursor_of t) is } }
   where
     at_mark : Cursor → List ℕ
@@ -97,7 +97,7 @@ later_of q t s bs m d within is = record { ask = page_after t; asked = refl; tel
     by (Ok c) e = there c (nat_lt m c.dateline) refl e
 
 -- none was asked for with the cursor false
-never_of : {P : Type 0} (q : Query) (s : Shown) (bs : List Batch) (m d : ℕ) → reply_of bs m s.line (record { cursor = no_cursor; query = q }) ≡ line_of_page d s → P
+never_of : {P : Type 0} (q : Query) (s : Shown) (bs : List Batch) (m d : ℕ) → reply_of bs m s.line (one_query (record { cursor = no_cursor; query = q })) ≡ line_of_page d s → P
 never_of q s bs m d is = let never : false ≡ true = (reply_told (prims_at bs m) q m s.line d false None s.cursor s.items is).paged in absurd (cc)
 
 -- ---- of a history
@@ -112,11 +112,11 @@ module _ (h : History) (runs : List Run) (each : (k : ℕ) (r : Run) → slice_g
     pub is : run.outcome ≡ answered snapshot
     pub within : snapshot ≤ size h
     pub long : snapshot ≤ length (batches h)
-    pub replies : reply_of (batches h) snapshot s.line (record { cursor = ask; query = q }) ≡ line_of_page d s
+    pub replies : reply_of (batches h) snapshot s.line (one_query (record { cursor = ask; query = q })) ≡ line_of_page d s
 
   was_read : (from : Json) (s : Shown) (is : IsShown runs q from s) → Read is.ask s is.run is.dateline
   was_read from s is =
-      let given = was_answered h s.line is.run.line.bytes is.run.outcome is.run.reply is.session (record { cursor = is.ask; query = q }) is.dateline s.cursor (list s.items) (each s.line is.run is.there) is.reads is.tells in
+      let given = was_answered h s.line is.run.line.bytes is.run.outcome is.run.reply is.session (one_query (record { cursor = is.ask; query = q })) is.dateline s.cursor (list s.items) (each s.line is.run is.there) is.reads is.tells in
       let count = length_batches h in
       record { snapshot = given.snapshot; is = given.is; within = given.within; long = omega (arith, given.within, count); replies = sym given.replies ∙ is.tells }
 
@@ -129,12 +129,12 @@ module _ (h : History) (runs : List Run) (each : (k : ℕ) (r : Run) → slice_g
   page_shown from s (inl ended) is =
       let was = was_read from s is in
       let ask : no_cursor ≡ is.ask = some_same no_cursor is.ask (ap asked_with (sym ended) ∙ is.asked) in
-      never_of q s (batches h) was.snapshot is.dateline (ap (λ (a : CursorAsk). reply_of (batches h) was.snapshot s.line (record { cursor = a; query = q })) ask ∙ was.replies)
+      never_of q s (batches h) was.snapshot is.dateline (ap (λ (a : CursorAsk). reply_of (batches h) was.snapshot s.line (one_query (record { cursor = a; query = q }))) ask ∙ was.replies)
   page_shown from s (inr (t, is_text, clear)) is =
       let was = was_read from s is in
       let ask : page_after t ≡ is.ask = some_same (page_after t) is.ask (ap asked_with (sym is_text) ∙ is.asked) in
       subst (λ (c : Json). IsPageOf q c (page_of (batches h) s)) (sym is_text)
-      (later_of q t s (batches h) was.snapshot is.dateline was.long (ap (λ (a : CursorAsk). reply_of (batches h) was.snapshot s.line (record { cursor = a; query = q })) ask ∙ was.replies))
+      (later_of q t s (batches h) was.snapshot is.dateline was.long (ap (λ (a : CursorAsk). reply_of (batches h) was.snapshot s.line (one_query (record { cursor = a; query = q }))) ask ∙ was.replies))
 
   pages_shown : (from to : Json) (ss : List Shown) → IsCursor from → AreShown runs q from ss to → Follow q from (map (page_of (batches h)) ss) to
   pages_shown from to [] cursor is = is
@@ -156,8 +156,8 @@ shown_whole loaded may given output h runs q s ss explained (first, more) =
     let bs = batches h in
     let was = was_read h runs explained.each q (boolean true) s first in
     let ask : first_page ≡ first.ask = some_same first_page first.ask first.asked in
-    let line : reply_of bs was.snapshot s.line (record { cursor = first_page; query = q }) ≡ line_of_page first.dateline s =
-    ap (λ (a : CursorAsk). reply_of bs was.snapshot s.line (record { cursor = a; query = q })) ask ∙ was.replies in
+    let line : reply_of bs was.snapshot s.line (one_query (record { cursor = first_page; query = q })) ≡ line_of_page first.dateline s =
+    ap (λ (a : CursorAsk). reply_of bs was.snapshot s.line (one_query (record { cursor = a; query = q }))) ask ∙ was.replies in
     let spelled = asks_spelled first.run.line.bytes first.session (record { cursor = first.ask; query = q }) first.reads in
     let front : Grown (take was.snapshot bs) bs = (drop was.snapshot bs, sym (take-append-drop was.snapshot bs)) in
     let all = whole spelled.0 q (page_of (take was.snapshot bs) s) (map (page_of bs) ss) spelled.1 (within_before (take was.snapshot bs) bs front (legal_within h explained.legal)) (all_grown was.snapshot bs ss)

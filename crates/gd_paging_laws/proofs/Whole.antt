@@ -18,7 +18,7 @@ use Rattle.gd_defs.specs.Asked.{Asked, Unknown, asked_query}
 use Rattle.gd_defs.specs.Rows.{Row, rows}
 use Rattle.gd_defs.specs.Lines.{err_line, cursor_ahead, ok_cursor_line}
 use Rattle.gd_defs.specs.Reply.{each_row, row_mark, rows_after, page, has_more, page_cursor, reply}
-use Rattle.gd_runs.specs.Request.{CursorAsk, no_cursor, first_page, page_after, page_reply, reply_of}
+use Rattle.gd_runs.specs.Request.{CursorAsk, no_cursor, first_page, page_after, page_reply, query_reply}
 use Rattle.gd_order_laws.specs.Window.{Each, In}
 use Rattle.gd_order_laws.proofs.Sorted.{In-middle}
 use Rattle.gd_order_laws.proofs.Pages.{after_row}
@@ -36,8 +36,8 @@ use Rattle.gd_paging_laws.proofs.Bounds.{read_bounded}
 none_after_false : (q : Query) (p : Page) → IsPageOf q (boolean false) p → ⊥
 none_after_false q p is =
     let ask : no_cursor ≡ is.ask = some_same no_cursor is.ask is.asked in
-    let line : reply_of p.batches (length p.batches) p.line (record { cursor = no_cursor; query = q }) ≡ ok_cursor_line is.tells.dateline p.line p.cursor (list p.items) =
-    ap (λ (c : CursorAsk). reply_of p.batches (length p.batches) p.line (record { cursor = c; query = q })) ask ∙ is.tells.is in
+    let line : query_reply p.batches (length p.batches) p.line (record { cursor = no_cursor; query = q }) ≡ ok_cursor_line is.tells.dateline p.line p.cursor (list p.items) =
+    ap (λ (c : CursorAsk). query_reply p.batches (length p.batches) p.line (record { cursor = c; query = q })) ask ∙ is.tells.is in
     let told = reply_told (prims_at p.batches (length p.batches)) q (length p.batches) p.line is.tells.dateline false None p.cursor p.items line in
     let never : false ≡ true = told.paged in
     absurd (cc)
@@ -47,7 +47,7 @@ first_told : (q : Query) (p : Page) → IsPageOf q (boolean true) p → IsLine (
 first_told q p is =
     let ask : first_page ≡ is.ask = some_same first_page is.ask is.asked in
     reply_told (prims_at p.batches (length p.batches)) q (length p.batches) p.line is.tells.dateline true None p.cursor p.items
-    (ap (λ (c : CursorAsk). reply_of p.batches (length p.batches) p.line (record { cursor = c; query = q })) ask ∙ is.tells.is)
+    (ap (λ (c : CursorAsk). query_reply p.batches (length p.batches) p.line (record { cursor = c; query = q })) ask ∙ is.tells.is)
 
 -- the primitives at the end of a store stand below its later ends
 grown_prims : (first batches : List Batch) → Grown first batches → prims_at batches (length first) ≡ prims_of first
@@ -69,7 +69,7 @@ later_told first q t m p read grown is = by (nat_lt (length p.batches) (length f
 
     line : page_reply p.batches (length p.batches) p.line q (Ok (record { dateline = length first; after = m })) ≡ told_line
     line = ap (page_reply p.batches (length p.batches) p.line q) (sym read)
-        ∙ ap (λ (c : CursorAsk). reply_of p.batches (length p.batches) p.line (record { cursor = c; query = q })) ask ∙ is.tells.is
+        ∙ ap (λ (c : CursorAsk). query_reply p.batches (length p.batches) p.line (record { cursor = c; query = q })) ask ∙ is.tells.is
 
     by : (b : Bool) → (if b then err_line (length p.batches) p.line (cursor_ahead (length first) (length p.batches)) else reply (prims_at p.batches (length first)) (length first) p.line true (Some m) q) ≡ told_line
         → IsLine (prims_at first (length first)) q (length first) true (Some m) p.cursor p.items

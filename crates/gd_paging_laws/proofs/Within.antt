@@ -15,8 +15,8 @@ use Rattle.gd_grammar.specs.Chain.{◌>>=◌, map_err}
 use Rattle.gd_grammar.proofs.Steps.{steps, ok_same, not_ok, not_some, either}
 use Rattle.gd_list_laws.proofs.Histories.{prims_more}
 use Rattle.gd_list_laws.proofs.Fronts.{take_whole}
-use Rattle.gd_tree.specs.Json.{Json, object}
-use Rattle.gd_defs.specs.Write.{WriteRequest, unknown, full, scope_of, resolved_root, carried_root, fitting, exec}
+use Rattle.gd_tree.specs.Json.{Json}
+use Rattle.gd_defs.specs.Write.{WriteRequest, changes_of, unknown, full, scope_of, resolved_all, carried_all, result_of, fitting, exec}
 use Rattle.gd_runs.specs.Legal.{Entry, History, batches, size, with_entry, history_bytes, kept_bytes, max_history, within_history, IsEntryAfter, AreEntriesAfter, IsLegal}
 use Rattle.gd_runs.proofs.Rounds.{length_batches}
 use Rattle.gd_paging_laws.specs.Paged.{AreWithin}
@@ -80,15 +80,15 @@ fitted prims requests b c j k is = by (first_full (limits prims requests b.prims
 made_fits : (prims : List Primitive) (requests : ℕ) (w : WriteRequest) (moment : ℕ) (b : Batch) (j : Json) → exec prims requests w moment ≡ Ok (b, j) → Fits prims requests b.prims
 made_fits prims requests w moment b j is =
     let scope = steps (map_err unknown (scope_of prims w.scope)) (λ scope.
-    map_err unknown (resolved_root prims w.change) >>= λ r.
-    carried_root (record { scope = scope; moment = moment }) prims w.change.root r >>= λ m.
-    fitting prims requests (record { moment = moment; prims = drop (length prims) m.0 }) (object (m.1 m.0))) (b, j) is in
-    let r = steps (map_err unknown (resolved_root prims w.change)) (λ r.
-    carried_root (record { scope = scope.value; moment = moment }) prims w.change.root r >>= λ m.
-    fitting prims requests (record { moment = moment; prims = drop (length prims) m.0 }) (object (m.1 m.0))) (b, j) scope.then_gave in
-    let m = steps (carried_root (record { scope = scope.value; moment = moment }) prims w.change.root r.value) (λ m.
-    fitting prims requests (record { moment = moment; prims = drop (length prims) m.0 }) (object (m.1 m.0))) (b, j) r.then_gave in
-    fitted prims requests (record { moment = moment; prims = drop (length prims) m.value.0 }) b (object (m.value.1 m.value.0)) j m.then_gave
+    map_err unknown (resolved_all prims (changes_of w.asks)) >>= λ rs.
+    carried_all (record { scope = scope; moment = moment }) prims rs >>= λ m.
+    fitting prims requests (record { moment = moment; prims = drop (length prims) m.0 }) (result_of w.asks (m.1 m.0))) (b, j) is in
+    let rs = steps (map_err unknown (resolved_all prims (changes_of w.asks))) (λ rs.
+    carried_all (record { scope = scope.value; moment = moment }) prims rs >>= λ m.
+    fitting prims requests (record { moment = moment; prims = drop (length prims) m.0 }) (result_of w.asks (m.1 m.0))) (b, j) scope.then_gave in
+    let m = steps (carried_all (record { scope = scope.value; moment = moment }) prims rs.value) (λ m.
+    fitting prims requests (record { moment = moment; prims = drop (length prims) m.0 }) (result_of w.asks (m.1 m.0))) (b, j) rs.then_gave in
+    fitted prims requests (record { moment = moment; prims = drop (length prims) m.value.0 }) b (result_of w.asks (m.value.1 m.value.0)) j m.then_gave
 
 -- an entry passes no limit
 entry_fits : (h : History) (e : Entry) → IsEntryAfter h e → Fits (prims_at (batches h) (size h)) (size h) e.batch.prims

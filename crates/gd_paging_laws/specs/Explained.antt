@@ -4,7 +4,7 @@ use Rattle.gd_prim.specs.History.{prims_at}
 use Rattle.gd_tree.specs.Json.{Json, list, Items, no_items}
 use Rattle.gd_defs.specs.Query.{Query}
 use Rattle.gd_defs.specs.Lines.{ok_cursor_line}
-use Rattle.gd_runs.specs.Request.{CursorAsk, cursor_ask, read}
+use Rattle.gd_runs.specs.Request.{CursorAsk, cursor_ask, one_query, read}
 use Rattle.gd_runs.specs.Input.{line_from}
 use Rattle.gd_runs.specs.Legal.{History, batches, size}
 use Rattle.gd_runs.specs.Explained.{Run, answered}
@@ -16,14 +16,14 @@ pub record Shown : Type 0 where
   pub cursor : Json
   pub items : Items
 
--- a line of these runs asks for a page of the query with this cursor, and its reply is the line of this page
+-- a line of these runs asks for a page of this one query with this cursor, and its reply is the line of this page
 pub record IsShown (runs : List Run) (q : Query) (from : Json) (s : Shown) : Type 0 where
   pub run : Run
   pub there : slice_get runs s.line ≡ Some run
   pub session : ℕ
   pub ask : CursorAsk
   pub asked : cursor_ask (Some from) ≡ Some ask
-  pub reads : line_from run.line.bytes ≡ Ok (read session (record { cursor = ask; query = q }))
+  pub reads : line_from run.line.bytes ≡ Ok (read session (one_query (record { cursor = ask; query = q })))
   pub dateline : ℕ
   pub tells : run.reply ≡ ok_cursor_line dateline s.line s.cursor (list s.items)
 

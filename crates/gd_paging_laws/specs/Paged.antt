@@ -10,7 +10,7 @@ use Rattle.gd_defs.specs.Asked.{Asked, asked_query}
 use Rattle.gd_defs.specs.Rows.{rows}
 use Rattle.gd_defs.specs.Reply.{result_json}
 use Rattle.gd_defs.specs.Lines.{ok_cursor_line}
-use Rattle.gd_runs.specs.Request.{CursorAsk, cursor_ask, reply_of}
+use Rattle.gd_runs.specs.Request.{CursorAsk, cursor_ask, query_reply}
 use Rattle.gd_order_laws.specs.Window.{Each}
 use Rattle.gd_order_laws.specs.Laws.{StandOnce}
 
@@ -30,7 +30,7 @@ pub record IsLineOf (p : Page) (bytes : List ℕ) : Type 0 where
 pub record IsPageOf (q : Query) (from : Json) (p : Page) : Type 0 where
   pub ask : CursorAsk
   pub asked : cursor_ask (Some from) ≡ Some ask
-  pub tells : IsLineOf p (reply_of p.batches (length p.batches) p.line (record { cursor = ask; query = q }))
+  pub tells : IsLineOf p (query_reply p.batches (length p.batches) p.line (record { cursor = ask; query = q }))
 
 -- pages one after another, from one cursor up to another: each is asked for with the cursor that the one before told
 abbrev pub Follow : Query → Json → List Page → Json → Type 0

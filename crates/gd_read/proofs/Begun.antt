@@ -10,26 +10,26 @@ use Rattle.gd_tree.specs.Json.{Json}
 use Rattle.gd_defs.specs.Query as query
 use Rattle.gd_defs.specs.Query.{query_of}
 use Rattle.gd_defs.specs.Asked.{Asked, Unknown, asked_query}
-use Rattle.gd_defs.specs.Lines.{Refusal, err_line}
-use Rattle.gd_defs.specs.Reply.{Mark, reply, meant_line}
+use Rattle.gd_defs.specs.Lines.{Refusal}
+use Rattle.gd_defs.specs.Reply.{Mark, reply, answer_line}
 use Rattle.gd_bytes.specs.Cursor.{Cursor, cursor_of}
 use Rattle.gd_form_laws.specs.Faults.{query_fault}
 use Rattle.gd_form_laws.specs.Spelled.{spelled_query}
 use Rattle.gd_form_laws.proofs.Clauses.{query-given}
 use Rattle.gd_paging_laws.proofs.Bounds.{read_bounded}
 use Rattle.gd_runs.specs.Core as core
-use Rattle.gd_runs.specs.Request.{ReadRequest, CursorAsk, no_cursor, first_page, page_after, asks_page, reply_of}
+use Rattle.gd_runs.specs.Request.{ReadRequest, CursorAsk, no_cursor, first_page, page_after, asks_page}
 use Rattle.gd_json.specs.View.{view as json_view}
 use Rattle.gd_mql.specs.Requests.{cursor_view}
 use Rattle.gd_frozen.specs.Meant.{meant}
 use Rattle.gd_frozen.specs.declared.cursor.Cursor.{Cursor as Found}
 use Rattle.gd_read.specs.Marked.{mark_of}
 use Rattle.gd_read.specs.Begun.{asked_from, dateline_from, fault_at, Begins}
-use Rattle.gd_read.specs.Reading.{reading_view}
+use Rattle.gd_read.specs.Query.{one_view}
 use Rattle.gd_read.specs.declared.fault.ReadFault.{ReadFault}
 use Rattle.gd_read.specs.declared.fault.ReadFault.TheVariants as fault
-use Rattle.gd_read.specs.declared.reading.Reading.{Reading}
-use Rattle.gd_read.specs.Subject.{core_reading, line_of, written}
+use Rattle.gd_read.specs.declared.query.QueryReading.{QueryReading}
+use Rattle.gd_read.specs.Subject.{core_reading, answer_of, written}
 use Rattle.gd_read.specs.Stages.{IsAsked}
 use Rattle.gd_read.specs.declared.subject.Subject.{Subject}
 
@@ -48,61 +48,26 @@ begun_behind batches latest r (Ok after) =
     core.with_meaning batches r (dateline_from latest after) (option_map (λ c. c.after) after) (asked_query (prims_at batches (dateline_from latest after)) r.query)
 
 -- LAW: a reading begins where its request asks
-pub begins_from : (batches : List Batch) (latest : ℕ) (r : ReadRequest) → core.reading_of batches latest r ≡ begun_behind batches latest r (asked_from latest r.cursor)
+pub begins_from : (batches : List Batch) (latest : ℕ) (r : ReadRequest) → core.query_reading batches latest r ≡ begun_behind batches latest r (asked_from latest r.cursor)
 begins_from batches latest r = by r.cursor refl
   where
-    page : (c : Result Cursor ℕ) (t : List ℕ) → r.cursor ≡ page_after t → cursor_of t ≡ c → core.reading_of batches latest r ≡ begun_behind batches latest r (asked_from latest (page_after t))
+    page : (c : Result Cursor ℕ) (t : List ℕ) → r.cursor ≡ page_after t → cursor_of t ≡ c → core.query_reading batches latest r ≡ begun_behind batches latest r (asked_from latest (page_after t))
     page (Err offset) t is told = rw (is, told) refl
     page (Ok c) t is told = ahead (nat_lt latest c.dateline) refl
       where
-        ahead : (b : Bool) → nat_lt latest c.dateline ≡ b → core.reading_of batches latest r ≡ begun_behind batches latest r (asked_from latest (page_after t))
+        ahead : (b : Bool) → nat_lt latest c.dateline ≡ b → core.query_reading batches latest r ≡ begun_behind batches latest r (asked_from latest (page_after t))
         ahead true over = rw (is, told, over) refl
         ahead false over = rw (is, told, over) refl
 
-    by : (a : CursorAsk) → r.cursor ≡ a → core.reading_of batches latest r ≡ begun_behind batches latest r (asked_from latest a)
+    by : (a : CursorAsk) → r.cursor ≡ a → core.query_reading batches latest r ≡ begun_behind batches latest r (asked_from latest a)
     by no_cursor is = rw is refl
     by first_page is = rw is refl
     by (page_after t) is = page (cursor_of t) t is refl
 
--- LAW: over the batches below its dateline, a reading owes the line of its subject
-pub owed_is : (batches : List Batch) (s : Subject) (k : ℕ) → length batches ≡ s.dateline → core.owed_line batches k (core_reading s) ≡ line_of batches s k
+-- LAW: over the batches below its dateline, a reading owes the line of its answer
+pub owed_is : (batches : List Batch) (s : Subject) (k : ℕ) → length batches ≡ s.dateline → core.owed_line batches k (core_reading s) ≡ answer_line s.dateline k (answer_of batches s)
 owed_is batches s k below =
     ap (λ bs. reply (prims_of bs) s.dateline k (asks_page (cursor_view s.request.cursor)) (mark_of s.after) (written s)) (take_all s.dateline batches (omega (arith, below)))
-
--- ---- the reply of a read, by the reading that it begins
-
--- the line of a reading that begins, or of its refusal
-abbrev pub begun_line : List Batch → ℕ → Result core.Reading (ℕ × Refusal) → List ℕ
-begun_line batches k (Ok r) = core.owed_reply batches k r
-begun_line batches k (Err f) = err_line f.0 k f.1
-
-meaning_line : (batches : List Batch) (n k : ℕ) (after : Option Mark) (r : ReadRequest) (with_cursor : Bool) → asks_page r.cursor ≡ with_cursor
-    → reply (prims_at batches n) n k with_cursor after r.query ≡ begun_line batches k (core.with_meaning batches r n after (asked_query (prims_at batches n) r.query))
-meaning_line batches n k after r with_cursor is = by (asked_query (prims_at batches n) r.query) refl
-  where
-    by : (a : Result Asked Unknown) → asked_query (prims_at batches n) r.query ≡ a → reply (prims_at batches n) n k with_cursor after r.query ≡ begun_line batches k (core.with_meaning batches r n after a)
-    by (Err u) asked = ap (meant_line (prims_at batches n) n k with_cursor after) asked
-    by (Ok q) asked = ap (λ c. reply (prims_at batches n) n k c after r.query) (sym is)
-
-abbrev the_read : CursorAsk → query.Query → ReadRequest
-the_read a q = record { cursor = a; query = q }
-
--- LAW: the reply to a read is what its reading owes, or its refusal
-pub reply_begun : (batches : List Batch) (n k : ℕ) (r : ReadRequest) → reply_of batches n k r ≡ begun_line batches k (core.reading_of batches n r)
-reply_begun batches n k r = by r.cursor r.query
-  where
-    page : (c : Result Cursor ℕ) (t : List ℕ) (q : query.Query) → cursor_of t ≡ c → reply_of batches n k (the_read (page_after t) q) ≡ begun_line batches k (core.reading_of batches n (the_read (page_after t) q))
-    page (Err offset) t q told = rw told refl
-    page (Ok c) t q told = ahead (nat_lt n c.dateline) refl
-      where
-        ahead : (b : Bool) → nat_lt n c.dateline ≡ b → reply_of batches n k (the_read (page_after t) q) ≡ begun_line batches k (core.reading_of batches n (the_read (page_after t) q))
-        ahead true over = rw (told, over) refl
-        ahead false over = rw (told, over) (meaning_line batches c.dateline k (Some c.after) (the_read (page_after t) q) true refl)
-
-    by : (a : CursorAsk) (q : query.Query) → reply_of batches n k (the_read a q) ≡ begun_line batches k (core.reading_of batches n (the_read a q))
-    by no_cursor q = meaning_line batches n k None (the_read no_cursor q) false refl
-    by first_page q = meaning_line batches n k None (the_read first_page q) true refl
-    by (page_after t) q = page (cursor_of t) t q refl
 
 -- ---- where a reading begins
 
@@ -129,15 +94,15 @@ marks_same None = refl
 marks_same (Some c) = refl
 
 -- LAW: a cursor that is refused
-pub begins_err : (batches : List Batch) (latest : ℕ) (r : ReadRequest) (f : ℕ × Refusal) → asked_from latest r.cursor ≡ Err f → core.reading_of batches latest r ≡ Err f
+pub begins_err : (batches : List Batch) (latest : ℕ) (r : ReadRequest) (f : ℕ × Refusal) → asked_from latest r.cursor ≡ Err f → core.query_reading batches latest r ≡ Err f
 begins_err batches latest r f is = begins_from batches latest r ∙ ap (begun_behind batches latest r) is
 
 -- LAW: the reading at the dateline of a cursor
 begins_at : (batches below : List Batch) (latest : ℕ) (r : ReadRequest) (after : Option Found) → latest ≡ length batches → asked_from latest r.cursor ≡ Ok (option_map meant after)
     → (d : ℕ) → d ≡ dateline_from latest (option_map meant after) → below ≡ take d batches → d ≤ latest
-    → core.reading_of batches (length batches) r ≡ core.with_meaning [] r (length below) (mark_of after) (asked_query (prims_of below) r.query)
+    → core.query_reading batches (length batches) r ≡ core.with_meaning [] r (length below) (mark_of after) (asked_query (prims_of below) r.query)
 begins_at batches below latest r after all is d d_is below_is within =
-    ap (λ n. core.reading_of batches n r) (sym all)
+    ap (λ n. core.query_reading batches n r) (sym all)
     ∙ begins_from batches latest r ∙ ap (begun_behind batches latest r) is
     ∙ ap (λ n. core.with_meaning batches r n (option_map (λ c. c.after) (option_map meant after)) (asked_query (prims_at batches n) r.query)) (sym d_is)
     ∙ with_same batches [] r d (option_map (λ c. c.after) (option_map meant after)) (asked_query (prims_at batches d) r.query)
@@ -145,51 +110,10 @@ begins_at batches below latest r after all is d d_is below_is within =
     ∙ ap (λ n. core.with_meaning [] r n (mark_of after) (asked_query (prims_at batches d) r.query)) (sym (ap length below_is ∙ length-take-le d batches (omega (arith, all, within))))
     ∙ ap (λ bs. core.with_meaning [] r (length below) (mark_of after) (asked_query (prims_of bs) r.query)) (sym below_is)
 
-pub begins_ok : (batches below : List Batch) (latest : ℕ) (r : ReadRequest) (after : Option Found) (res : Result Reading ReadFault) → latest ≡ length batches → asked_from latest r.cursor ≡ Ok (option_map meant after)
+pub begins_ok : (batches below : List Batch) (latest : ℕ) (r : ReadRequest) (after : Option Found) (res : Result QueryReading ReadFault) → latest ≡ length batches → asked_from latest r.cursor ≡ Ok (option_map meant after)
     → (d : ℕ) → d ≡ dateline_from latest (option_map meant after) → below ≡ take d batches → d ≤ latest
-    → MatchResult res (λ reading. core.with_meaning [] r (length below) (mark_of after) (asked_query (prims_of below) r.query) ≡ Ok (reading_view reading))
+    → MatchResult res (λ reading. core.with_meaning [] r (length below) (mark_of after) (asked_query (prims_of below) r.query) ≡ Ok (one_view reading))
     (λ f. f ≢ fault.Memory → (n : ℕ) → core.with_meaning [] r (length below) (mark_of after) (asked_query (prims_of below) r.query) ≡ Err (fault_at n f))
-    → Begins (length batches) reading_view (core.reading_of batches (length batches) r) res
+    → Begins (length batches) one_view (core.query_reading batches (length batches) r) res
 begins_ok batches below latest r after (Ok reading) all is d d_is below_is within begun = begins_at batches below latest r after all is d d_is below_is within ∙ begun
 begins_ok batches below latest r after (Err f) all is d d_is below_is within begun = λ wanted. begins_at batches below latest r after all is d d_is below_is within ∙ begun wanted (length batches)
-
--- LAW: what a reading owes that began over a store is the reply to its request
-pub reply_owed : (store view below : List Batch) (latest k : ℕ) (r : ReadRequest) (reading : Reading) → latest ≡ length store → view ≡ take latest store → core.reading_of view (length view) r ≡ Ok (reading_view reading)
-    → below ≡ take (reading_view reading).dateline view → core.owed_line below k (reading_view reading) ≡ reply_of store (length store) k r
-reply_owed store view below latest k r reading all view_is begun below_is =
-    ap (λ bs. reply (prims_of bs) (reading_view reading).dateline k (asks_page (reading_view reading).request.cursor) (reading_view reading).after (reading_view reading).request.query)
-    (ap (take (reading_view reading).dateline) below_is ∙ take_twice (reading_view reading).dateline view)
-    ∙ sym (ap (begun_line view k) begun)
-    ∙ sym (reply_begun view (length view) k r)
-    ∙ ap (λ bs. reply_of bs (length bs) k r) (view_is ∙ take_all latest store (omega (arith, all)))
-  where
-    take_twice : (n : ℕ) (xs : List Batch) → take n (take n xs) ≡ take n xs
-    take_twice zero xs = refl
-    take_twice (suc n) [] = refl
-    take_twice (suc n) (x ∷ xs) = ap (λ l. x ∷ l) (take_twice n xs)
-
--- and where none begins the refusal
-pub reply_refused : (store view : List Batch) (latest k : ℕ) (r : ReadRequest) (f : ReadFault) → latest ≡ length store → view ≡ take latest store → core.reading_of view (length view) r ≡ Err (fault_at (length view) f)
-    → err_line (fault_at latest f).0 k (fault_at latest f).1 ≡ reply_of store (length store) k r
-reply_refused store view latest k r f all view_is refused =
-    ap (λ n. err_line (fault_at n f).0 k (fault_at n f).1) (all ∙ sym (ap length same))
-    ∙ sym (ap (begun_line view k) refused)
-    ∙ sym (reply_begun view (length view) k r)
-    ∙ ap (λ bs. reply_of bs (length bs) k r) same
-  where
-    same : view ≡ store
-    same = view_is ∙ take_all latest store (omega (arith, all))
-
--- ---- the same of bytes that were made
-
-pub reply_ok : (store view below : List Batch) (latest k : ℕ) (r : ReadRequest) (reading : Reading) (made : Result (Vec ℕ Global) Memory) → latest ≡ length store → view ≡ take latest store → core.reading_of view (length view) r ≡ Ok (reading_view reading)
-    → (d : ℕ) → d ≡ (reading_view reading).dateline → below ≡ take d view
-    → IfOk made (λ bytes. bytes.items ≡ core.owed_line below k (reading_view reading)) → IfOk made (λ bytes. bytes.items ≡ reply_of store (length store) k r)
-reply_ok store view below latest k r reading (Ok bytes) all view_is begun d d_is below_is is = is ∙ reply_owed store view below latest k r reading all view_is begun (below_is ∙ ap (λ n. take n view) d_is)
-reply_ok store view below latest k r reading (Err e) all view_is begun d d_is below_is is = tt
-
-pub reply_err : (store view : List Batch) (latest k : ℕ) (r : ReadRequest) (f : ReadFault) (made : Result (Vec ℕ Global) Memory) → latest ≡ length store → view ≡ take latest store
-    → (f ≢ fault.Memory → core.reading_of view (length view) r ≡ Err (fault_at (length view) f))
-    → IfOk made (λ bytes. bytes.items ≡ err_line (fault_at latest f).0 k (fault_at latest f).1) → IfOk made (λ bytes. f ≢ fault.Memory) → IfOk made (λ bytes. bytes.items ≡ reply_of store (length store) k r)
-reply_err store view latest k r f (Ok bytes) all view_is refused is wanted = is ∙ reply_refused store view latest k r f all view_is (refused wanted)
-reply_err store view latest k r f (Err e) all view_is refused is wanted = tt

@@ -14,3 +14,4 @@ pub mod States
 pub mod Left
 pub mod Starting
 pub mod Going
+pub mod Together

@@ -1,13 +1,13 @@
 -- Readings that print their page.
-use Rattle.std.proofs.Common.{◌≡◌, ℕ, ◌-◌, List, [], ◌∷◌, Bool, true, false, length, map, take, Some, None, Result, refl, ap, sym, subst, ◌∙◌, arith}
+use Rattle.std.proofs.Common.{◌≡◌, ℕ, ◌-◌, List, [], ◌∷◌, Bool, true, false, length, map, take, Some, None, Result, Err, refl, ap, sym, subst, ◌∙◌, arith}
 use Rattle.std.specs.Prelude.{nat_lt, slice_get, if◌then◌else◌, codes}
 use Rattle.std.specs.List.{last_or}
 use Rattle.gd_prim.specs.declared.Batch.{Batch}
 use Rattle.gd_prim.specs.History.{prims_of}
 use Rattle.gd_grammar.specs.Mark.{cursor_text}
 use Rattle.gd_tree.specs.Json.{Json, text}
-use Rattle.gd_defs.specs.Lines.{err_line, refused_at}
-use Rattle.gd_defs.specs.Reply.{Path, is_ambiguous, page_cursor, row_mark, result_line}
+use Rattle.gd_defs.specs.Lines.{refused_at}
+use Rattle.gd_defs.specs.Reply.{Path, is_ambiguous, page_cursor, row_mark, page_answer}
 use Rattle.gd_runs.specs.Request.{asks_page}
 use Rattle.gd_runs.specs.Scanned.{scan_order}
 use Rattle.gd_mql.specs.Requests.{cursor_view}
@@ -24,7 +24,7 @@ use Rattle.gd_window.specs.Laws.{defined}
 use Rattle.gd_suspended_laws.specs.Standing.{rows_of, page_rows}
 use Rattle.gd_suspended_laws.proofs.Going.{map-take, length-map}
 use Rattle.gd_suspended_laws.proofs.Laws.{many_are_refused, prints_are_owed}
-use Rattle.gd_read.specs.Subject.{line_of}
+use Rattle.gd_read.specs.Subject.{answer_of}
 use Rattle.gd_read.specs.Stages.{IsBuilt, Prints, body_trees}
 use Rattle.gd_read.specs.declared.subject.Subject.{Subject}
 
@@ -57,11 +57,11 @@ asked_is dateline w asks rows limit j asking rows_are limit_is is =
 
 module _ (batches : List Batch) (s : Subject) where
   -- LAW: more than one row was found where one is asked
-  pub prints_many : (plan : Found) (body : PageBody) (w : Kept) (k : ℕ) → IsBuilt batches s plan body w → is_ambiguous (asked_view plan).single (length (rows_of w)) ≡ true
-      → err_line s.dateline k (refused_at (codes "NotUnique") []) ≡ line_of batches s k
-  prints_many plan body w k built many =
-      sym (many_are_refused (prims_of batches) (asked_view plan) (scan_order (prims_of batches) (asked_view plan)) s.dateline k (asks_page (cursor_view s.request.cursor)) (mark_of s.after) w built.kept (body_trees body) many)
-      ∙ built.owes k
+  pub prints_many : (plan : Found) (body : PageBody) (w : Kept) → IsBuilt batches s plan body w → is_ambiguous (asked_view plan).single (length (rows_of w)) ≡ true
+      → Err (refused_at (codes "NotUnique") []) ≡ answer_of batches s
+  prints_many plan body w built many =
+      sym (many_are_refused (prims_of batches) (asked_view plan) (scan_order (prims_of batches) (asked_view plan)) s.dateline (asks_page (cursor_view s.request.cursor)) (mark_of s.after) w built.kept (body_trees body) many)
+      ∙ built.owes
 
   -- LAW: a page begins to be printed
   pub prints_first : (plan taken : Found) (body : PageBody) (w : Kept) (shape : Shape) → IsBuilt batches s plan body w → is_ambiguous (asked_view plan).single (length (rows_of w)) ≡ false
@@ -93,10 +93,10 @@ module _ (batches : List Batch) (s : Subject) where
     owes = prints.owes;
   }
 
-  -- LAW: what it prints is the line that is owed
-  pub prints_line : (shape : Shape) (w : Kept) (k : ℕ) (printed : Result Json Path) → Prints batches s shape w → page_of (prims_of batches) shape ≡ printed
-      → result_line s.dateline k (if asks_page (cursor_view s.request.cursor) then Some (page_cursor s.dateline (page_rows w) (nat_lt w.limit (length (rows_of w)))) else None) printed ≡ line_of batches s k
-  prints_line shape w k printed prints is =
-      ap (result_line s.dateline k (if asks_page (cursor_view s.request.cursor) then Some (page_cursor s.dateline (page_rows w) (nat_lt w.limit (length (rows_of w)))) else None)) (sym is ∙ prints.prints)
-      ∙ sym (prints_are_owed (prims_of batches) prints.q (scan_order (prims_of batches) prints.q) s.dateline k (asks_page (cursor_view s.request.cursor)) (mark_of s.after) w prints.kept prints.trees prints.one)
-      ∙ prints.owes k
+  -- LAW: what it prints is the answer that is owed
+  pub prints_answer : (shape : Shape) (w : Kept) (printed : Result Json Path) → Prints batches s shape w → page_of (prims_of batches) shape ≡ printed
+      → page_answer (if asks_page (cursor_view s.request.cursor) then Some (page_cursor s.dateline (page_rows w) (nat_lt w.limit (length (rows_of w)))) else None) printed ≡ answer_of batches s
+  prints_answer shape w printed prints is =
+      ap (page_answer (if asks_page (cursor_view s.request.cursor) then Some (page_cursor s.dateline (page_rows w) (nat_lt w.limit (length (rows_of w)))) else None)) (sym is ∙ prints.prints)
+      ∙ sym (prints_are_owed (prims_of batches) prints.q (scan_order (prims_of batches) prints.q) s.dateline (asks_page (cursor_view s.request.cursor)) (mark_of s.after) w prints.kept prints.trees prints.one)
+      ∙ prints.owes

@@ -1,24 +1,28 @@
 -- What a session holds of its reading: over the front that is shown, and over more batches.
-use Rattle.std.proofs.Common.{◌≡◌, ◌≢◌, ℕ, ◌+◌, ◌≤◌, List, ◌++◌, take, length, Option, Some, None, Ok, Err, refl, sym, ap, subst, ◌∙◌, arith}
+use Rattle.std.proofs.Common.{◌≡◌, ◌≢◌, ℕ, ◌+◌, ◌≤◌, List, ◌++◌, map, take, length, Option, Some, None, Ok, Err, refl, sym, ap, subst, ◌∙◌, arith}
 use Rattle.std.proofs.lemmas.List.{length-take-le, take-take, take-append-le}
 use Rattle.gd_prim.specs.declared.Batch.{Batch}
 use Rattle.gd_runs.specs.Core as core
-use Rattle.gd_runs.specs.Request.{ReadRequest}
+use Rattle.gd_runs.specs.Request.{ReadSet}
 use Rattle.gd_read.specs.Begun.{fault_at, HasOffset}
 use Rattle.gd_read.specs.Left.{reading_left}
 use Rattle.gd_read.specs.Reading.{reading_view, IsGoing, Replies}
 use Rattle.gd_read.specs.Session.{GoesOn, HoldsGoing, left_of, HasBegun, IsRefused}
 use Rattle.gd_read.specs.declared.fault.ReadFault.{ReadFault}
 use Rattle.gd_read.specs.declared.fault.ReadFault.TheVariants as read_fault
+use Rattle.gd_mql.specs.Requests.{read_view}
+use Rattle.gd_read.specs.Marked.{mark_of}
+use Rattle.gd_read.specs.Several.{part_request}
 use Rattle.gd_read.specs.declared.reading.Reading.{Reading}
+use Rattle.gd_read.specs.declared.reading.Reading.TheVariants as reading
 use Rattle.gd_read.specs.declared.reading.Progress.{Progress}
 use Rattle.gd_read.specs.declared.reading.Progress.TheVariants.{Reply, Unfinished}
 use Rattle.gd_read.specs.declared.session.SessionState.{SessionState}
-use Rattle.gd_read.proofs.Fronts.{front_owes, front_reading}
+use Rattle.gd_read.proofs.Fronts.{front_query, front_queries, front_reading}
 
 -- ---- what begins
 
-from_front : (bs front : List Batch) (shown : ℕ) (r : ReadRequest) → front ≡ take shown bs → shown ≤ length bs → core.reading_of bs shown r ≡ core.reading_of front (length front) r
+from_front : (bs front : List Batch) (shown : ℕ) (r : ReadSet) → front ≡ take shown bs → shown ≤ length bs → core.reading_of bs shown r ≡ core.reading_of front (length front) r
 from_front bs front shown r is long =
     sym (front_reading bs shown r)
     ∙ sym (ap (λ (m : ℕ). core.reading_of (take shown bs) m r) (length-take-le shown bs long))
@@ -28,7 +32,7 @@ few_of : (bs front : List Batch) (shown : ℕ) → front ≡ take shown bs → s
 few_of bs front shown is long = ap (λ (f : List Batch). length f) is ∙ length-take-le shown bs long
 
 -- a reading that begins over the front that is shown
-pub has_begun : (bs front : List Batch) (shown : ℕ) (request : ReadRequest) (r : Reading) → front ≡ take shown bs → shown ≤ length bs → core.reading_of front (length front) request ≡ Ok (reading_view r) → (reading_view r).dateline ≤ length front
+pub has_begun : (bs front : List Batch) (shown : ℕ) (request : ReadSet) (r : Reading) → front ≡ take shown bs → shown ≤ length bs → core.reading_of front (length front) request ≡ Ok (reading_view r) → (reading_view r).dateline ≤ length front
     → HasBegun bs shown request (record { reading = Some r })
 has_begun bs front shown request r is long begins below =
     let few = few_of bs front shown is long in record {
@@ -39,7 +43,7 @@ has_begun bs front shown request r is long begins below =
     }
 
 -- or is refused there
-pub is_refused : (bs front : List Batch) (shown : ℕ) (request : ReadRequest) (f : ReadFault) → front ≡ take shown bs → shown ≤ length bs → (f ≢ read_fault.Memory → core.reading_of front (length front) request ≡ Err (fault_at (length front) f)) → HasOffset f
+pub is_refused : (bs front : List Batch) (shown : ℕ) (request : ReadSet) (f : ReadFault) → front ≡ take shown bs → shown ≤ length bs → (f ≢ read_fault.Memory → core.reading_of front (length front) request ≡ Err (fault_at (length front) f)) → HasOffset f
     → IsRefused bs shown request f
 is_refused bs front shown request f is long refused offset = record {
   of = λ some. from_front bs front shown request is long ∙ refused some ∙ ap (λ (m : ℕ). Err (fault_at m f)) (few_of bs front shown is long);
@@ -77,9 +81,14 @@ holds_shown bs shown most state less holds = by state.reading refl
 
 -- ---- slices
 
+-- what a reading owes is the same over the batches below its dateline
+owed_front : (bs : List Batch) (k : ℕ) (r : Reading) → core.owed_line (take (reading_view r).dateline bs) k (reading_view r) ≡ core.owed_line bs k (reading_view r)
+owed_front bs k (reading.One r) = front_query bs k r.subject.dateline (read_view r.subject.request) (mark_of r.subject.after)
+owed_front bs k (reading.Several r) = front_queries bs k r.dateline (map part_request r.parts.items)
+
 -- a reply over the batches below the dateline of a reading is one over the whole list
 pub replies_over : (bs : List Batch) (k d : ℕ) (r : Reading) (p : Progress) → d ≡ (reading_view r).dateline → Replies (core.owed_line (take d bs) k (reading_view r)) p → Replies (core.owed_line bs k (reading_view r)) p
-replies_over bs k d r (Reply bytes) is replies = replies ∙ front_owes bs k d (reading_view r) (sym is)
+replies_over bs k d r (Reply bytes) is replies = replies ∙ ap (λ n. core.owed_line (take n bs) k (reading_view r)) is ∙ owed_front bs k r
 replies_over bs k d r Unfinished is replies = replies
 
 -- what is read stays, and goes on

@@ -1,5 +1,5 @@
 -- How much is left of a reading, at most: each step that it takes lowers this by as much. `n` is a number that no id reaches.
-use Rattle.std.specs.Prelude.{ℕ, ◌+◌, ◌*◌, ◌-◌, ◌^◌, ◌≤◌, List, length, Option, Some, None}
+use Rattle.std.specs.Prelude.{ℕ, ◌+◌, ◌*◌, ◌-◌, ◌^◌, ◌≤◌, List, length, sum_by, Option, Some, None}
 use Rattle.std.specs.Prelude.{Vec}
 use Rattle.std.specs.Global.{Global}
 use Rattle.gd_prim.specs.declared.Batch.{Batch}
@@ -20,8 +20,13 @@ use Rattle.gd_read.specs.declared.building.Building.{Building}
 use Rattle.gd_read.specs.declared.stage.Stage.{Stage}
 use Rattle.gd_read.specs.declared.stage.Stage.TheVariants as stage
 use Rattle.gd_read.specs.declared.stage.Round.{Round}
-use Rattle.gd_read.specs.declared.stage.Round.TheVariants.{Reply, Going}
+use Rattle.gd_read.specs.declared.stage.Round.TheVariants as round
+use Rattle.gd_read.specs.declared.query.QueryReading.{QueryReading}
+use Rattle.gd_read.specs.declared.several.Part.{Part}
+use Rattle.gd_read.specs.declared.several.Part.TheVariants as part
+use Rattle.gd_read.specs.declared.several.SeveralReading.{SeveralReading}
 use Rattle.gd_read.specs.declared.reading.Reading.{Reading}
+use Rattle.gd_read.specs.declared.reading.Reading.TheVariants as reading
 
 -- no id reaches this number
 abbrev pub IsPastIds : ℕ → Type 0
@@ -83,11 +88,27 @@ stage_left n batches w (stage.Building b) = building_left n batches b
 stage_left n batches w (stage.Printing shape) = shape_left n shape
 stage_left n batches w stage.Spent = 0
 
--- behind a round: none where it gave the reply
+-- behind a round: none where it gave the answer
 abbrev pub round_left : ℕ → List Batch → Kept → Round → ℕ
-round_left n batches w (Reply bytes) = 0
-round_left n batches w (Going next) = stage_left n batches w next
+round_left n batches w (round.Answer a) = 0
+round_left n batches w (round.Going next) = stage_left n batches w next
+
+-- ---- readings
+
+-- of the reading of one query
+abbrev pub query_left : ℕ → List Batch → QueryReading → ℕ
+query_left n batches r = stage_left n batches r.window r.stage
+
+-- of a query among others: none where it has its answer
+abbrev pub part_left : ℕ → List Batch → Part → ℕ
+part_left n batches (part.Going r) = query_left n batches r
+part_left n batches (part.Answered request text) = 0
+
+-- of several together
+abbrev pub several_left : ℕ → List Batch → SeveralReading → ℕ
+several_left n batches r = sum_by (part_left n batches) r.parts.items
 
 -- of a reading
 abbrev pub reading_left : ℕ → List Batch → Reading → ℕ
-reading_left n batches r = stage_left n batches r.window r.stage
+reading_left n batches (reading.One r) = query_left n batches r
+reading_left n batches (reading.Several r) = several_left n batches r

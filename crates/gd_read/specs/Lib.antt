@@ -9,6 +9,8 @@ pub mod Sources
 pub mod Roots
 pub mod Rows
 pub mod Rounds
+pub mod Query
+pub mod Several
 pub mod Reading
 pub mod Left
 pub mod Session

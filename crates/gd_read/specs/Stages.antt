@@ -12,12 +12,12 @@ use Rattle.gd_defs.specs.Asked.{Asked, asked_query}
 use Rattle.gd_defs.specs.Plan.{template_of}
 use Rattle.gd_defs.specs.Template.{passes_template}
 use Rattle.gd_defs.specs.Lines.{count_json}
-use Rattle.gd_defs.specs.Reply.{Path, is_ambiguous}
+use Rattle.gd_defs.specs.Reply.{Answer, Path, is_ambiguous}
 use Rattle.gd_bytes.specs.Frozen.{Body, building, printing}
 use Rattle.gd_runs.specs.Owed.{ScanOrder, owed_by, weighs_too_much}
 use Rattle.gd_runs.specs.Scanned.{scan_order}
 use Rattle.gd_runs.specs.Shape.{page_shape}
-use Rattle.gd_runs.specs.Thawed.{body_line}
+use Rattle.gd_runs.specs.Thawed.{body_answer}
 use Rattle.gd_runs.specs.Request.{asks_page}
 use Rattle.gd_scan_laws.specs.Ordered.{start}
 use Rattle.gd_match_laws.specs.Rows.{rows_order}
@@ -36,7 +36,7 @@ use Rattle.gd_shape.specs.declared.shape.PageBody.TheVariants as page
 use Rattle.gd_shape.specs.declared.shape.Shape.{Shape}
 use Rattle.gd_read.specs.Candidates.{HasAll, places_of}
 use Rattle.gd_read.specs.Marked.{mark_of}
-use Rattle.gd_read.specs.Subject.{written, line_of}
+use Rattle.gd_read.specs.Subject.{written, answer_of}
 use Rattle.gd_read.specs.declared.subject.Subject.{Subject}
 use Rattle.gd_read.specs.declared.visiting.Visiting.{Visiting}
 use Rattle.gd_read.specs.declared.scanning.Scanning.{Scanning}
@@ -58,9 +58,9 @@ pub record IsAsked (batches : List Batch) (s : Subject) (q : Asked) : Type 0 whe
   pub few : length q.sort ≤ 4
   pub some : 0 < q.limit
 
--- the line that a body owes with the rows that a window keeps, where it no longer scans
-abbrev pub body_owes : List Batch → Subject → Asked → Kept → Body → ℕ → List ℕ
-body_owes batches s q w body k = body_line (prims_of batches) q (scan_order (prims_of batches) q) s.dateline k (asks_page (cursor_view s.request.cursor)) (mark_of s.after) (marks_of w) body
+-- the answer that a body owes with the rows that a window keeps, where it no longer scans
+abbrev pub body_owes : List Batch → Subject → Asked → Kept → Body → Answer
+body_owes batches s q w body = body_answer (prims_of batches) q (scan_order (prims_of batches) q) s.dateline (asks_page (cursor_view s.request.cursor)) (mark_of s.after) (marks_of w) body
 
 -- ---- scanning
 
@@ -112,7 +112,7 @@ pub record Visits (batches : List Batch) (s : Subject) (v : Visiting) (w : Kept)
 abbrev pub building_of : Building → Body
 building_of b = building b.weight (trees_of (map tree_view b.trees.items)) (stands b.matcher)
 
--- a reading builds the trees of the rows of its page, and owes its line; no row that is left weighs too much
+-- a reading builds the trees of the rows of its page, and owes its answer; no row that is left weighs too much
 pub record Builds (batches : List Batch) (s : Subject) (b : Building) (w : Kept) : Type 0 where
   pub asked : IsAsked batches s (asked_view b.plan)
   pub kept : IsKept (prims_of batches) (asked_view b.plan) (mark_of s.after) w
@@ -120,13 +120,13 @@ pub record Builds (batches : List Batch) (s : Subject) (b : Building) (w : Kept)
   pub over : IsOver batches (template_of (asked_view b.plan)) b.matcher
   pub order : order_for batches b.plan b.matcher ≡ rows_order (page_rows w)
   pub light : list_any weighs_too_much (owed_by (prims_of batches) (template_of (asked_view b.plan)) (rows_order (page_rows w)) (stands b.matcher)) ≡ false
-  pub owes : (k : ℕ) → body_owes batches s (asked_view b.plan) w (building_of b) k ≡ line_of batches s k
+  pub owes : body_owes batches s (asked_view b.plan) w (building_of b) ≡ answer_of batches s
 
 -- the scan of a plan has ended: the rows are kept, and their trees are to be built
 pub record IsScanned (batches : List Batch) (s : Subject) (plan : Found) (w : Kept) : Type 0 where
   pub asked : IsAsked batches s (asked_view plan)
   pub kept : IsKept (prims_of batches) (asked_view plan) (mark_of s.after) w
-  pub owes : (k : ℕ) → body_owes batches s (asked_view plan) w (building 0 no_trees start) k ≡ line_of batches s k
+  pub owes : body_owes batches s (asked_view plan) w (building 0 no_trees start) ≡ answer_of batches s
 
 -- ---- gathering
 
@@ -158,9 +158,9 @@ pub record IsBuilt (batches : List Batch) (s : Subject) (plan : Found) (body : P
   pub asked : IsAsked batches s (asked_view plan)
   pub kept : IsKept (prims_of batches) (asked_view plan) (mark_of s.after) w
   pub prints : body_print (prims_of batches) (asked_view plan) body ≡ page_prints (prims_of batches) (asked_view plan) w (body_trees body)
-  pub owes : (k : ℕ) → body_owes batches s (asked_view plan) w (printing 0 (body_trees body) []) k ≡ line_of batches s k
+  pub owes : body_owes batches s (asked_view plan) w (printing 0 (body_trees body) []) ≡ answer_of batches s
 
--- a reading prints the page of a query from trees, or their count, and owes its line
+-- a reading prints the page of a query from trees, or their count, and owes its answer
 pub record Prints (batches : List Batch) (s : Subject) (shape : Shape) (w : Kept) : Type 0 where
   pub q : Asked
   pub trees : Trees
@@ -169,11 +169,11 @@ pub record Prints (batches : List Batch) (s : Subject) (shape : Shape) (w : Kept
   pub one : is_ambiguous q.single (length (rows_of w)) ≡ false
   pub prints : page_of (prims_of batches) shape ≡ page_prints (prims_of batches) q w trees
   pub known : IsOf (prims_of batches) shape
-  pub owes : (k : ℕ) → body_owes batches s q w (printing 0 trees []) k ≡ line_of batches s k
+  pub owes : body_owes batches s q w (printing 0 trees []) ≡ answer_of batches s
 
 -- ---- all of them
 
--- a reading that goes on stands where it owes its line; the rows that were built do not weigh too much together
+-- a reading that goes on stands where it owes its answer; the rows that were built do not weigh too much together
 abbrev pub StageOwes : List Batch → Subject → Stage → Kept → Type 0
 StageOwes batches s (stage.Visiting v) w = Visits batches s v w
 StageOwes batches s (stage.Scanning r) w = Scans batches s r.plan r.matcher w × IsKnown batches r.plan r.matcher r.places

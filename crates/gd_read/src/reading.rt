@@ -1,50 +1,27 @@
-//! A read that is suspended between slices.
-ghost use Rattle.std.specs.Prelude.{◌≡◌, ◌≢◌, ◌+◌, ◌-◌, ◌<◌, ◌≤◌, ◌^◌, ℕ, [], true, Some, Ok, Err};
-ghost use Rattle.std.specs.Prelude.{length, take, min, option_map, MatchResult, MatchOption, IfOk};
-ghost use Rattle.std.specs.Prelude.{IfErr, IsNone};
-ghost use Rattle.gd_base.specs.Counts.{Rose};
-ghost use Rattle.gd_prim.specs.History.{prims_of};
-ghost use Rattle.gd_defs.specs.Asked.{asked_query};
-ghost use Rattle.gd_defs.specs.Reply.{unknown_refusal};
+//! A read that is suspended between slices: of one query, or of several.
+ghost use Rattle.std.specs.Prelude.{◌≡◌, ◌+◌, ◌-◌, ◌<◌, ◌≤◌, ◌^◌, ℕ, true, length, take, min};
+ghost use Rattle.std.specs.Prelude.{IfOk, IfErr};
 ghost use Rattle.gd_runs.specs.Core as core;
-ghost use Rattle.gd_runs.specs.Request.{page_after};
-ghost use Rattle.gd_mql.specs.Requests.{cursor_view, read_view};
-ghost use Rattle.gd_plan.specs.Asked.{asked_view};
-ghost use Rattle.gd_compile.specs.Fault.{unknown_of};
-ghost use Rattle.gd_frozen.specs.Meant.{meant};
-ghost use Rattle.gd_window.specs.Kept.{HasSeen};
-ghost use Rattle.gd_read.specs.Marked.{mark_of};
-ghost use Rattle.gd_suspended_laws.specs.Standing.{window_of};
-ghost use Rattle.gd_read.specs.Begun.{fault_at, HasOffset, asked_from, dateline_from, Begins};
-ghost use Rattle.gd_read.specs.Begun.{IsMeaningless};
-ghost use Rattle.gd_read.specs.Subject.{line_of};
-ghost use Rattle.gd_read.specs.Stages.{IsAsked};
+ghost use Rattle.gd_mql.specs.Requests.{read_set_view};
+ghost use Rattle.gd_read.specs.Begun.{HasOffset, Begins};
+ghost use Rattle.gd_read.specs.Query.{one_view, QueryGoes};
 ghost use Rattle.gd_read.specs.Reading.{reading_view, IsGoing, Replies, is_unfinished};
-ghost use Rattle.gd_read.specs.Left.{IsPastIds, reading_left};
+ghost use Rattle.gd_read.specs.Left.{IsPastIds, query_left, reading_left};
+ghost use Rattle.gd_read.specs.Several.{asks_several};
 
 use crate::fault::ReadFault;
-use crate::first::first_stage;
-use crate::rows::window_behind;
-use crate::stage::{Round, Stage};
-use crate::subject::Subject;
+use crate::query::{QueryReading, Turn};
+use crate::several::SeveralReading;
 use gd_base::memory::Memory;
 use gd_base::steps::Steps;
-use gd_compile::compile::compile;
-use gd_compile::fault::Unknown;
-use gd_frozen::cursor::Cursor;
-use gd_frozen::{FrozenFault, cursor_from};
-use gd_iter_core::budget::Budget;
-use gd_json::value::JsonText;
-use gd_mql::request::{CursorAsk, ReadRequest};
-use gd_plan::plan::Plan;
+use gd_mql::request::ReadSet;
 use gd_store::view::View;
-use gd_window::window::Window;
 use std::alloc::Global;
 
 /// What a slice of a reading comes to.
 #[derive(Drop)]
 pub enum Progress {
-    /// The reply line: a page, or the refusal in its place.
+    /// The reply line: a page, or the refusal in its place, or what several queries come to.
     Reply(Vec<u8>),
     /// The budget was reached.
     Unfinished,
@@ -54,194 +31,60 @@ pub enum Progress {
 /// see it as the reading of the core, by `reading_view`; `IsGoing` says that it owes, over the
 /// batches below its dateline, the reply of that reading.
 #[derive(Drop)]
-pub struct Reading {
-    subject: Subject,
-    window: Window,
-    stage: Stage,
+pub enum Reading {
+    /// Of one query.
+    One(QueryReading),
+    /// Of several, at one dateline.
+    Several(SeveralReading),
 }
 
-/// The cursor of a text, whose dateline is not above the latest one.
-fn cursor_in(latest: u32, text: &JsonText) -> Result<Cursor, ReadFault>
-    ensures given { Begins latest (λ c. Some (meant c)) (asked_from latest (page_after text.now))
-        result }
-    ensures below { IfOk result (λ c. c.dateline ≤ latest) }
-    ensures offset { IfErr result (λ fault. HasOffset fault) }
-{
-    match cursor_from(text.as_str().as_bytes()) {
-        Ok(cursor) => {
-            if latest < cursor.dateline {
-                return Err(ReadFault::CursorAhead {
-                    asked: cursor.dateline,
-                    have: latest,
-                });
-            }
-            Ok(cursor)
-        }
-        Err(FrozenFault::BadFrozen { offset }) => Err(ReadFault::BadCursor { offset }),
-        Err(FrozenFault::Memory) => Err(ReadFault::Memory),
-    }
-}
-
-/// The cursor from which a read asks, if there is one.
-fn cursor_asked(latest: u32, ask: &CursorAsk) -> Result<Option<Cursor>, ReadFault>
-    ensures given { Begins latest (λ after. option_map meant after)
-        (asked_from latest (cursor_view ask.now)) result }
-    ensures below { IfOk result (λ after. dateline_from latest (option_map meant after) ≤ latest) }
-    ensures offset { IfErr result (λ fault. HasOffset fault) }
-{
-    match ask {
-        CursorAsk::After(text) => Ok(Some(cursor_in(latest, text)?)),
-        CursorAsk::Absent | CursorAsk::First => Ok(None),
-    }
-}
-
-/// The dateline of a cursor, or else the latest one.
-fn dateline_behind(latest: u32, after: &Option<Cursor>) -> u32
-    ensures { result ≡ dateline_from latest (option_map meant after.now) }
-{
-    match after {
-        Some(cursor) => cursor.dateline,
-        None => latest,
-    }
-}
-
-/// Why a reading of a query that has no meaning at a dateline does not begin.
-fn meaning_fault(dateline: u32, unknown: Unknown) -> ReadFault
-    ensures fault { (latest : ℕ) → result ≢ ReadFault.Memory
-        → fault_at latest result ≡ (dateline, unknown_refusal (unknown_of unknown)) }
-    ensures memory { result ≢ ReadFault.Memory → unknown ≢ Unknown.Memory }
-    ensures offset { HasOffset result }
-{
-    match unknown {
-        Unknown::NoSuchId { path } => ReadFault::NoSuchId { dateline, path },
-        Unknown::NoSuchProperty { path } => ReadFault::NoSuchProperty { dateline, path },
-        Unknown::BadQuery { code, path } => ReadFault::BadQuery {
-            dateline,
-            code,
-            path,
-        },
-        Unknown::Memory => ReadFault::Memory,
-    }
-}
-
-/// The plan of a read at the view's dateline.
-fn plan_at<L>(
+/// Goes on with the reading of one query: its answer is made the reply line.
+fn slice_one<L>(
+    reading: &mut QueryReading,
     alloc: Global,
     view: &View<'_>,
-    request: &ReadRequest,
+    budget: u64,
+    line: u64,
     steps: &mut Steps<L>,
-) -> Result<Plan, ReadFault>
-    ensures planned { MatchResult result
-        (λ plan. asked_query (prims_of view.now) (read_view request.now).query
-        ≡ Ok (asked_view plan))
-        (λ fault. fault ≢ ReadFault.Memory → (latest : ℕ)
-        → IsMeaningless (length view.now)
-        (asked_query (prims_of view.now) (read_view request.now).query) (fault_at latest fault)) }
-    ensures offset { IfErr result (λ fault. HasOffset fault) }
+) -> Result<Progress, Memory>
+    requires budget { 0 < budget }
+    requires line { line < 2 ^ 63 }
+    requires going { QueryGoes view.now reading.old }
+    ensures reply { IfOk result (λ progress. Replies
+        (core.owed_line view.now line (one_view reading.old)) progress) }
+    ensures same { one_view reading.new ≡ one_view reading.old }
+    ensures still { IfOk result (λ progress. is_unfinished progress ≡ true
+        → QueryGoes view.now reading.new) }
+    ensures reached { IfOk result (λ progress. is_unfinished progress ≡ true
+        → min (steps.old + budget) (2 ^ 64 - 1) ≤ steps.new) }
+    ensures less { (n : ℕ) → IsPastIds n → steps.new + query_left n view.now reading.new
+        ≤ steps.old + query_left n view.now reading.old }
+    ensures work { steps.new ≤ steps.old + budget + 1024 }
     ensures later { steps.old ≤ steps.new }
 {
-    match compile(alloc, view, request, steps) {
-        Ok(plan) => Ok(plan),
-        Err(unknown) => Err(meaning_fault(view.dateline(), unknown)),
-    }
-}
-
-/// The reading of a window that has seen nothing, with its first stage.
-fn begun_with(
-    alloc: Global,
-    view: &View<'_>,
-    subject: Subject,
-    window: Window,
-    plan: Plan,
-) -> Result<Reading, Memory>
-    requires asked { IsAsked view.now subject (asked_view plan) }
-    requires made { window ≡ window_of (prims_of view.now) (asked_view plan) (mark_of subject.after)
-        [] }
-    requires seen { HasSeen window [] }
-    ensures subject { IfOk result (λ reading. reading.subject ≡ subject) }
-    ensures going { IfOk result (λ reading. IsGoing view.now reading) }
-{
-    match first_stage(alloc, view, plan) {
-        Ok(stage) => Ok(Reading {
-            subject,
-            window,
-            stage,
-        }),
-        Err(refused) => {
-            drop(subject);
-            drop(window);
-            Err(refused)
+    match reading.slice(alloc, view, budget, steps)? {
+        Turn::Answer(answer) => {
+            let bytes = answer.line(alloc, reading.dateline(), line)?;
+            Ok(Progress::Reply(bytes))
         }
-    }
-}
-
-/// The reading of a plan that has given nothing yet.
-fn begun(alloc: Global, view: &View<'_>, subject: Subject, plan: Plan) -> Result<Reading, Memory>
-    requires asked { IsAsked view.now subject (asked_view plan) }
-    ensures subject { IfOk result (λ reading. reading.subject ≡ subject) }
-    ensures going { IfOk result (λ reading. IsGoing view.now reading) }
-{
-    match window_behind(alloc, view, plan.asked(), &subject.after) {
-        Ok(window) => begun_with(alloc, view, subject, window, plan),
-        Err(refused) => {
-            drop(subject);
-            drop(plan);
-            Err(refused)
-        }
-    }
-}
-
-/// The reading of a request at the view's dateline, from behind a cursor if there is one.
-fn begin_at<L>(
-    alloc: Global,
-    view: &View<'_>,
-    after: Option<Cursor>,
-    request: ReadRequest,
-    steps: &mut Steps<L>,
-) -> Result<Reading, ReadFault>
-    ensures begun { MatchResult result
-        (λ reading. core.with_meaning [] (read_view request) (length view.now) (mark_of after)
-        (asked_query (prims_of view.now) (read_view request).query) ≡ Ok (reading_view reading))
-        (λ fault. fault ≢ ReadFault.Memory → (latest : ℕ)
-        → core.with_meaning [] (read_view request) (length view.now) (mark_of after)
-        (asked_query (prims_of view.now) (read_view request).query) ≡ Err (fault_at latest fault)) }
-    ensures going { IfOk result (λ reading. IsGoing view.now reading) }
-    ensures offset { IfErr result (λ fault. HasOffset fault) }
-    ensures later { steps.old ≤ steps.new }
-{
-    // Each primitive below the end may hold its value.
-    let _end = view.end();
-    let subject = Subject {
-        request,
-        dateline: view.dateline(),
-        after,
-    };
-    let plan = match plan_at(alloc, view, &subject.request, steps) {
-        Ok(plan) => plan,
-        Err(fault) => {
-            drop(subject);
-            return Err(fault);
-        }
-    };
-    match begun(alloc, view, subject, plan) {
-        Ok(reading) => Ok(reading),
-        Err(refused) => Err(ReadFault::from(refused)),
+        Turn::Unfinished => Ok(Progress::Unfinished),
     }
 }
 
 impl Reading {
     /// The reading of a request over the store as it is now, or for a further page as it was at the
     /// dateline of the cursor. Its words are looked up here, which is not cut in slices. A cursor
-    /// that is none, or is ahead, and a query that has no meaning at the dateline are refused;
-    /// `Memory` may come in place of any reading.
+    /// that is none, or is ahead, and a query that has no meaning at the dateline are refused; of
+    /// several queries each is refused by itself, in its place among the answers. `Memory` may come
+    /// in place of any reading.
     pub fn begin<L>(
         alloc: Global,
         view: &View<'_>,
-        request: ReadRequest,
+        request: ReadSet,
         steps: &mut Steps<L>,
     ) -> Result<Reading, ReadFault>
         ensures begun { Begins (length view.now) reading_view
-            (core.reading_of view.now (length view.now) (read_view request)) result }
+            (core.reading_of view.now (length view.now) (read_set_view request)) result }
 
         // The reading goes on over the batches below its dateline.
         ensures going { IfOk result (λ reading. IsGoing
@@ -250,15 +93,17 @@ impl Reading {
         ensures offset { IfErr result (λ fault. HasOffset fault) }
         ensures later { steps.old ≤ steps.new }
     {
-        let latest = view.dateline();
-        match cursor_asked(latest, &request.cursor) {
-            Ok(after) => {
-                let below = view.earlier(dateline_behind(latest, &after));
-                begin_at(alloc, &below, after, request, steps)
-            }
-            Err(fault) => {
-                drop(request);
-                Err(fault)
+        match request {
+            ReadSet::One(request) => match QueryReading::begin(alloc, view, request, steps) {
+                Ok(reading) => Ok(Reading::One(reading)),
+                Err(fault) => Err(fault),
+            },
+            ReadSet::Several(requests) => {
+                let requests = requests.into_requests();
+                match SeveralReading::begin(alloc, view, requests, steps) {
+                    Ok(reading) => Ok(Reading::Several(reading)),
+                    Err(refused) => Err(ReadFault::from(refused)),
+                }
             }
         }
     }
@@ -267,55 +112,26 @@ impl Reading {
     pub fn dateline(&self) -> u32
         ensures { result ≡ (reading_view self.now).dateline }
     {
-        self.subject.dateline
+        match self {
+            Reading::One(reading) => reading.dateline(),
+            Reading::Several(reading) => reading.dateline,
+        }
     }
 
-    /// Goes on by a round: the reply line, or none where it owes the same.
-    fn round<L>(
-        &mut self,
-        alloc: Global,
-        view: &View<'_>,
-        budget: u64,
-        line: u64,
-        steps: &mut Steps<L>,
-    ) -> Result<Option<Vec<u8>>, Memory>
-        requires budget { 0 < budget }
-        requires line { line < 2 ^ 63 }
-        requires going { IsGoing view.now self.old }
-        ensures gives { IfOk result (λ reply. MatchOption reply (IsGoing view.now self.new)
-            (λ bytes. bytes.items ≡ line_of view.now self.old.subject line)) }
-        ensures subject { self.new.subject ≡ self.old.subject }
-        ensures counted { IfOk result (λ reply. IsNone reply → Rose steps.old steps.new) }
-        ensures less { (n : ℕ) → IsPastIds n → steps.new + reading_left n view.now self.new
-            ≤ steps.old + reading_left n view.now self.old }
-        ensures work { steps.new ≤ steps.old + budget + 1024 }
-        ensures later { steps.old ≤ steps.new }
+    /// Whether it is of several queries.
+    pub(crate) fn is_several(&self) -> bool
+        ensures { result ≡ asks_several (reading_view self.now).request }
     {
-        let stage = std::mem::replace(&mut self.stage, Stage::Spent);
-        match stage.go_on(
-            alloc,
-            &self.subject,
-            &mut self.window,
-            view,
-            budget,
-            line,
-            steps,
-        )? {
-            Round::Reply(bytes) => Ok(Some(bytes)),
-            Round::Going(stage) => {
-                drop(std::mem::replace(&mut self.stage, stage));
-                Ok(None)
-            }
-        }
+        matches!(self, Reading::Several(_))
     }
 
     /// Goes on over a view of the reading's dateline, on the store at which it began or a later
     /// one, until the budget of steps is reached or the reply line is there: the page at the
-    /// dateline, or the refusal in its place. `line` is the number of the line that the reply
-    /// tells. It takes at most 1,024 steps more than the budget. The number of what is left
-    /// (`reading_left`) falls by at least the steps that it takes, so finitely many slices end a
-    /// reading. `Memory`: an allocation was refused; after that, and after a reply, nothing more is
-    /// to be asked.
+    /// dateline, or the refusal in its place; of several queries what each comes to. `line` is the
+    /// number of the line that the reply tells. It takes at most 1,024 steps more than the budget.
+    /// The number of what is left (`reading_left`) falls by at least the steps that it takes, so
+    /// finitely many slices end a reading. `Memory`: an allocation was refused; after that, and
+    /// after a reply, nothing more is to be asked.
     pub fn slice<L>(
         &mut self,
         alloc: Global,
@@ -346,16 +162,9 @@ impl Reading {
         ensures work { steps.new ≤ steps.old + budget + 1024 }
         ensures later { steps.old ≤ steps.new }
     {
-        let whole = Budget::new(budget, steps);
-        for _round in 0..budget {
-            if whole.is_spent(steps) {
-                return Ok(Progress::Unfinished);
-            }
-            let left = whole.left(steps);
-            if let Some(bytes) = self.round(alloc, view, left, line, steps)? {
-                return Ok(Progress::Reply(bytes));
-            }
+        match self {
+            Reading::One(reading) => slice_one(reading, alloc, view, budget, line, steps),
+            Reading::Several(reading) => reading.slice(alloc, view, budget, line, steps),
         }
-        Ok(Progress::Unfinished)
     }
 }

@@ -1,18 +1,18 @@
 //! What a session holds of its reading, without a seat.
 ghost use Rattle.std.specs.Prelude.{◌≡◌, ◌≢◌, ◌+◌, ◌-◌, ◌<◌, ◌≤◌, ◌^◌, ℕ, true, None, Some, length};
 ghost use Rattle.std.specs.Prelude.{min, option_map, IfOk, IfErr};
-ghost use Rattle.gd_mql.specs.Requests.{read_view};
+ghost use Rattle.gd_mql.specs.Requests.{read_set_view};
 ghost use Rattle.gd_runs.specs.Core as core;
 ghost use Rattle.gd_read.specs.Left.{IsPastIds};
 ghost use Rattle.gd_read.specs.Reading.{reading_view, Replies, is_unfinished};
 ghost use Rattle.gd_read.specs.Session.{reads, GoesOn, HoldsGoing, left_of, session_left, BeginsAs};
-ghost use Rattle.gd_read.specs.Session.{SlicesAs};
+ghost use Rattle.gd_read.specs.Session.{SlicesAs, holds_several};
 
 use crate::fault::ReadFault;
 use crate::reading::{Progress, Reading};
 use gd_base::memory::Memory;
 use gd_base::steps::Steps;
-use gd_mql::request::ReadRequest;
+use gd_mql::request::ReadSet;
 use gd_store::store::Store;
 use std::alloc::Global;
 
@@ -69,6 +69,16 @@ impl SessionState {
         }
     }
 
+    /// Whether a reading of several queries is held.
+    pub fn is_several(&self) -> bool
+        ensures { result ≡ holds_several (reads self.now) }
+    {
+        match &self.reading {
+            Some(reading) => reading.is_several(),
+            None => false,
+        }
+    }
+
     /// Drops the reading that is held, if one is.
     pub fn end(&mut self)
         ensures { self.new ≡ record { reading = None } }
@@ -83,11 +93,11 @@ impl SessionState {
         alloc: Global,
         store: &Store,
         shown: u32,
-        request: ReadRequest,
+        request: ReadSet,
         steps: &mut Steps<L>,
     ) -> Result<SessionState, ReadFault>
         requires shown { shown ≤ length store.now }
-        ensures begins { BeginsAs store.now shown (read_view request) result }
+        ensures begins { BeginsAs store.now shown (read_set_view request) result }
 
         // The reading goes on over the batches below its dateline, which is shown.
         ensures going { IfOk result (λ state. HoldsGoing store.now shown state) }

@@ -13,6 +13,7 @@ use crate::subject::Subject;
 use crate::visiting::Visiting;
 use gd_base::memory::Memory;
 use gd_base::steps::Steps;
+use gd_reply::answer::Answer;
 use gd_shape::shape::Shape;
 use gd_store::view::View;
 use gd_window::window::Window;
@@ -30,15 +31,15 @@ pub(crate) enum Stage {
     Gathering(Gathering),
     Building(Building),
     Printing(Shape),
-    /// The reply was given, or memory was wanting.
+    /// The answer was given, or memory was wanting.
     Spent,
 }
 
 /// What a round of a reading comes to.
 #[derive(Drop)]
 pub(crate) enum Round {
-    /// The reply line.
-    Reply(Vec<u8>),
+    /// What the query comes to.
+    Answer(Answer),
     /// It goes on with this.
     Going(Stage),
 }
@@ -63,33 +64,31 @@ impl Stage {
         window: &mut Window,
         view: &View<'_>,
         budget: u64,
-        line: u64,
         steps: &mut Steps<L>,
     ) -> Result<Round, Memory>
         requires budget { 0 < budget }
-        requires line { line < 2 ^ 63 }
         requires owes { StageOwes view.now subject.now self window.old }
-        ensures { RoundGoes view.now subject.now line (λ n. stage_left n view.now window.old self)
+        ensures { RoundGoes view.now subject.now (λ n. stage_left n view.now window.old self)
             window.new steps.old steps.new (budget + 1024) result }
     {
         match self {
             Stage::Visiting(visiting) => {
-                visiting.go_on(alloc, subject, window, view, budget, line, steps)
+                visiting.go_on(alloc, subject, window, view, budget, steps)
             }
             Stage::Scanning(scanning) => {
-                scanning.go_on(alloc, subject, window, view, budget, line, steps)
+                scanning.go_on(alloc, subject, window, view, budget, steps)
             }
             Stage::Checking(checking) => {
-                checking.go_on(alloc, subject, window, view, budget, line, steps)
+                checking.go_on(alloc, subject, window, view, budget, steps)
             }
             Stage::Gathering(gathering) => {
-                gathering.go_on(alloc, subject, window, view, budget, line, steps)
+                gathering.go_on(alloc, subject, window, view, budget, steps)
             }
             Stage::Building(building) => {
-                building.go_on(alloc, subject, window, view, budget, line, steps)
+                building.go_on(alloc, subject, window, view, budget, steps)
             }
             Stage::Printing(shape) => {
-                print_on(alloc, shape, subject, window, view, budget, line, steps)
+                print_on(alloc, shape, subject, window, view, budget, steps)
             }
             Stage::Spent => unreachable!(),
         }

@@ -58,15 +58,15 @@ may_take s k core.reopen below bounds = tt
 
 -- ---- a line
 
-pub takes_line : (members : MembersOf) (may : ℕ → Bool) (s : State) (k bytes : ℕ) (piece : List ℕ) (e : Event) (reply : List ℕ) (t : State) → event_from piece ≡ Ok e → bytes ≡ length piece → Takes members may s k bytes e reply t
-    → BuiltLine members may s k piece reply t
-takes_line members may s k bytes piece e reply t event long takes = ⊎_elim
-    (λ taken. inr (inl (e, event, subst (λ (n : ℕ). StepBuilt members may s k n e reply t) long taken)))
+pub takes_line : (told : Bool) (members : MembersOf) (may : ℕ → Bool) (s : State) (k bytes : ℕ) (piece : List ℕ) (e : Event) (reply : List ℕ) (t : State) → event_from piece ≡ Ok e → bytes ≡ length piece → Takes told members may s k bytes e reply t
+    → BuiltLine told members may s k piece reply t
+takes_line told members may s k bytes piece e reply t event long takes = ⊎_elim
+    (λ taken. inr (inl (e, event, subst (λ (n : ℕ). StepBuilt told members may s k n e reply t) long taken)))
     (λ lacks. inr (inr (lacks.0, inr (e, event, lacks.1))))
     takes
 
-pub refuses_line : (members : MembersOf) (may : ℕ → Bool) (s : State) (k : ℕ) (piece : List ℕ) (f : LineFault) (reply : List ℕ) → (f ≢ fault.Memory → event_from piece ≡ Err (fault_view f)) → TellsFault k f reply → BuiltLine members may s k piece reply s
-refuses_line members may s k piece f reply asked tells = ⊎_elim
+pub refuses_line : (told : Bool) (members : MembersOf) (may : ℕ → Bool) (s : State) (k : ℕ) (piece : List ℕ) (f : LineFault) (reply : List ℕ) → (f ≢ fault.Memory → event_from piece ≡ Err (fault_view f)) → TellsFault k f reply → BuiltLine told members may s k piece reply s
+refuses_line told members may s k piece f reply asked tells = ⊎_elim
     (λ told. inl (fault_view f, asked told.0, told.1, refl))
     (λ lacks. inr (inr (lacks, inl refl)))
     tells
@@ -75,8 +75,8 @@ refuses_line members may s k piece f reply asked tells = ⊎_elim
 long_is : (piece : List ℕ) → max_line < length piece → event_from piece ≡ Err line_too_long
 long_is piece long = ap (λ (b : Bool). if b then Err line_too_long else (map_err no_json (json_from piece) >>= λ j. map_err no_line (event_of j))) (lt-ltb max_line (length piece) long)
 
-pub long_line : (members : MembersOf) (may : ℕ → Bool) (s : State) (k : ℕ) (piece : List ℕ) (reply : List ℕ) → max_line < length piece → TellsTooLong k reply → BuiltLine members may s k piece reply s
-long_line members may s k piece reply long tells = ⊎_elim
+pub long_line : (told : Bool) (members : MembersOf) (may : ℕ → Bool) (s : State) (k : ℕ) (piece : List ℕ) (reply : List ℕ) → max_line < length piece → TellsTooLong k reply → BuiltLine told members may s k piece reply s
+long_line told members may s k piece reply long tells = ⊎_elim
     (λ told. inl (line_too_long, long_is piece long, told, refl))
     (λ lacks. inr (inr (lacks, inl refl)))
     tells
@@ -100,9 +100,9 @@ tells_fault_of k f (Err e) reply told none is = inr is
 -- ---- counts of faults
 
 -- opening again tells no failure of the disk
-pub reopened_counted : (members : MembersOf) (may : ℕ → Bool) (s : State) (k bytes : ℕ) (t : State) (before after : ℕ) (result : Result Reply Memory) → Answers (λ line. Takes members may s k bytes core.reopen line t) result
-    → Answers (λ line. Takes members may s k bytes core.reopen line t × IsCounted k line before after) result
-reopened_counted members may s k bytes t before after result = answers_counted (λ line. Takes members may s k bytes core.reopen line t) k before after result (λ line taken. takes_quiet k members may s bytes core.reopen line t tt taken)
+pub reopened_counted : (told : Bool) (members : MembersOf) (may : ℕ → Bool) (s : State) (k bytes : ℕ) (t : State) (before after : ℕ) (result : Result Reply Memory) → Answers (λ line. Takes told members may s k bytes core.reopen line t) result
+    → Answers (λ line. Takes told members may s k bytes core.reopen line t × IsCounted k line before after) result
+reopened_counted told members may s k bytes t before after result = answers_counted (λ line. Takes told members may s k bytes core.reopen line t) k before after result (λ line taken. takes_quiet k told members may s bytes core.reopen line t tt taken)
 
 -- nor does the refusal of what is no event
 pub fault_told_quiet : (k : ℕ) (f : LineFault) (line : List ℕ) → TellsFault k f line → tells_fault k line ≡ false

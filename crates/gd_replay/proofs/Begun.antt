@@ -13,11 +13,11 @@ use Rattle.gd_replay.specs.declared.stop.Stop.TheVariants as stop
 use Rattle.gd_replay.specs.Runs.{PiecePrints, PieceStops, RunUpto}
 use Rattle.gd_replay.proofs.Known.{start_known, advances_none}
 
-pub begun_upto : (members : MembersOf) (may : ℕ → Bool) (loaded : List Batch) (held : Option (List ℕ)) (n : ℕ) (s : State) (reader : Held) (a : Option (List ℕ)) → reader ≡ record { bytes = []; consumed = 0 } → s ≡ opened loaded
-    → Known a (prepend_known reader.bytes a) (RunUpto members may loaded held held n n 0 s)
-begun_upto members may loaded held n s reader a new opens =
-    subst (λ (r : Held). Known a (prepend_known r.bytes a) (RunUpto members may loaded held held n n 0 s)) (sym new)
-    (subst (λ (t : State). Known a (prepend_known [] a) (RunUpto members may loaded held held n n 0 t)) (sym opens) (start_known members may loaded held n a))
+pub begun_upto : (told : Bool) (members : MembersOf) (may : ℕ → Bool) (loaded : List Batch) (held : Option (List ℕ)) (n : ℕ) (s : State) (reader : Held) (a : Option (List ℕ)) → reader ≡ record { bytes = []; consumed = 0 } → s ≡ opened loaded
+    → Known a (prepend_known reader.bytes a) (RunUpto told members may loaded held held n n 0 s)
+begun_upto told members may loaded held n s reader a new opens =
+    subst (λ (r : Held). Known a (prepend_known r.bytes a) (RunUpto told members may loaded held held n n 0 s)) (sym new)
+    (subst (λ (t : State). Known a (prepend_known [] a) (RunUpto told members may loaded held held n n 0 t)) (sym opens) (start_known told members may loaded held n a))
 
 pub begun_advances : (reader : Held) (a : Option (List ℕ)) → reader ≡ record { bytes = []; consumed = 0 } → Advances a (prepend_known reader.bytes a) 0 reader.consumed
 begun_advances reader a new = subst (λ (r : Held). Advances a (prepend_known r.bytes a) 0 r.consumed) (sym new) (advances_none a)
@@ -28,17 +28,17 @@ begun_bounded reader new = subst (λ (r : Held). IsBounded r) (sym new) (record 
 pub begun_below : (s : State) (loaded : List Batch) (k : ℕ) → s ≡ opened loaded → AreBelow k s
 begun_below s loaded k opens = subst (AreBelow k) (sym opens) (opened_below k loaded)
 
--- ---- by the moments of the clock that there was
+-- ---- by the moments of the clock that there was, and as the file was told
 
-module _ (members : MembersOf) (given may : ℕ → Bool) (same : may ≡ given) (s : State) (k : ℕ) (piece : List ℕ) (old new : Option (List ℕ)) (a b : ℕ) where
-  pub prints_by : (t : State) (n : ℕ) → PiecePrints members may s k piece t n old new a b → PiecePrints members given s k piece t n old new a b
-  prints_by t n prints = subst (λ (m : ℕ → Bool). PiecePrints members m s k piece t n old new a b) same prints
+module _ (told now : Bool) (on : now ≡ told) (members : MembersOf) (given may : ℕ → Bool) (same : may ≡ given) (s : State) (k : ℕ) (piece : List ℕ) (old new : Option (List ℕ)) (a c : ℕ) where
+  pub prints_by : (t : State) (n : ℕ) → PiecePrints now members may s k piece t n old new a c → PiecePrints told members given s k piece t n old new a c
+  prints_by t n prints = subst (λ (b : Bool). PiecePrints b members given s k piece t n old new a c) on (subst (λ (m : ℕ → Bool). PiecePrints now members m s k piece t n old new a c) same prints)
 
-  pub stops_by : (leaves : State → Type 0) (why : Stop) → PieceStops members may s k piece leaves why old new a b → PieceStops members given s k piece leaves why old new a b
-  stops_by leaves why stops = subst (λ (m : ℕ → Bool). PieceStops members m s k piece leaves why old new a b) same stops
+  pub stops_by : (leaves : State → Type 0) (why : Stop) → PieceStops now members may s k piece leaves why old new a c → PieceStops told members given s k piece leaves why old new a c
+  stops_by leaves why stops = subst (λ (b : Bool). PieceStops b members given s k piece leaves why old new a c) on (subst (λ (m : ℕ → Bool). PieceStops now members m s k piece leaves why old new a c) same stops)
 
   -- and by what is left that follows
-  pub stops_more : (leaves also : State → Type 0) → ((t : State) → leaves t → also t) → (why : Stop) → PieceStops members may s k piece leaves why old new a b → PieceStops members may s k piece also why old new a b
+  pub stops_more : (leaves also : State → Type 0) → ((t : State) → leaves t → also t) → (why : Stop) → PieceStops now members may s k piece leaves why old new a c → PieceStops now members may s k piece also why old new a c
   stops_more leaves also more stop.ReadFault stops = stops
   stops_more leaves also more stop.TooMuch stops = stops
   stops_more leaves also more (stop.Unopened f) stops = stops

@@ -1,5 +1,5 @@
 -- An event that was carried out: what stays, and which lines stand before.
-use Rattle.std.proofs.Common.{◌≡◌, ℕ, ◌+◌, List, [], ◌∷◌, ◌++◌, Bool, Option, Some, None, Result, Ok, Err, OnErr, ⊎_elim, ◌⊎◌, inl, inr, append-nil, refl, sym, subst, ◌∙◌, arith, IsTrue}
+use Rattle.std.proofs.Common.{◌≡◌, ℕ, ◌+◌, List, [], ◌∷◌, ◌++◌, Bool, true, Option, Some, None, Result, Ok, Err, OnErr, ⊎_elim, ◌⊎◌, inl, inr, append-nil, refl, sym, subst, ◌∙◌, arith, IsTrue}
 use Rattle.gd_base.specs.declared.memory.Memory.{Memory}
 use Rattle.gd_base.specs.Counts.{Rose}
 use Rattle.gd_prim.specs.declared.Batch.{Batch}
@@ -33,22 +33,22 @@ anew_below k s t loaded below anew = ⊎_elim
     anew
 
 -- an event that was taken
-pub taken_below : (may : ℕ → Bool) (s : State) (k bytes : ℕ) (e : Event) (t : State) (reply : List ℕ) → AreBelow k s → ((members : MembersOf) → Takes members may s k bytes e reply t) → AreBelow (k + 1) t
+pub taken_below : (may : ℕ → Bool) (s : State) (k bytes : ℕ) (e : Event) (t : State) (reply : List ℕ) → AreBelow k s → ((told : Bool) (members : MembersOf) → Takes told members may s k bytes e reply t) → AreBelow (k + 1) t
 taken_below may s k bytes e t reply below takes =
     let none : MembersOf = λ prims hop template. 0 in
-    takes_below none may s k bytes e reply t below (takes none)
+    takes_below true none may s k bytes e reply t below (takes true none)
 
 -- the batches that there were stay in front
-pub taken_grows : (may : ℕ → Bool) (s : State) (k bytes : ℕ) (e : Event) (t : State) (reply : List ℕ) → ((members : MembersOf) → Takes members may s k bytes e reply t) → Grows (batches s.history) (batches t.history)
+pub taken_grows : (may : ℕ → Bool) (s : State) (k bytes : ℕ) (e : Event) (t : State) (reply : List ℕ) → ((told : Bool) (members : MembersOf) → Takes told members may s k bytes e reply t) → Grows (batches s.history) (batches t.history)
 taken_grows may s k bytes e t reply takes =
     let none : MembersOf = λ prims hop template. 0 in
-    takes_grows none may s k bytes e reply t (takes none)
+    takes_grows true none may s k bytes e reply t refl (takes true none)
 
 -- so they do where it was taken by a reply that is due
-pub due_grows : (may : ℕ → Bool) (s : State) (k bytes : ℕ) (e : Event) (t : State) (reply : Result Reply Memory) → ((members : MembersOf) → Answers (λ line. Takes members may s k bytes e line t) reply) → Grows (batches s.history) (batches t.history)
-due_grows may s k bytes e t reply takes =
+pub due_grows : (told : Bool) → IsTrue told → (may : ℕ → Bool) (s : State) (k bytes : ℕ) (e : Event) (t : State) (reply : Result Reply Memory) → ((members : MembersOf) → Answers (λ line. Takes told members may s k bytes e line t) reply) → Grows (batches s.history) (batches t.history)
+due_grows told tells may s k bytes e t reply takes =
     let none : MembersOf = λ prims hop template. 0 in
-    answers_say (λ line. Takes none may s k bytes e line t) (Grows (batches s.history) (batches t.history)) reply (λ line taken. takes_grows none may s k bytes e line t taken) (takes none)
+    answers_say (λ line. Takes told none may s k bytes e line t) (Grows (batches s.history) (batches t.history)) reply (λ line taken. takes_grows told none may s k bytes e line t tells taken) (takes none)
 
 -- ---- a store that was opened again
 
@@ -67,18 +67,18 @@ reopened_before s k line t step = λ file stands. ⊎_elim
     (λ (e, doubt, with_it). subst (λ (d : Option Entry). MayStandFor (batches s.history) (doubt_groups d) file) (sym doubt) (inr (opened_stands (batches s.history ++ e.batch ∷ []) t file with_it stands)))
     step.1
 
-takes_before : (members : MembersOf) (may : ℕ → Bool) (s : State) (k bytes : ℕ) (line : List ℕ) (t : State) → Takes members may s k bytes reopen line t → StandsBefore s t
-takes_before members may s k bytes line t takes = ⊎_elim
-    (λ step. reopened_before s k line t step)
+takes_before : (told : Bool) (members : MembersOf) (may : ℕ → Bool) (s : State) (k bytes : ℕ) (line : List ℕ) (t : State) → IsTrue told → Takes told members may s k bytes reopen line t → StandsBefore s t
+takes_before told members may s k bytes line t tells takes = ⊎_elim
+    (λ step. reopened_before s k line t (step.0 tells))
     (λ lacks. λ file stands. subst (λ (u : State). StandsForState u file) lacks.1 stands)
     takes
 
 -- where there was no memory for its reply
-pub unmade_before : (may : ℕ → Bool) (s : State) (k bytes : ℕ) (t : State) (reply : Result Reply Memory) → ((members : MembersOf) → Answers (λ line. Takes members may s k bytes reopen line t) reply) → OnErr reply (StandsBefore s t)
-unmade_before may s k bytes t (Ok made) takes = tt
-unmade_before may s k bytes t (Err none) takes =
+pub unmade_before : (told : Bool) → IsTrue told → (may : ℕ → Bool) (s : State) (k bytes : ℕ) (t : State) (reply : Result Reply Memory) → ((members : MembersOf) → Answers (λ line. Takes told members may s k bytes reopen line t) reply) → OnErr reply (StandsBefore s t)
+unmade_before told tells may s k bytes t (Ok made) takes = tt
+unmade_before told tells may s k bytes t (Err none) takes =
     let zero : MembersOf = λ prims hop template. 0 in
-    let (line, taken) = takes zero in takes_before zero may s k bytes line t taken
+    let (line, taken) = takes zero in takes_before told zero may s k bytes line t tells taken
 
 -- ---- the clock and the disk
 

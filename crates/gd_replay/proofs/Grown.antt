@@ -1,10 +1,10 @@
 -- An event keeps the batches that there were in front.
-use Rattle.std.proofs.Common.{◌≡◌, ℕ, List, [], ◌∷◌, ◌++◌, Bool, true, false, Option, Some, None, Result, Ok, Err, nat_lt, ⊎_elim, refl, sym, ap, subst, ◌∙◌, append-nil, append_assoc}
+use Rattle.std.proofs.Common.{◌≡◌, ℕ, List, [], ◌∷◌, ◌++◌, Bool, true, false, Option, Some, None, Result, Ok, Err, nat_lt, ⊎_elim, refl, sym, ap, subst, ◌∙◌, append-nil, append_assoc, IsTrue}
 use Rattle.gd_prim.specs.declared.Batch.{Batch}
 use Rattle.gd_defs.specs.Lines.{Refusal}
 use Rattle.gd_defs.specs.Write.{WriteRequest}
 use Rattle.gd_runs.specs.Owed.{MembersOf}
-use Rattle.gd_runs.specs.Request.{ReadRequest}
+use Rattle.gd_runs.specs.Request.{ReadSet, one_query, queries}
 use Rattle.gd_runs.specs.Legal.{Entry, History, batches, with_entry}
 use Rattle.gd_runs.specs.Core as core
 use Rattle.gd_runs.specs.Core.{Event, Reading, State, opened, reading_of, Settles, Writable, WriteStep, stores, stores_late, refuses, doubts, leaves_doubt, lacks_memory, lacks_memory_settled, BeginStep, SliceStep, LearnStep}
@@ -62,7 +62,7 @@ write_goes may s k bytes i w _ _ (lacks_memory_settled t settles) = settled s t 
 
 -- ---- each event
 
-begin_goes : (s : State) (k i : ℕ) (r : ReadRequest) (line : List ℕ) (t : State) → BeginStep s k i r line t → Goes s t
+begin_goes : (s : State) (k i : ℕ) (r : ReadSet) (line : List ℕ) (t : State) → BeginStep s k i r line t → Goes s t
 begin_goes s k i r line t step = by (reading_of (batches s.history) s.shown r) refl
   where
     by : (o : Result Reading (ℕ × Refusal)) → reading_of (batches s.history) s.shown r ≡ o → Goes s t
@@ -90,17 +90,18 @@ learn_goes s k i m line t step = by (nat_lt s.shown m) refl
 opened_with : (bs cs : List Batch) → Grows bs cs → Grows bs (batches (opened cs).history)
 opened_with bs cs grows = subst (Grows bs) (sym (append-nil cs)) grows
 
-step_goes : (members : MembersOf) (may : ℕ → Bool) (s : State) (k bytes : ℕ) (e : Event) (line : List ℕ) (t : State) → StepBuilt members may s k bytes e line t → Goes s t
-step_goes members may s k bytes (core.begin i r) line t step = begin_goes s k i r line t step
-step_goes members may s k bytes (core.slice i n) line t step = slice_goes members s k i line t step
-step_goes members may s k bytes (core.write i w) line t step = write_goes may s k bytes i w line t step
-step_goes members may s k bytes (core.learn i m) line t step = learn_goes s k i m line t step
-step_goes members may s k bytes (core.freeze i) line t step = stays s s t refl step.1
-step_goes members may s k bytes (core.thaw i r frozen) line t step = stays s s t refl step.1
-step_goes members may s k bytes core.reopen line t step = ⊎_elim
+step_goes : (told : Bool) (members : MembersOf) (may : ℕ → Bool) (s : State) (k bytes : ℕ) (e : Event) (line : List ℕ) (t : State) → IsTrue told → StepBuilt told members may s k bytes e line t → Goes s t
+step_goes told members may s k bytes (core.begin i r) line t tells step = begin_goes s k i r line t step
+step_goes told members may s k bytes (core.slice i n) line t tells step = slice_goes members s k i line t step
+step_goes told members may s k bytes (core.write i w) line t tells step = write_goes may s k bytes i w line t step
+step_goes told members may s k bytes (core.learn i m) line t tells step = learn_goes s k i m line t step
+step_goes told members may s k bytes (core.freeze i) line t tells step = stays s s t refl step.1
+step_goes told members may s k bytes (core.thaw i (one_query r) frozen) line t tells step = stays s s t refl step.1
+step_goes told members may s k bytes (core.thaw i (queries rs) frozen) line t tells step = stays s s t refl step.1
+step_goes told members may s k bytes core.reopen line t tells step = ⊎_elim
     (λ without. subst (λ (v : State). Goes s v) (sym without) (opened_with (batches s.history) (batches s.history) (grows_same (batches s.history))))
     (λ (e, doubt, with_it). subst (λ (v : State). Goes s v) (sym with_it) (opened_with (batches s.history) (batches s.history ++ e.batch ∷ []) (record { more = e.batch ∷ []; is = refl })))
-    step.1
+    (step.0 tells).1
 
 -- ---- without memory
 
@@ -117,5 +118,5 @@ lacks_goes s (core.freeze i) t lacks = stays s s t refl lacks
 lacks_goes s core.reopen t lacks = stays s s t refl lacks
 
 -- an event that is taken, or for which no memory was found
-pub takes_grows : (members : MembersOf) (may : ℕ → Bool) (s : State) (k bytes : ℕ) (e : Event) (line : List ℕ) (t : State) → Takes members may s k bytes e line t → Grows (batches s.history) (batches t.history)
-takes_grows members may s k bytes e line t takes = ⊎_elim (λ taken. step_goes members may s k bytes e line t taken) (λ lacks. lacks_goes s e t lacks.1) takes
+pub takes_grows : (told : Bool) (members : MembersOf) (may : ℕ → Bool) (s : State) (k bytes : ℕ) (e : Event) (line : List ℕ) (t : State) → IsTrue told → Takes told members may s k bytes e line t → Grows (batches s.history) (batches t.history)
+takes_grows told members may s k bytes e line t tells takes = ⊎_elim (λ taken. step_goes told members may s k bytes e line t tells taken) (λ lacks. lacks_goes s e t lacks.1) takes

@@ -1,63 +1,55 @@
 -- A piece of the input, as the line that it is.
-use Rattle.std.proofs.Common.{◌≡◌, ℕ, ◌+◌, ◌≤◌, List, [], ◌∷◌, ◌++◌, bytes_eq, Bool, true, false, Option, Ok, ◌⊎◌, inl, inr, ⊎_elim, refl, sym, subst, arith}
-use Rattle.std.specs.Prelude.{◌≢◌}
+use Rattle.std.proofs.Common.{◌≡◌, ℕ, ◌+◌, ◌≤◌, List, [], ◌∷◌, ◌++◌, bytes_eq, Bool, true, false, Option, refl, sym, subst, arith}
 use Rattle.std.proofs.KnownBytes.{Appends-nil}
 use Rattle.gd_base.specs.Counts.{RoseBy}
 use Rattle.gd_runs.specs.Owed.{MembersOf}
-use Rattle.gd_runs.specs.Core.{State, reopen}
-use Rattle.gd_runs.specs.Replay.{event_from}
+use Rattle.gd_runs.specs.Core.{State}
 use Rattle.gd_replay_laws.specs.Runs.{BuiltLine, PieceRuns}
 use Rattle.gd_replay_laws.specs.Faults.{faults_from}
 use Rattle.gd_replay_laws.proofs.Faults.{plain_built, rose_none, rose_line}
 use Rattle.gd_replay.specs.declared.stop.Stop.{Stop}
 use Rattle.gd_replay.specs.declared.stop.Stop.TheVariants as stop
-use Rattle.gd_replay.specs.Sure.{IsSureOf}
 use Rattle.gd_replay.specs.Runs.{LinePrints, LineFront, LineStops, PiecePrints, PieceFront, PieceStops}
 
-one_line : (members : MembersOf) (may : ℕ → Bool) (s : State) (k c : ℕ) (cs reply : List ℕ) (t : State) → BuiltLine members may s k (c ∷ cs) reply t → PieceRuns members may s k (c ∷ cs) (reply ++ 10 ∷ []) t
-one_line members may s k c cs reply t line = λ round. (reply, t, [], line, refl, (refl, refl))
-
--- what is sure of a piece that is a line
-pub sure_line : (T : Type 0) (piece : List ℕ) → bytes_eq piece [] ≡ false → IsSureOf T piece → T ⊎ (event_from piece ≢ Ok reopen)
-sure_line T [] some sure = absurd (cc)
-sure_line T (c ∷ cs) some sure = ⊎_elim (λ told. inl told) (λ never. inr never.0) sure
+one_line : (told : Bool) (members : MembersOf) (may : ℕ → Bool) (s : State) (k c : ℕ) (cs reply : List ℕ) (t : State) → BuiltLine told members may s k (c ∷ cs) reply t → PieceRuns told members may s k (c ∷ cs) (reply ++ 10 ∷ []) t
+one_line told members may s k c cs reply t line = λ round. (reply, t, [], line, refl, (refl, refl))
 
 -- a line that is not blank
-pub line_prints : (members : MembersOf) (may : ℕ → Bool) (s : State) (k : ℕ) (piece : List ℕ) (t : State) (old new : Option (List ℕ)) (a b : ℕ) → bytes_eq piece [] ≡ false → a ≤ b → LinePrints members may s k piece t old new a b
-    → PiecePrints members may s k piece t (k + 1) old new a b
-line_prints members may s k [] t old new a b some later prints = absurd (cc)
-line_prints members may s k (c ∷ cs) t old new a b some later prints = record {
+pub line_prints : (told : Bool) (members : MembersOf) (may : ℕ → Bool) (s : State) (k : ℕ) (piece : List ℕ) (t : State) (old new : Option (List ℕ)) (a b : ℕ) → bytes_eq piece [] ≡ false → a ≤ b → LinePrints told members may s k piece t old new a b
+    → PiecePrints told members may s k piece t (k + 1) old new a b
+line_prints told members may s k [] t old new a b some later prints = absurd (cc)
+line_prints told members may s k (c ∷ cs) t old new a b some later prints = record {
   output = prints.reply ++ 10 ∷ [];
-  runs = one_line members may s k c cs prints.reply t prints.line;
+  runs = one_line told members may s k c cs prints.reply t prints.line;
   many = refl;
   gained = prints.gained;
-  rose = rose_line k a b prints.reply (plain_built members may s k (c ∷ cs) prints.reply t prints.line) prints.counted later;
+  rose = rose_line k a b prints.reply (plain_built told members may s k (c ∷ cs) prints.reply t prints.line) prints.counted later;
 }
 
 -- a blank one
-pub blank_prints : (members : MembersOf) (may : ℕ → Bool) (s : State) (k : ℕ) (piece : List ℕ) (held : Option (List ℕ)) (n : ℕ) → bytes_eq piece [] ≡ true → PiecePrints members may s k piece s k held held n n
-blank_prints members may s k [] held n none = record { output = []; runs = λ round. (refl, refl); many = omega arith; gained = Appends-nil held; rose = rose_none n n (omega arith) }
-blank_prints members may s k (c ∷ cs) held n none = absurd (cc)
+pub blank_prints : (told : Bool) (members : MembersOf) (may : ℕ → Bool) (s : State) (k : ℕ) (piece : List ℕ) (held : Option (List ℕ)) (n : ℕ) → bytes_eq piece [] ≡ true → PiecePrints told members may s k piece s k held held n n
+blank_prints told members may s k [] held n none = record { output = []; runs = λ round. (refl, refl); many = omega arith; gained = Appends-nil held; rose = rose_none n n (omega arith) }
+blank_prints told members may s k (c ∷ cs) held n none = absurd (cc)
 
 -- a line that stops a run
-line_front : (members : MembersOf) (may : ℕ → Bool) (s : State) (k : ℕ) (piece : List ℕ) (leaves : State → Type 0) (old new : Option (List ℕ)) (a b : ℕ) → bytes_eq piece [] ≡ false → a ≤ b → LineFront members may s k piece leaves old new a b
-    → PieceFront members may s k piece leaves old new a b
-line_front members may s k [] leaves old new a b some later front = absurd (cc)
-line_front members may s k (c ∷ cs) leaves old new a b some later front = record {
+line_front : (told : Bool) (members : MembersOf) (may : ℕ → Bool) (s : State) (k : ℕ) (piece : List ℕ) (leaves : State → Type 0) (old new : Option (List ℕ)) (a b : ℕ) → bytes_eq piece [] ≡ false → a ≤ b → LineFront told members may s k piece leaves old new a b
+    → PieceFront told members may s k piece leaves old new a b
+line_front told members may s k [] leaves old new a b some later front = absurd (cc)
+line_front told members may s k (c ∷ cs) leaves old new a b some later front = record {
   output = front.front.piece;
   rest = front.front.rest;
   state = front.state;
-  runs = subst (λ (out : List ℕ). PieceRuns members may s k (c ∷ cs) out front.state) (sym front.front.parts) (one_line members may s k c cs front.reply front.state front.line);
+  runs = subst (λ (out : List ℕ). PieceRuns told members may s k (c ∷ cs) out front.state) (sym front.front.parts) (one_line told members may s k c cs front.reply front.state front.line);
   left = front.left;
   gained = front.front.gained;
-  rose = subst (λ (out : List ℕ). RoseBy a b (faults_from k out)) (sym front.front.parts) (rose_line k a b front.reply (plain_built members may s k (c ∷ cs) front.reply front.state front.line) front.counted later);
+  rose = subst (λ (out : List ℕ). RoseBy a b (faults_from k out)) (sym front.front.parts) (rose_line k a b front.reply (plain_built told members may s k (c ∷ cs) front.reply front.state front.line) front.counted later);
 }
 
-pub line_stops : (members : MembersOf) (may : ℕ → Bool) (s : State) (k : ℕ) (piece : List ℕ) (leaves : State → Type 0) (why : Stop) (old new : Option (List ℕ)) (a b : ℕ) → bytes_eq piece [] ≡ false → a ≤ b → LineStops members may s k piece leaves why old new a b
-    → PieceStops members may s k piece leaves why old new a b
-line_stops members may s k piece leaves stop.ReadFault old new a b some later stops = stops
-line_stops members may s k piece leaves stop.SinkFault old new a b some later stops = line_front members may s k piece leaves old new a b some later stops
-line_stops members may s k piece leaves stop.Memory old new a b some later stops = stops
-line_stops members may s k piece leaves stop.TooMuch old new a b some later stops = stops
-line_stops members may s k piece leaves (stop.Unopened f) old new a b some later stops = stops
-line_stops members may s k piece leaves (stop.Lost f) old new a b some later stops = stops
+pub line_stops : (told : Bool) (members : MembersOf) (may : ℕ → Bool) (s : State) (k : ℕ) (piece : List ℕ) (leaves : State → Type 0) (why : Stop) (old new : Option (List ℕ)) (a b : ℕ) → bytes_eq piece [] ≡ false → a ≤ b → LineStops told members may s k piece leaves why old new a b
+    → PieceStops told members may s k piece leaves why old new a b
+line_stops told members may s k piece leaves stop.ReadFault old new a b some later stops = stops
+line_stops told members may s k piece leaves stop.SinkFault old new a b some later stops = line_front told members may s k piece leaves old new a b some later stops
+line_stops told members may s k piece leaves stop.Memory old new a b some later stops = stops
+line_stops told members may s k piece leaves stop.TooMuch old new a b some later stops = stops
+line_stops told members may s k piece leaves (stop.Unopened f) old new a b some later stops = stops
+line_stops told members may s k piece leaves (stop.Lost f) old new a b some later stops = stops

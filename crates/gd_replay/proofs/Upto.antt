@@ -1,5 +1,5 @@
 -- A run up to some place of its input.
-use Rattle.std.proofs.Common.{◌≡◌, ℕ, ◌+◌, ◌==◌, List, [], ◌∷◌, ◌++◌, length, take, Bool, true, false, Option, ◌⊎◌, inl, inr, ⊎_elim, refl, sym, ap, subst, ◌∙◌, arith, append_assoc, append-nil, length-append, take_all}
+use Rattle.std.proofs.Common.{◌≡◌, ℕ, ◌+◌, ◌==◌, List, [], ◌∷◌, ◌++◌, length, take, Bool, true, false, Option, refl, sym, ap, subst, ◌∙◌, arith, append_assoc, append-nil, length-append, take_all}
 use Rattle.std.specs.Prelude.{if◌then◌else◌}
 use Rattle.std.proofs.lemmas.List.{take-append-le}
 use Rattle.std.proofs.KnownBytes.{Appends-trans, Appends-nil, Appends-kept}
@@ -15,7 +15,6 @@ use Rattle.gd_replay_laws.specs.Runs.{BuiltReplies, PieceRuns, lines_at}
 use Rattle.gd_replay_laws.specs.Faults.{faults_from}
 use Rattle.gd_replay_laws.proofs.Joined.{runs_join}
 use Rattle.gd_replay_laws.proofs.Faults.{faults_run, rose_none, rose_then}
-use Rattle.gd_replay.specs.Sure.{NeverReopen, IsSureOf}
 use Rattle.gd_replay.specs.Replays.{Accounts, Replays, ReplaysTaken, ReplaysFront}
 use Rattle.gd_replay.specs.Runs.{PiecePrints, PieceFront, RunUpto}
 
@@ -38,19 +37,6 @@ behind round in_round (c ∷ cs) ps = by (in_round + 1 == max_round) refl
     by true is = record { round_then = round + 1; in_then = 0; parts = ap (λ (b : Bool). line ∷ (if b then numbered (round + 1) 0 ps else numbered round (in_round + 1) ps)) is }
     by false is = record { round_then = round; in_then = in_round + 1; parts = ap (λ (b : Bool). line ∷ (if b then numbered (round + 1) 0 ps else numbered round (in_round + 1) ps)) is }
 
--- lines of which none opens the store again
-never_front : (ls ms : List Numbered) → NeverReopen (ls ++ ms) → NeverReopen ls
-never_front [] ms never = tt
-never_front (l ∷ ls) ms never = (never.0, never_front ls ms never.1)
-
-never_behind : (ls ms : List Numbered) → NeverReopen (ls ++ ms) → NeverReopen ms
-never_behind [] ms never = never
-never_behind (l ∷ ls) ms never = never_behind ls ms never.1
-
-never_at : (round : ℕ) (piece : List ℕ) → NeverReopen (lines_at round piece) → NeverReopen (lines_at 0 piece)
-never_at round [] never = tt
-never_at round (c ∷ cs) never = never
-
 -- how many lines a piece is does not depend on its round
 same_many : (round : ℕ) (piece : List ℕ) → length (lines_at round piece) ≡ length (lines_at 0 piece)
 same_many round [] = refl
@@ -58,23 +44,23 @@ same_many round (c ∷ cs) = refl
 
 -- ---- a run
 
-module _ (members : MembersOf) (may : ℕ → Bool) (loaded : List Batch) where
-  pub upto_start : (held : Option (List ℕ)) (n : ℕ) (input : List ℕ) → RunUpto members may loaded held held n n 0 (opened loaded) input input
+module _ (told : Bool) (members : MembersOf) (may : ℕ → Bool) (loaded : List Batch) where
+  pub upto_start : (held : Option (List ℕ)) (n : ℕ) (input : List ℕ) → RunUpto told members may loaded held held n n 0 (opened loaded) input input
   upto_start held n input = record { round = 0; in_round = 0; given = []; output = []; lines = refl; replies = (refl, refl); many = refl; gained = Appends-nil held; rose = rose_none n n (omega arith) }
 
   -- the lines up to and with a piece print this
-  replies_then : (given : List Numbered) (output rest : List ℕ) (k round : ℕ) (piece : List ℕ) (s t : State) → BuiltReplies members may (opened loaded) 0 given output s → k ≡ length given → PieceRuns members may s k piece rest t
-      → BuiltReplies members may (opened loaded) 0 (given ++ lines_at round piece) (output ++ rest) t
+  replies_then : (given : List Numbered) (output rest : List ℕ) (k round : ℕ) (piece : List ℕ) (s t : State) → BuiltReplies told members may (opened loaded) 0 given output s → k ≡ length given → PieceRuns told members may s k piece rest t
+      → BuiltReplies told members may (opened loaded) 0 (given ++ lines_at round piece) (output ++ rest) t
   replies_then given output rest k round piece s t replies many runs =
       let at : k ≡ 0 + length given = omega (arith, many) in
-      runs_join members may (opened loaded) s t 0 given (lines_at round piece) output rest replies (subst (λ (n : ℕ). BuiltReplies members may s n (lines_at round piece) rest t) at (runs round))
+      runs_join told members may (opened loaded) s t 0 given (lines_at round piece) output rest replies (subst (λ (n : ℕ). BuiltReplies told members may s n (lines_at round piece) rest t) at (runs round))
 
   -- and tell so many faults
-  rose_piece : (given : List Numbered) (output rest : List ℕ) (k : ℕ) (s : State) (a b c : ℕ) → BuiltReplies members may (opened loaded) 0 given output s → k ≡ length given → RoseBy a b (faults_told output) → RoseBy b c (faults_from k rest)
+  rose_piece : (given : List Numbered) (output rest : List ℕ) (k : ℕ) (s : State) (a b c : ℕ) → BuiltReplies told members may (opened loaded) 0 given output s → k ≡ length given → RoseBy a b (faults_told output) → RoseBy b c (faults_from k rest)
       → RoseBy a c (faults_told (output ++ rest))
   rose_piece given output rest k s a b c replies many first more =
       let at : 0 + length given ≡ k = omega (arith, many) in
-      subst (RoseBy a c) (sym (faults_run members may (opened loaded) s 0 given output rest replies ∙ ap (λ (n : ℕ). faults_told output + faults_from n rest) at)) (rose_then a b c (faults_told output) (faults_from k rest) first more)
+      subst (RoseBy a c) (sym (faults_run told members may (opened loaded) s 0 given output rest replies ∙ ap (λ (n : ℕ). faults_told output + faults_from n rest) at)) (rose_then a b c (faults_told output) (faults_from k rest) first more)
 
   -- the lines of the input, with a piece in the middle
   lines_then : (given : List Numbered) (round in_round : ℕ) (piece : List ℕ) (ps : List (List ℕ)) (input left : List ℕ) → lines_of input ≡ given ++ numbered round in_round (pieces [] left) → pieces [] left ≡ piece ∷ ps
@@ -83,21 +69,9 @@ module _ (members : MembersOf) (may : ℕ → Bool) (loaded : List Batch) where
       lines ∙ (ap (λ (qs : List (List ℕ)). given ++ numbered round in_round qs) first
       ∙ (ap (λ (ls : List Numbered). given ++ ls) (behind round in_round piece ps).parts ∙ sym (append_assoc given (lines_at round piece) (numbered (behind round in_round piece ps).round_then (behind round in_round piece ps).in_then ps))))
 
-  -- what is sure of the run is sure of its next piece
-  pub sure_piece : (T U : Type 0) → (T → U) → (old mid : Option (List ℕ)) (a b : ℕ) (k : ℕ) (s : State) (input left after : List ℕ) (piece : Piece) → RunUpto members may loaded old mid a b k s input left → (takes : TakesPiece piece left after)
-      → T ⊎ NeverReopen (lines_of input) → IsSureOf U takes.line
-  sure_piece T U on old mid a b k s input left after piece upto takes sure =
-      let ps = later_pieces piece.by_newline after in
-      let lines = lines_then upto.given upto.round upto.in_round takes.line ps input left upto.lines takes.first in
-      let more = numbered (behind upto.round upto.in_round takes.line ps).round_then (behind upto.round upto.in_round takes.line ps).in_then ps in
-      ⊎_elim
-      (λ told. inl (on told))
-      (λ never. inr (never_at upto.round takes.line (never_behind upto.given (lines_at upto.round takes.line) (never_front (upto.given ++ lines_at upto.round takes.line) more (subst (λ (ls : List Numbered). NeverReopen ls) lines never)))))
-      sure
-
   -- a piece more
-  pub upto_more : (old mid new : Option (List ℕ)) (a b c : ℕ) (k n : ℕ) (s t : State) (input left after : List ℕ) (piece : Piece) → RunUpto members may loaded old mid a b k s input left → (takes : TakesPiece piece left after) → piece.by_newline ≡ true
-      → PiecePrints members may s k takes.line t n mid new b c → RunUpto members may loaded old new a c n t input after
+  pub upto_more : (old mid new : Option (List ℕ)) (a b c : ℕ) (k n : ℕ) (s t : State) (input left after : List ℕ) (piece : Piece) → RunUpto told members may loaded old mid a b k s input left → (takes : TakesPiece piece left after) → piece.by_newline ≡ true
+      → PiecePrints told members may s k takes.line t n mid new b c → RunUpto told members may loaded old new a c n t input after
   upto_more old mid new a b c k n s t input left after piece upto takes newline prints =
       let ps = pieces [] after in
       let first : pieces [] left ≡ takes.line ∷ ps = takes.first ∙ ap (λ (b : Bool). takes.line ∷ later_pieces b after) newline in
@@ -120,9 +94,9 @@ module _ (members : MembersOf) (may : ℕ → Bool) (loaded : List Batch) where
 
   module _ (leaves : State → Type 0) (rises : ℕ → Type 0) where
     abbrev AccountsFor : List Numbered → List ℕ → Type 0
-    AccountsFor given output = Accounts members may (λ l. l ≡ loaded) leaves rises given output
+    AccountsFor given output = Accounts told members may (λ l. l ≡ loaded) leaves rises given output
 
-    accounts : (given : List Numbered) (output : List ℕ) (s : State) → BuiltReplies members may (opened loaded) 0 given output s → leaves s → rises (faults_told output) → AccountsFor given output
+    accounts : (given : List Numbered) (output : List ℕ) (s : State) → BuiltReplies told members may (opened loaded) 0 given output s → leaves s → rises (faults_told output) → AccountsFor given output
     accounts given output s replies left rose = record { loaded = loaded; state = s; begun = refl; replies = replies; left = left; counted = rose }
 
     of_lines : (given lines : List Numbered) (output : List ℕ) → lines ≡ given → AccountsFor given output → AccountsFor lines output
@@ -132,8 +106,8 @@ module _ (members : MembersOf) (may : ℕ → Bool) (loaded : List Batch) where
     front_lines given more input lines = ap (take (length given)) lines ∙ take_front given more
 
     -- the last piece
-    pub upto_end : (a b c : ℕ) → ((n : ℕ) → RoseBy a c n → rises n) → (old mid new : Option (List ℕ)) (k n : ℕ) (s t : State) (input left after : List ℕ) (piece : Piece) → RunUpto members may loaded old mid a b k s input left → (takes : TakesPiece piece left after) → piece.by_newline ≡ false
-        → PiecePrints members may s k takes.line t n mid new b c → leaves t → Replays members may (λ l. l ≡ loaded) leaves rises old new input
+    pub upto_end : (a b c : ℕ) → ((n : ℕ) → RoseBy a c n → rises n) → (old mid new : Option (List ℕ)) (k n : ℕ) (s t : State) (input left after : List ℕ) (piece : Piece) → RunUpto told members may loaded old mid a b k s input left → (takes : TakesPiece piece left after) → piece.by_newline ≡ false
+        → PiecePrints told members may s k takes.line t n mid new b c → leaves t → Replays told members may (λ l. l ≡ loaded) leaves rises old new input
     upto_end a b c rose old mid new k n s t input left after piece upto takes last prints leave =
         let first : pieces [] left ≡ takes.line ∷ [] = takes.first ∙ ap (λ (b : Bool). takes.line ∷ later_pieces b after) last in
         let given = upto.given ++ lines_at upto.round takes.line in
@@ -147,8 +121,8 @@ module _ (members : MembersOf) (may : ℕ → Bool) (loaded : List Batch) where
         }
 
     -- nothing more
-    pub upto_taken : (a b : ℕ) → ((n : ℕ) → RoseBy a b n → rises n) → (old mid new : Option (List ℕ)) (k : ℕ) (s : State) (input left : List ℕ) → RunUpto members may loaded old mid a b k s input left → leaves s → Keeps mid new
-        → ReplaysTaken members may (λ l. l ≡ loaded) leaves rises old new input
+    pub upto_taken : (a b : ℕ) → ((n : ℕ) → RoseBy a b n → rises n) → (old mid new : Option (List ℕ)) (k : ℕ) (s : State) (input left : List ℕ) → RunUpto told members may loaded old mid a b k s input left → leaves s → Keeps mid new
+        → ReplaysTaken told members may (λ l. l ≡ loaded) leaves rises old new input
     upto_taken a b rose old mid new k s input left upto leave kept = record {
       taken = length upto.given;
       output = upto.output;
@@ -158,8 +132,8 @@ module _ (members : MembersOf) (may : ℕ → Bool) (loaded : List Batch) where
     }
 
     -- a front of a piece
-    pub upto_front : (a b c : ℕ) → ((n : ℕ) → RoseBy a c n → rises n) → (old mid new : Option (List ℕ)) (k : ℕ) (s : State) (input left after : List ℕ) (piece : Piece) → RunUpto members may loaded old mid a b k s input left → (takes : TakesPiece piece left after)
-        → PieceFront members may s k takes.line leaves mid new b c → ReplaysFront members may (λ l. l ≡ loaded) leaves rises old new input
+    pub upto_front : (a b c : ℕ) → ((n : ℕ) → RoseBy a c n → rises n) → (old mid new : Option (List ℕ)) (k : ℕ) (s : State) (input left after : List ℕ) (piece : Piece) → RunUpto told members may loaded old mid a b k s input left → (takes : TakesPiece piece left after)
+        → PieceFront told members may s k takes.line leaves mid new b c → ReplaysFront told members may (λ l. l ≡ loaded) leaves rises old new input
     upto_front a b c rose old mid new k s input left after piece upto takes front =
         let given = upto.given ++ lines_at upto.round takes.line in
         let ps = later_pieces piece.by_newline after in

@@ -1,6 +1,5 @@
 pub mod Stops
 pub mod Kept
 pub mod Lines
-pub mod Sure
 pub mod Replays
 pub mod Runs

@@ -1,4 +1,4 @@
--- What a run of events prints for its input, and what it leaves.
+-- What a run of events prints for its input, and what it leaves, over a disk that tells its content or not (`told`).
 use Rattle.std.specs.Prelude.{ℕ, List, ◌++◌, take, Bool, Option}
 use Rattle.std.specs.Option.{ForSome}
 use Rattle.std.specs.Io.KnownBytes.{Appends}
@@ -14,31 +14,31 @@ abbrev pub Loads : Option (List ℕ) → List Batch → Type 0
 Loads told loaded = ForSome told (λ file. StandsFor file loaded)
 
 -- Lines came to this output: over a list of batches with which the run may begin, they print it and make a state, which is left, and the count of faults rose by the lines that tell one.
-pub record Accounts (members : MembersOf) (may : ℕ → Bool) (loads : List Batch → Type 0) (leaves : State → Type 0) (rises : ℕ → Type 0) (given : List Numbered) (output : List ℕ) : Type 0 where
+pub record Accounts (told : Bool) (members : MembersOf) (may : ℕ → Bool) (loads : List Batch → Type 0) (leaves : State → Type 0) (rises : ℕ → Type 0) (given : List Numbered) (output : List ℕ) : Type 0 where
   pub loaded : List Batch
   pub state : State
   pub begun : loads loaded
-  pub replies : BuiltReplies members may (opened loaded) 0 given output state
+  pub replies : BuiltReplies told members may (opened loaded) 0 given output state
   pub left : leaves state
   pub counted : rises (faults_told output)
 
 -- the sink gained what all lines of the input came to
-pub record Replays (members : MembersOf) (may : ℕ → Bool) (loads : List Batch → Type 0) (leaves : State → Type 0) (rises : ℕ → Type 0) (old new : Option (List ℕ)) (input : List ℕ) : Type 0 where
+pub record Replays (told : Bool) (members : MembersOf) (may : ℕ → Bool) (loads : List Batch → Type 0) (leaves : State → Type 0) (rises : ℕ → Type 0) (old new : Option (List ℕ)) (input : List ℕ) : Type 0 where
   pub output : List ℕ
-  pub accounts : Accounts members may loads leaves rises (lines_of input) output
+  pub accounts : Accounts told members may loads leaves rises (lines_of input) output
   pub gained : Appends old new output
 
 -- the sink gained what the first so many lines of the input came to
-pub record ReplaysTaken (members : MembersOf) (may : ℕ → Bool) (loads : List Batch → Type 0) (leaves : State → Type 0) (rises : ℕ → Type 0) (old new : Option (List ℕ)) (input : List ℕ) : Type 0 where
+pub record ReplaysTaken (told : Bool) (members : MembersOf) (may : ℕ → Bool) (loads : List Batch → Type 0) (leaves : State → Type 0) (rises : ℕ → Type 0) (old new : Option (List ℕ)) (input : List ℕ) : Type 0 where
   pub taken : ℕ
   pub output : List ℕ
-  pub accounts : Accounts members may loads leaves rises (take taken (lines_of input)) output
+  pub accounts : Accounts told members may loads leaves rises (take taken (lines_of input)) output
   pub gained : Appends old new output
 
 -- the sink gained a front of what the first so many lines of the input came to
-pub record ReplaysFront (members : MembersOf) (may : ℕ → Bool) (loads : List Batch → Type 0) (leaves : State → Type 0) (rises : ℕ → Type 0) (old new : Option (List ℕ)) (input : List ℕ) : Type 0 where
+pub record ReplaysFront (told : Bool) (members : MembersOf) (may : ℕ → Bool) (loads : List Batch → Type 0) (leaves : State → Type 0) (rises : ℕ → Type 0) (old new : Option (List ℕ)) (input : List ℕ) : Type 0 where
   pub taken : ℕ
   pub output : List ℕ
   pub rest : List ℕ
-  pub accounts : Accounts members may loads leaves rises (take taken (lines_of input)) (output ++ rest)
+  pub accounts : Accounts told members may loads leaves rises (take taken (lines_of input)) (output ++ rest)
   pub gained : Appends old new output

@@ -1,9 +1,9 @@
 //! A line is answered over a core that is open.
-ghost use Rattle.std.specs.Prelude.{◌≡◌, ◌≢◌, ◌⊎◌, ◌≤◌, ◌<◌, ◌+◌, ◌^◌, ℕ, List, Ok, IfOk, IfErr};
+ghost use Rattle.std.specs.Prelude.{◌≡◌, ◌≤◌, ◌<◌, ◌+◌, ◌^◌, ℕ, List, IfOk, IfErr};
 ghost use Rattle.std.specs.Prelude.{OnErr, MatchResult, true, false};
+ghost use Rattle.std.specs.Option.{is_some};
 ghost use Rattle.gd_runs.specs.Core as core;
 ghost use Rattle.gd_runs.specs.Owed.{MembersOf};
-ghost use Rattle.gd_runs.specs.Replay.{event_from as read_event};
 ghost use Rattle.gd_events.specs.Events.{event_view};
 ghost use Rattle.gd_input.specs.Line.{IsKept, IsShort};
 ghost use Rattle.gd_writer.specs.Parts.{Tells};
@@ -50,10 +50,10 @@ fn carry<R: Wait, D: Disk, C: Clock, L>(
     requires bytes { bytes ≤ 262_144 }
     requires bounded { IsBounded (event_view event) }
     requires below { AreBelow line (core_state running) }
-    ensures takes { IfOk result (λ both. Tells (D.content running.side.log.disk)
-        ⊎ (event_view event ≢ core.reopen) → (members : MembersOf)
-        → Answers (λ reply. Takes members (C.may running.side.clock) (core_state running) line bytes
-        (event_view event) reply (core_state both.0)
+    ensures takes { IfOk result (λ both. (members : MembersOf)
+        → Answers (λ reply. Takes (is_some (D.content running.side.log.disk)) members
+        (C.may running.side.clock) (core_state running) line bytes (event_view event) reply
+        (core_state both.0)
         × IsCounted line reply (D.faults running.side.log.disk) (D.faults both.0.side.log.disk))
         both.1) }
     ensures unmade { IfOk result (λ both. Tells (D.content running.side.log.disk)
@@ -85,10 +85,9 @@ pub(crate) fn answer<R: Wait, D: Disk, C: Clock, L>(
     requires short { IsShort text }
     requires below { AreBelow line (core_state running) }
     ensures answers { IfOk result (λ both. (members : MembersOf) (piece : List ℕ)
-        → Tells (D.content running.side.log.disk) ⊎ (read_event piece ≢ Ok core.reopen)
         → IsKept 262_144 text piece
-        → Answers (λ reply. BuiltLine members (C.may running.side.clock) (core_state running) line
-        piece reply (core_state both.0)
+        → Answers (λ reply. BuiltLine (is_some (D.content running.side.log.disk)) members
+        (C.may running.side.clock) (core_state running) line piece reply (core_state both.0)
         × IsCounted line reply (D.faults running.side.log.disk) (D.faults both.0.side.log.disk))
         both.1) }
     ensures unmade { IfOk result (λ both. Tells (D.content running.side.log.disk)

@@ -1,6 +1,6 @@
 //! The whole run.
 ghost use Rattle.std.specs.Prelude.{◌≡◌, ◌≤◌, ◌^◌, ℕ, List, Ok, Err, true, OnOk, IfSome};
-ghost use Rattle.std.specs.Option.{ForSome};
+ghost use Rattle.std.specs.Option.{ForSome, is_some};
 ghost use Rattle.std.specs.Io.KnownBytes.{IsAtEnd};
 ghost use Rattle.gd_base.specs.Counts.{Rose};
 ghost use Rattle.gd_prim.specs.declared.Batch.{Batch};
@@ -15,7 +15,6 @@ ghost use Rattle.gd_sessions.specs.Running.{core_state};
 ghost use Rattle.gd_replay.specs.Stops.{Leaves, RoseWith, IfUnopened, EndsAs, EndsBy, EndsSent};
 ghost use Rattle.gd_replay.specs.Stops.{stop_of};
 ghost use Rattle.gd_replay.specs.Kept.{HasBatches, KeepsAs};
-ghost use Rattle.gd_replay.specs.Sure.{IsSure};
 ghost use Rattle.gd_replay.specs.Replays.{Loads, Replays, ReplaysTaken, ReplaysFront};
 
 use crate::running::{halted, take_piece};
@@ -69,19 +68,21 @@ fn replay_lines<R: Wait, D: Disk, S: Source, K: Sink, C: Clock>(
     sink: &mut K,
 ) -> (Result<(), Stop>, D, C)
     requires { core_state running ≡ core.opened running.side.history.loaded }
-    ensures ends { IsSure (Tells (D.content running.side.log.disk)) (S.left source.old)
-        → (members : MembersOf) → EndsAs result.0
-        (IfSome (S.left source.old) (Replays members (C.may running.side.clock)
+    ensures ends { (members : MembersOf) → EndsAs result.0
+        (IfSome (S.left source.old) (Replays
+        (is_some (D.content running.side.log.disk)) members (C.may running.side.clock)
         (λ loaded. loaded ≡ running.side.history.loaded)
         (λ s. Tells (D.content running.side.log.disk) → Leaves (D.images result.1) s)
         (RoseWith (D.faults running.side.log.disk) (D.faults result.1) result.0) (K.held sink.old)
         (K.held sink.new)))
-        (IfSome (S.left source.old) (ReplaysTaken members (C.may running.side.clock)
+        (IfSome (S.left source.old) (ReplaysTaken
+        (is_some (D.content running.side.log.disk)) members (C.may running.side.clock)
         (λ loaded. loaded ≡ running.side.history.loaded)
         (λ s. Tells (D.content running.side.log.disk) → Leaves (D.images result.1) s)
         (RoseWith (D.faults running.side.log.disk) (D.faults result.1) result.0) (K.held sink.old)
         (K.held sink.new)))
-        (IfSome (S.left source.old) (ReplaysFront members (C.may running.side.clock)
+        (IfSome (S.left source.old) (ReplaysFront
+        (is_some (D.content running.side.log.disk)) members (C.may running.side.clock)
         (λ loaded. loaded ≡ running.side.history.loaded)
         (λ s. Tells (D.content running.side.log.disk) → Leaves (D.images result.1) s)
         (RoseWith (D.faults running.side.log.disk) (D.faults result.1) result.0) (K.held sink.old)
@@ -149,24 +150,27 @@ pub fn replay<R: Wait, D: Disk, S: Source, K: Sink, C: Clock>(
     sink: &mut K,
     clock: C,
 ) -> (Result<(), Stop>, D, C)
-    // Over a disk that tells its content, and over any disk where no line of the input opens the
-    // store again, what is printed is what the definitions' core replies to the lines of the input,
-    // from some batches on: to all of them, or where the run has stopped between two lines to those
-    // before, or where it has stopped at a line a front of that. The disk's count of faults rose by
-    // at least as many as there are lines that tell one, and by one more where the store was lost
-    // by one. A file that is told stands for these batches, and what is left on the disk for the
-    // state that the lines make.
-    ensures ends { IsSure (Tells (D.content disk)) (S.left source.old) → (members : MembersOf)
-        → EndsAs result.0
-        (IfSome (S.left source.old) (Replays members (C.may clock) (Loads (D.content disk))
+    // What is printed is what the definitions' core replies to the lines of the input, as far as
+    // events are built, from some batches on: to all of them, or where the run has stopped between
+    // two lines to those before, or where it has stopped at a line a front of that. Over a disk
+    // that does not tell its content a line that opens the store again gives a store of some
+    // batches, whose number its reply tells. The disk's count of faults rose by at least as many as
+    // there are lines that tell one, and by one more where the store was lost by one. A file that
+    // is told stands for these batches, and what is left on the disk for the state that the lines
+    // make.
+    ensures ends { (members : MembersOf) → EndsAs result.0
+        (IfSome (S.left source.old) (Replays (is_some (D.content disk)) members
+        (C.may clock) (Loads (D.content disk))
         (λ s. Tells (D.content disk) → Leaves (D.images result.1) s)
         (RoseWith (D.faults disk) (D.faults result.1) result.0) (K.held sink.old)
         (K.held sink.new)))
-        (IfSome (S.left source.old) (ReplaysTaken members (C.may clock) (Loads (D.content disk))
+        (IfSome (S.left source.old) (ReplaysTaken (is_some (D.content disk)) members
+        (C.may clock) (Loads (D.content disk))
         (λ s. Tells (D.content disk) → Leaves (D.images result.1) s)
         (RoseWith (D.faults disk) (D.faults result.1) result.0) (K.held sink.old)
         (K.held sink.new)))
-        (IfSome (S.left source.old) (ReplaysFront members (C.may clock) (Loads (D.content disk))
+        (IfSome (S.left source.old) (ReplaysFront (is_some (D.content disk)) members
+        (C.may clock) (Loads (D.content disk))
         (λ s. Tells (D.content disk) → Leaves (D.images result.1) s)
         (RoseWith (D.faults disk) (D.faults result.1) result.0) (K.held sink.old)
         (K.held sink.new)))

@@ -1,12 +1,11 @@
 //! The lines of an input are read, answered and printed, one after another.
-ghost use Rattle.std.specs.Prelude.{◌≡◌, ◌≢◌, ◌⊎◌, ◌≤◌, ◌<◌, ◌+◌, ◌++◌, ◌∷◌, ◌^◌, ℕ, List, [], Ok};
+ghost use Rattle.std.specs.Prelude.{◌≡◌, ◌≤◌, ◌<◌, ◌+◌, ◌++◌, ◌∷◌, ◌^◌, ℕ, List, []};
 ghost use Rattle.std.specs.Prelude.{Err, IfOk, IfErr, MatchResult};
 ghost use Rattle.std.specs.Io.KnownBytes.{Appends};
+ghost use Rattle.std.specs.Option.{is_some};
 ghost use Rattle.gd_base.specs.Counts.{Rose};
 ghost use Rattle.gd_runs.specs.Legal.{batches};
 ghost use Rattle.gd_runs.specs.Owed.{MembersOf};
-ghost use Rattle.gd_runs.specs.Core.{reopen};
-ghost use Rattle.gd_runs.specs.Replay.{event_from};
 ghost use Rattle.gd_input.specs.Line.{IsKept, IsShort};
 ghost use Rattle.gd_writer.specs.Parts.{Tells};
 ghost use Rattle.gd_replay_laws.specs.Runs.{AreBelow};
@@ -14,7 +13,6 @@ ghost use Rattle.gd_reply.specs.Replies.{reply_text};
 ghost use Rattle.gd_sessions.specs.Running.{core_state};
 ghost use Rattle.gd_replay.specs.Stops.{Leaves, GoesAlong, IsHalt, IsCaused};
 ghost use Rattle.gd_replay.specs.Kept.{HasBatches, KeepsAs};
-ghost use Rattle.gd_replay.specs.Sure.{IsSureOf};
 ghost use Rattle.gd_outside.specs.Gains.{GainsFront};
 ghost use Rattle.gd_replay.specs.Runs.{IsDue, IsUnmade, LinePrints, LineStops, PiecePrints};
 ghost use Rattle.gd_replay.specs.Runs.{PieceStops};
@@ -91,18 +89,18 @@ fn take_line<R: Wait, D: Disk, K: Sink, C: Clock, L>(
     requires short { IsShort text }
     requires below { AreBelow line (core_state running) }
     ensures prints { IfOk result (λ next. (members : MembersOf) (bytes : List ℕ)
-        → Tells (D.content running.side.log.disk) ⊎ (event_from bytes ≢ Ok reopen)
         → IsKept 262_144 text bytes
-        → LinePrints members (C.may running.side.clock) (core_state running) line bytes
-        (core_state next) (K.held sink.old) (K.held sink.new)
+        → LinePrints (is_some (D.content running.side.log.disk)) members
+        (C.may running.side.clock) (core_state running) line bytes (core_state next)
+        (K.held sink.old) (K.held sink.new)
         (D.faults running.side.log.disk) (D.faults next.side.log.disk)) }
     ensures below { IfOk result (λ next. AreBelow (line + 1) (core_state next)) }
     ensures along { IfOk result (λ next. GoesAlong D.content D.faults C.may running.side
         next.side) }
     ensures stops { IfErr result (λ halt. (members : MembersOf) (bytes : List ℕ)
-        → Tells (D.content running.side.log.disk) ⊎ (event_from bytes ≢ Ok reopen)
         → IsKept 262_144 text bytes
-        → LineStops members (C.may running.side.clock) (core_state running) line bytes
+        → LineStops (is_some (D.content running.side.log.disk)) members
+        (C.may running.side.clock) (core_state running) line bytes
         (λ s. Tells (D.content running.side.log.disk) → Leaves (D.images halt.1) s) halt.0
         (K.held sink.old) (K.held sink.new)
         (D.faults running.side.log.disk) (D.faults halt.1)) }
@@ -136,17 +134,19 @@ pub(crate) fn take_piece<R: Wait, D: Disk, K: Sink, C: Clock, L>(
     requires short { IsShort piece }
     requires below { AreBelow line (core_state running) }
     ensures prints { IfOk result (λ both. (members : MembersOf) (bytes : List ℕ)
-        → IsSureOf (Tells (D.content running.side.log.disk)) bytes → IsKept 262_144 piece bytes
-        → PiecePrints members (C.may running.side.clock) (core_state running) line bytes
-        (core_state both.0) both.1 (K.held sink.old) (K.held sink.new)
+        → IsKept 262_144 piece bytes
+        → PiecePrints (is_some (D.content running.side.log.disk)) members
+        (C.may running.side.clock) (core_state running) line bytes (core_state both.0)
+        both.1 (K.held sink.old) (K.held sink.new)
         (D.faults running.side.log.disk) (D.faults both.0.side.log.disk)) }
     ensures below { IfOk result (λ both. AreBelow both.1 (core_state both.0)) }
     ensures few { IfOk result (λ both. both.1 ≤ line + 1) }
     ensures along { IfOk result (λ both. GoesAlong D.content D.faults C.may running.side
         both.0.side) }
     ensures stops { IfErr result (λ halt. (members : MembersOf) (bytes : List ℕ)
-        → IsSureOf (Tells (D.content running.side.log.disk)) bytes → IsKept 262_144 piece bytes
-        → PieceStops members (C.may running.side.clock) (core_state running) line bytes
+        → IsKept 262_144 piece bytes
+        → PieceStops (is_some (D.content running.side.log.disk)) members
+        (C.may running.side.clock) (core_state running) line bytes
         (λ s. Tells (D.content running.side.log.disk) → Leaves (D.images halt.1) s) halt.0
         (K.held sink.old) (K.held sink.new)
         (D.faults running.side.log.disk) (D.faults halt.1)) }

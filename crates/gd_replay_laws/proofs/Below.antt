@@ -4,7 +4,7 @@ use Rattle.gd_prim.specs.declared.Batch.{Batch}
 use Rattle.gd_runs.specs.Owed.{MembersOf}
 use Rattle.gd_defs.specs.Lines.{Refusal}
 use Rattle.gd_defs.specs.Write.{WriteRequest}
-use Rattle.gd_runs.specs.Request.{ReadRequest}
+use Rattle.gd_runs.specs.Request.{ReadSet, one_query, queries}
 use Rattle.gd_runs.specs.Legal.{Entry, History, batches, with_entry}
 use Rattle.gd_runs.specs.Explained.{entry_at}
 use Rattle.gd_runs.specs.Core as core
@@ -82,7 +82,7 @@ write_below may s k bytes i w _ _ below (lacks_memory_settled t settles) = later
 
 -- ---- each event
 
-begin_below : (s : State) (k i : ℕ) (r : ReadRequest) (line : List ℕ) (t : State) → AreBelow k s → BeginStep s k i r line t → AreBelow (k + 1) t
+begin_below : (s : State) (k i : ℕ) (r : ReadSet) (line : List ℕ) (t : State) → AreBelow k s → BeginStep s k i r line t → AreBelow (k + 1) t
 begin_below s k i r line t below step = by (reading_of (batches s.history) s.shown r) refl
   where
     by : (o : Result Reading (ℕ × Refusal)) → reading_of (batches s.history) s.shown r ≡ o → AreBelow (k + 1) t
@@ -113,17 +113,15 @@ no_entry bs e x at = let (i, place, there) = slot bs [] e x at in no_some there
 pub opened_below : (k : ℕ) (bs : List Batch) → AreBelow k (opened bs)
 opened_below k bs = record { entries = λ e x at. absurd (no_entry bs e x at); doubted = no_doubt k }
 
-step_below : (members : MembersOf) (may : ℕ → Bool) (s : State) (k bytes : ℕ) (e : Event) (line : List ℕ) (t : State) → AreBelow k s → StepBuilt members may s k bytes e line t → AreBelow (k + 1) t
-step_below members may s k bytes (core.begin i r) line t below step = begin_below s k i r line t below step
-step_below members may s k bytes (core.slice i n) line t below step = slice_below members s k i line t below step
-step_below members may s k bytes (core.write i w) line t below step = write_below may s k bytes i w line t below step
-step_below members may s k bytes (core.learn i m) line t below step = learn_below s k i m line t below step
-step_below members may s k bytes (core.freeze i) line t below step = stays k s s t below refl refl step.1
-step_below members may s k bytes (core.thaw i r frozen) line t below step = stays k s s t below refl refl step.1
-step_below members may s k bytes core.reopen line t below step = ⊎_elim
-    (λ without. subst (AreBelow (k + 1)) (sym without) (opened_below (k + 1) (batches s.history)))
-    (λ (e, doubt, with_it). subst (AreBelow (k + 1)) (sym with_it) (opened_below (k + 1) _))
-    step.1
+step_below : (told : Bool) (members : MembersOf) (may : ℕ → Bool) (s : State) (k bytes : ℕ) (e : Event) (line : List ℕ) (t : State) → AreBelow k s → StepBuilt told members may s k bytes e line t → AreBelow (k + 1) t
+step_below told members may s k bytes (core.begin i r) line t below step = begin_below s k i r line t below step
+step_below told members may s k bytes (core.slice i n) line t below step = slice_below members s k i line t below step
+step_below told members may s k bytes (core.write i w) line t below step = write_below may s k bytes i w line t below step
+step_below told members may s k bytes (core.learn i m) line t below step = learn_below s k i m line t below step
+step_below told members may s k bytes (core.freeze i) line t below step = stays k s s t below refl refl step.1
+step_below told members may s k bytes (core.thaw i (one_query r) frozen) line t below step = stays k s s t below refl refl step.1
+step_below told members may s k bytes (core.thaw i (queries rs) frozen) line t below step = stays k s s t below refl refl step.1
+step_below told members may s k bytes core.reopen line t below (told_step, (loaded, tells, anew)) = subst (AreBelow (k + 1)) (sym anew) (opened_below (k + 1) loaded)
 
 -- ---- without memory
 
@@ -140,14 +138,14 @@ lacks_below s k (core.freeze i) t below lacks = stays k s s t below refl refl la
 lacks_below s k core.reopen t below lacks = stays k s s t below refl refl lacks
 
 -- an event that is taken, or for which no memory was found
-pub takes_below : (members : MembersOf) (may : ℕ → Bool) (s : State) (k bytes : ℕ) (e : Event) (line : List ℕ) (t : State) → AreBelow k s → Takes members may s k bytes e line t → AreBelow (k + 1) t
-takes_below members may s k bytes e line t below takes = ⊎_elim (λ taken. step_below members may s k bytes e line t below taken) (λ lacks. lacks_below s k e t below lacks.1) takes
+pub takes_below : (told : Bool) (members : MembersOf) (may : ℕ → Bool) (s : State) (k bytes : ℕ) (e : Event) (line : List ℕ) (t : State) → AreBelow k s → Takes told members may s k bytes e line t → AreBelow (k + 1) t
+takes_below told members may s k bytes e line t below takes = ⊎_elim (λ taken. step_below told members may s k bytes e line t below taken) (λ lacks. lacks_below s k e t below lacks.1) takes
 
-pub line_below : (members : MembersOf) (may : ℕ → Bool) (s t : State) (k : ℕ) (bytes reply : List ℕ) → AreBelow k s → BuiltLine members may s k bytes reply t → AreBelow (k + 1) t
-line_below members may s t k bytes reply below step = ⊎_elim
+pub line_below : (told : Bool) (members : MembersOf) (may : ℕ → Bool) (s t : State) (k : ℕ) (bytes reply : List ℕ) → AreBelow k s → BuiltLine told members may s k bytes reply t → AreBelow (k + 1) t
+line_below told members may s t k bytes reply below step = ⊎_elim
     (λ (f, no_event, told, is). stays k s s t below refl refl is)
     (λ some. ⊎_elim
-    (λ (e, event, taken). step_below members may s k _ e reply t below taken)
+    (λ (e, event, taken). step_below told members may s k _ e reply t below taken)
     (λ (told, without). ⊎_elim (λ is. stays k s s t below refl refl is) (λ (e, event, lacks). lacks_below s k e t below lacks) without)
     some)
     step

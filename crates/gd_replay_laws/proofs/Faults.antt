@@ -1,22 +1,20 @@
 -- Which replies tell a failure of the disk, and how many lines of an output do.
 use Rattle.std.proofs.Common.{◌≡◌, ℕ, ◌+◌, ◌≤◌, List, [], ◌∷◌, ◌++◌, length, codes, Bool, true, false, if◌then◌else◌, Option, Some, None, Result, Ok, Err, ⊎_elim, refl, sym, ap, subst, ◌∙◌, nat_lt, arith, append_assoc}
 use Rattle.gd_base.specs.Counts.{Rose, RoseBy}
-use Rattle.gd_prim.specs.declared.Batch.{Batch}
 use Rattle.gd_tree.specs.Json.{Json, text, list, no_items}
-use Rattle.gd_json.specs.declared.from.JsonFault.TheVariants as json_fault
-use Rattle.gd_defs.specs.Lines.{Refusal, ok_line, ok_cursor_line, err_line, refusal, cursor_ahead, count_json}
+use Rattle.gd_defs.specs.Lines.{Refusal, ok_line, err_line, refusal, cursor_ahead, count_json}
 use Rattle.gd_defs.specs.Reply.{bad_query_refusal}
 use Rattle.gd_defs.specs.Write.{WriteRequest}
-use Rattle.gd_runs.specs.Request.{ReadRequest, reply_of, bad_line, bad_form, change_refusal}
+use Rattle.gd_runs.specs.Request.{ReadSet, one_query, queries, bad_line, bad_form, change_refusal}
 use Rattle.gd_runs.specs.Owed.{MembersOf}
 use Rattle.gd_runs.specs.Input.{InputFault, line_too_long, no_json, no_line, json_refusal, input_fault_line}
 use Rattle.gd_runs.specs.Legal.{batches, size}
 use Rattle.gd_runs.specs.Explained.{Numbered, memory_line, disk_line, tells_fault, fault_count}
 use Rattle.gd_runs.specs.Core as core
-use Rattle.gd_runs.specs.Core.{Event, Reading, State, reading_of, said, no_reading_line, owed_line, BeginStep, SliceStep, LearnStep, WriteStep, ReopenStep}
+use Rattle.gd_runs.specs.Core.{Event, Reading, State, reading_of, said, no_reading_line, many_queries_line, owed_line, BeginStep, SliceStep, LearnStep, WriteStep, ReopenStep}
 use Rattle.gd_runs.specs.Replay.{event_from}
 use Rattle.gd_core_laws.proofs.Quiet.{Quiet, ok_quiet, err_quiet, fault_quiet, memory_quiet, owed_quiet}
-use Rattle.gd_replay_laws.specs.Built.{StepBuilt, Takes, unbuilt_line}
+use Rattle.gd_replay_laws.specs.Built.{StepBuilt, IsUnfrozen, Takes, unbuilt_line}
 use Rattle.gd_replay_laws.specs.Runs.{BuiltLine, BuiltReplies}
 use Rattle.gd_replay_laws.specs.Faults.{IsCounted, faults_from, IsNoWrite}
 use Rattle.gd_core_laws.proofs.Shapes.{owed_each}
@@ -24,8 +22,8 @@ use Rattle.gd_replay_laws.proofs.Plain.{Plain, plain_ok, plain_cursor, plain_err
 
 -- ---- the reply lines of an event that is no write, and what holds of each
 
-module _ (P : List ℕ → Type 0) (k : ℕ) (ok : (n k : ℕ) (j : Json) → P (ok_line n k j)) (err : (n k : ℕ) (r : Refusal) → P (err_line n k r)) (owed : (s : State) (r : Reading) → P (owed_line (batches s.history) k r)) (no_reading : P (no_reading_line k)) (unbuilt : P (unbuilt_line k)) (memory : P (memory_line k)) where
-  begin_each : (s : State) (i : ℕ) (r : ReadRequest) (line : List ℕ) (t : State) → BeginStep s k i r line t → P line
+module _ (P : List ℕ → Type 0) (k : ℕ) (ok : (n k : ℕ) (j : Json) → P (ok_line n k j)) (err : (n k : ℕ) (r : Refusal) → P (err_line n k r)) (owed : (s : State) (r : Reading) → P (owed_line (batches s.history) k r)) (no_reading : P (no_reading_line k)) (many : P (many_queries_line k)) (unbuilt : P (unbuilt_line k)) (memory : P (memory_line k)) where
+  begin_each : (s : State) (i : ℕ) (r : ReadSet) (line : List ℕ) (t : State) → BeginStep s k i r line t → P line
   begin_each s i r line t step = by (reading_of (batches s.history) s.shown r) refl
     where
       by : (o : Result Reading (ℕ × Refusal)) → reading_of (batches s.history) s.shown r ≡ o → P line
@@ -49,30 +47,39 @@ module _ (P : List ℕ → Type 0) (k : ℕ) (ok : (n k : ℕ) (j : Json) → P 
       by true is = subst P (sym (rw is at step).0) (err s.shown k (cursor_ahead m s.shown))
       by false is = subst P (sym (rw is at step).0) (ok m k (text (codes "learnt")))
 
-  -- by the event, where it is said of a write
-  pub step_each : (members : MembersOf) (may : ℕ → Bool) (s : State) (bytes : ℕ) (e : Event) (line : List ℕ) (t : State) → ((i : ℕ) (w : WriteRequest) → e ≡ core.write i w → WriteStep may s k bytes i w line t → P line)
-      → StepBuilt members may s k bytes e line t → P line
-  step_each members may s bytes (core.begin i r) line t written step = begin_each s i r line t step
-  step_each members may s bytes (core.slice i n) line t written step = slice_each members s i line t step
-  step_each members may s bytes (core.write i w) line t written step = written i w refl step
-  step_each members may s bytes (core.learn i m) line t written step = learn_each s i m line t step
-  step_each members may s bytes (core.freeze i) line t written step = subst P (sym step.0) unbuilt
-  step_each members may s bytes (core.thaw i r frozen) line t written step = subst P (sym step.0) unbuilt
-  step_each members may s bytes core.reopen line t written step = subst P (sym step.0) (ok (size t.history) k (text (codes "reopened")))
+  freeze_each : (o : Option Reading) (line : List ℕ) → IsUnfrozen o k line → P line
+  freeze_each None line is = subst P (sym is) no_reading
+  freeze_each (Some r) line is = by r.request refl
+    where
+      by : (q : ReadSet) → r.request ≡ q → P line
+      by (one_query q) one = subst P (sym (rw one at is)) unbuilt
+      by (queries qs) several = subst P (sym (rw several at is)) many
 
-  pub takes_each : (members : MembersOf) (may : ℕ → Bool) (s : State) (bytes : ℕ) (e : Event) (line : List ℕ) (t : State) → ((i : ℕ) (w : WriteRequest) → e ≡ core.write i w → WriteStep may s k bytes i w line t → P line)
-      → Takes members may s k bytes e line t → P line
-  takes_each members may s bytes e line t written takes = ⊎_elim
-      (λ step. step_each members may s bytes e line t written step)
+  -- by the event, where it is said of a write
+  pub step_each : (told : Bool) (members : MembersOf) (may : ℕ → Bool) (s : State) (bytes : ℕ) (e : Event) (line : List ℕ) (t : State) → ((i : ℕ) (w : WriteRequest) → e ≡ core.write i w → WriteStep may s k bytes i w line t → P line)
+      → StepBuilt told members may s k bytes e line t → P line
+  step_each told members may s bytes (core.begin i r) line t written step = begin_each s i r line t step
+  step_each told members may s bytes (core.slice i n) line t written step = slice_each members s i line t step
+  step_each told members may s bytes (core.write i w) line t written step = written i w refl step
+  step_each told members may s bytes (core.learn i m) line t written step = learn_each s i m line t step
+  step_each told members may s bytes (core.freeze i) line t written step = freeze_each (s.sessions i).reading line step.0
+  step_each told members may s bytes (core.thaw i (one_query r) frozen) line t written step = subst P (sym step.0) unbuilt
+  step_each told members may s bytes (core.thaw i (queries rs) frozen) line t written step = subst P (sym step.0) many
+  step_each told members may s bytes core.reopen line t written (told_step, (loaded, tells, anew)) = subst P (sym tells) (ok (length loaded) k (text (codes "reopened")))
+
+  pub takes_each : (told : Bool) (members : MembersOf) (may : ℕ → Bool) (s : State) (bytes : ℕ) (e : Event) (line : List ℕ) (t : State) → ((i : ℕ) (w : WriteRequest) → e ≡ core.write i w → WriteStep may s k bytes i w line t → P line)
+      → Takes told members may s k bytes e line t → P line
+  takes_each told members may s bytes e line t written takes = ⊎_elim
+      (λ step. step_each told members may s bytes e line t written step)
       (λ lacks. subst P (sym lacks.0) memory)
       takes
 
-  line_each : (members : MembersOf) (may : ℕ → Bool) (s : State) (bytes line : List ℕ) (t : State) → ((f : InputFault) → P (input_fault_line k f))
-      → ((i : ℕ) (w : WriteRequest) → event_from bytes ≡ Ok (core.write i w) → WriteStep may s k (length bytes) i w line t → P line) → BuiltLine members may s k bytes line t → P line
-  line_each members may s bytes line t fault written built = ⊎_elim
-      (λ (f, asked, told, same). subst P (sym told) (fault f))
+  line_each : (told : Bool) (members : MembersOf) (may : ℕ → Bool) (s : State) (bytes line : List ℕ) (t : State) → ((f : InputFault) → P (input_fault_line k f))
+      → ((i : ℕ) (w : WriteRequest) → event_from bytes ≡ Ok (core.write i w) → WriteStep may s k (length bytes) i w line t → P line) → BuiltLine told members may s k bytes line t → P line
+  line_each told members may s bytes line t fault written built = ⊎_elim
+      (λ (f, asked, tells, same). subst P (sym tells) (fault f))
       (λ some. ⊎_elim
-      (λ (e, asked, step). step_each members may s (length bytes) e line t (λ i w is. written i w (asked ∙ ap Ok is)) step)
+      (λ (e, asked, step). step_each told members may s (length bytes) e line t (λ i w is. written i w (asked ∙ ap Ok is)) step)
       (λ without. subst P (sym without.0) memory)
       some)
       built
@@ -81,14 +88,14 @@ module _ (P : List ℕ → Type 0) (k : ℕ) (ok : (n k : ℕ) (j : Json) → P 
 
 module _ (k : ℕ) where
   -- an event that is taken, or for which no memory was found
-  pub takes_quiet : (members : MembersOf) (may : ℕ → Bool) (s : State) (bytes : ℕ) (e : Event) (line : List ℕ) (t : State) → IsNoWrite e → Takes members may s k bytes e line t → Quiet k line
-  takes_quiet members may s bytes e line t other takes =
-      takes_each (Quiet k) k (ok_quiet k) (err_quiet k) (λ u. owed_quiet k (batches u.history) k) refl refl (memory_quiet k k) members may s bytes e line t (λ i w is step. absurd (subst IsNoWrite is other)) takes
+  pub takes_quiet : (told : Bool) (members : MembersOf) (may : ℕ → Bool) (s : State) (bytes : ℕ) (e : Event) (line : List ℕ) (t : State) → IsNoWrite e → Takes told members may s k bytes e line t → Quiet k line
+  takes_quiet told members may s bytes e line t other takes =
+      takes_each (Quiet k) k (ok_quiet k) (err_quiet k) (λ u. owed_quiet k (batches u.history) k) refl refl refl (memory_quiet k k) told members may s bytes e line t (λ i w is step. absurd (subst IsNoWrite is other)) takes
 
   -- a line
-  pub line_quiet : (members : MembersOf) (may : ℕ → Bool) (s t : State) (bytes line : List ℕ) → ((i : ℕ) (w : WriteRequest) → event_from bytes ≡ Ok (core.write i w) → ⊥) → BuiltLine members may s k bytes line t → Quiet k line
-  line_quiet members may s t bytes line other built =
-      line_each (Quiet k) k (ok_quiet k) (err_quiet k) (λ u. owed_quiet k (batches u.history) k) refl refl (memory_quiet k k) members may s bytes line t (fault_quiet k k) (λ i w is step. absurd (other i w is)) built
+  pub line_quiet : (told : Bool) (members : MembersOf) (may : ℕ → Bool) (s t : State) (bytes line : List ℕ) → ((i : ℕ) (w : WriteRequest) → event_from bytes ≡ Ok (core.write i w) → ⊥) → BuiltLine told members may s k bytes line t → Quiet k line
+  line_quiet told members may s t bytes line other built =
+      line_each (Quiet k) k (ok_quiet k) (err_quiet k) (λ u. owed_quiet k (batches u.history) k) refl refl refl (memory_quiet k k) told members may s bytes line t (fault_quiet k k) (λ i w is step. absurd (other i w is)) built
 
   -- a reply that tells none is counted
   pub quiet_counted : (reply : List ℕ) (before after : ℕ) → Quiet k reply → IsCounted k reply before after
@@ -120,10 +127,10 @@ plain_written may s k bytes i w _ _ (core.leaves_doubt e is) = plain_disk k (cod
 plain_written may s k bytes i w _ _ core.lacks_memory = plain_memory k
 plain_written may s k bytes i w _ _ (core.lacks_memory_settled t settles) = plain_memory k
 
-pub plain_built : (members : MembersOf) (may : ℕ → Bool) (s : State) (k : ℕ) (bytes line : List ℕ) (t : State) → BuiltLine members may s k bytes line t → Plain line
-plain_built members may s k bytes line t built =
-    line_each Plain k plain_ok plain_err (λ s r. owed_each Plain plain_ok plain_cursor plain_err tt (batches s.history) k r) (plain_refusal k (refusal (codes "NoReading") []))
-    (plain_refusal k (refusal (codes "BadQuery") ((codes "code", text (codes "unbuilt")) ∷ (codes "path", list no_items) ∷ []))) (plain_memory k) members may s bytes line t (plain_fault k) (λ i w is step. plain_written may s k (length bytes) i w line t step) built
+pub plain_built : (told : Bool) (members : MembersOf) (may : ℕ → Bool) (s : State) (k : ℕ) (bytes line : List ℕ) (t : State) → BuiltLine told members may s k bytes line t → Plain line
+plain_built told members may s k bytes line t built =
+    line_each Plain k plain_ok plain_err (λ s r. owed_each Plain plain_ok plain_cursor plain_err tt (batches s.history) k r) (plain_refusal k (refusal (codes "NoReading") [])) (plain_refusal k (refusal (codes "ManyQueries") []))
+    (plain_refusal k (refusal (codes "BadQuery") ((codes "code", text (codes "unbuilt")) ∷ (codes "path", list no_items) ∷ []))) (plain_memory k) told members may s bytes line t (plain_fault k) (λ i w is step. plain_written may s k (length bytes) i w line t step) built
 
 -- ---- how many lines tell one
 
@@ -136,20 +143,20 @@ pub faults_none : (k : ℕ) → faults_from k [] ≡ 0
 faults_none k = refl
 
 -- a run, and what is printed behind it
-pub faults_run : (members : MembersOf) (may : ℕ → Bool) (s t : State) (k : ℕ) (given : List Numbered) (output rest : List ℕ) → BuiltReplies members may s k given output t
+pub faults_run : (told : Bool) (members : MembersOf) (may : ℕ → Bool) (s t : State) (k : ℕ) (given : List Numbered) (output rest : List ℕ) → BuiltReplies told members may s k given output t
     → faults_from k (output ++ rest) ≡ faults_from k output + faults_from (k + length given) rest
-faults_run members may s t k [] output rest (none, same) =
+faults_run told members may s t k [] output rest (none, same) =
     let all : faults_from k (output ++ rest) ≡ faults_from k rest = ap (λ (out : List ℕ). faults_from k (out ++ rest)) none in
     let first : faults_from k output ≡ 0 = ap (faults_from k) none ∙ faults_none k in
     let here : k + 0 ≡ k = omega arith in
     let later : faults_from (k + 0) rest ≡ faults_from k rest = ap (λ (n : ℕ). faults_from n rest) here in
     omega (arith, all, first, later)
-faults_run members may s t k (l ∷ ls) output rest (reply, mid, more, line, prints, others) =
-    let plain = plain_built members may s k l.bytes reply mid line in
+faults_run told members may s t k (l ∷ ls) output rest (reply, mid, more, line, prints, others) =
+    let plain = plain_built told members may s k l.bytes reply mid line in
     let all : faults_from k (output ++ rest) ≡ (if tells_fault k reply then 1 else 0) + faults_from (k + 1) (more ++ rest) =
     ap (λ (out : List ℕ). faults_from k (out ++ rest)) prints ∙ (ap (faults_from k) (append_assoc reply (10 ∷ more) rest) ∙ faults_line k reply (more ++ rest) plain) in
     let first : faults_from k output ≡ (if tells_fault k reply then 1 else 0) + faults_from (k + 1) more = ap (faults_from k) prints ∙ faults_line k reply more plain in
-    let behind = faults_run members may mid t (k + 1) ls more rest others in
+    let behind = faults_run told members may mid t (k + 1) ls more rest others in
     let place : (k + 1) + length ls ≡ k + length (l ∷ ls) = omega arith in
     let later : faults_from ((k + 1) + length ls) rest ≡ faults_from (k + length (l ∷ ls)) rest = ap (λ (n : ℕ). faults_from n rest) place in
     omega (arith, all, first, behind, later)

@@ -11,16 +11,16 @@ use Rattle.gd_replay_laws.specs.Faults.{faults_from}
 
 -- A run of lines and a run of the lines behind them are a run.
 abbrev pub RunsFollow : Type 0
-RunsFollow = (members : MembersOf) (may : ℕ → Bool) (s mid t : State) (k : ℕ) (before behind : List Numbered) (output rest : List ℕ) → BuiltReplies members may s k before output mid
-    → BuiltReplies members may mid (k + length before) behind rest t → BuiltReplies members may s k (before ++ behind) (output ++ rest) t
+RunsFollow = (told : Bool) (members : MembersOf) (may : ℕ → Bool) (s mid t : State) (k : ℕ) (before behind : List Numbered) (output rest : List ℕ) → BuiltReplies told members may s k before output mid
+    → BuiltReplies told members may mid (k + length before) behind rest t → BuiltReplies told members may s k (before ++ behind) (output ++ rest) t
 
 -- Where each entry is of an earlier line, so it is behind line k.
 abbrev pub LinesStayBelow : Type 0
-LinesStayBelow = (members : MembersOf) (may : ℕ → Bool) (s t : State) (k : ℕ) (bytes reply : List ℕ) → AreBelow k s → BuiltLine members may s k bytes reply t → AreBelow (k + 1) t
+LinesStayBelow = (told : Bool) (members : MembersOf) (may : ℕ → Bool) (s t : State) (k : ℕ) (bytes reply : List ℕ) → AreBelow k s → BuiltLine told members may s k bytes reply t → AreBelow (k + 1) t
 
--- Where no line freezes or thaws, a run as far as events are built is one of the definitions.
+-- Where no line freezes, nor thaws one query, and the file is told or no line opens again, a run as far as events are built is one of the definitions.
 abbrev pub BuiltRunsAreReplays : Type 0
-BuiltRunsAreReplays = (members : MembersOf) (may : ℕ → Bool) (loaded : List Batch) (input output : List ℕ) (t : State) → AreBuilt (lines_of input) → BuiltReplies members may (opened loaded) 0 (lines_of input) output t
+BuiltRunsAreReplays = (told : Bool) (members : MembersOf) (may : ℕ → Bool) (loaded : List Batch) (input output : List ℕ) (t : State) → AreBuilt told (lines_of input) → BuiltReplies told members may (opened loaded) 0 (lines_of input) output t
     → Replays members may loaded input output t
 
 -- The session of an event that bytes spell is one of 64, and its budget one that there may be.
@@ -29,10 +29,10 @@ EventsAreBounded = (bytes : List ℕ) (e : Event) → event_from bytes ≡ Ok e 
 
 -- Only the reply to a write tells a failure of the disk.
 abbrev pub OnlyWritesTellFaults : Type 0
-OnlyWritesTellFaults = (members : MembersOf) (may : ℕ → Bool) (s t : State) (k : ℕ) (bytes reply : List ℕ) → ((i : ℕ) (w : WriteRequest) → event_from bytes ≡ Ok (write i w) → ⊥) → BuiltLine members may s k bytes reply t
+OnlyWritesTellFaults = (told : Bool) (members : MembersOf) (may : ℕ → Bool) (s t : State) (k : ℕ) (bytes reply : List ℕ) → ((i : ℕ) (w : WriteRequest) → event_from bytes ≡ Ok (write i w) → ⊥) → BuiltLine told members may s k bytes reply t
     → tells_fault k reply ≡ false
 
 -- The failures that a run tells and those that are told behind it add up.
 abbrev pub FaultsAddUp : Type 0
-FaultsAddUp = (members : MembersOf) (may : ℕ → Bool) (s t : State) (k : ℕ) (given : List Numbered) (output rest : List ℕ) → BuiltReplies members may s k given output t
+FaultsAddUp = (told : Bool) (members : MembersOf) (may : ℕ → Bool) (s t : State) (k : ℕ) (given : List Numbered) (output rest : List ℕ) → BuiltReplies told members may s k given output t
     → faults_from k (output ++ rest) ≡ faults_from k output + faults_from (k + length given) rest

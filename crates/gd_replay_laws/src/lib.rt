@@ -16,7 +16,8 @@ pub fn lines_stay_below()
     ensures { LinesStayBelow }
 {}
 
-/// Where no line freezes or thaws, what is built prints what the definitions say.
+/// Where no line freezes, nor thaws one query, and the file is told or no line opens again, what is
+/// built prints what the definitions say.
 pub fn built_runs_are_replays()
     ensures { BuiltRunsAreReplays }
 {}

@@ -1,6 +1,7 @@
 //! Reply lines, and why a line is refused.
 #![tactic(auto)]
 
+pub mod answer;
 pub mod lines;
 pub mod members;
 pub mod printing;

@@ -59,7 +59,7 @@ fn push_number(bytes: &mut Vec<u8>, front: &str, n: u64) -> Result<(), Memory>
 }
 
 /// What stands before the result in the reply line of an answer.
-fn ok_front(alloc: Global, dateline: u32, line: u64) -> Result<Vec<u8>, Memory>
+pub(crate) fn ok_front(alloc: Global, dateline: u32, line: u64) -> Result<Vec<u8>, Memory>
     ensures { IfOk result (λ bytes. bytes.items ≡ ok_front_of dateline line) }
 {
     let mut bytes = Vec::with_capacity(alloc, SHORT_REPLY)?;

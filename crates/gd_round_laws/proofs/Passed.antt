@@ -1,19 +1,14 @@
 -- Lines that are not run for want of memory: what stood before them stands behind them.
-use Rattle.std.proofs.Common.{◌≡◌, refl, ℕ, zero, suc, ◌+◌, inl, Bool, List, [], ◌∷◌, ◌++◌, length, map, Some, slice_get, sym, subst, ap, ◌∙◌, arith, append-nil, append_assoc, length-append}
+use Rattle.std.proofs.Common.{◌≡◌, ℕ, ◌+◌, Bool, List, [], ◌∷◌, ◌++◌, length, map, sym, subst, ap, ◌∙◌, append-nil, append_assoc, length-append}
 use Rattle.std.proofs.lemmas.List.{length-map}
 use Rattle.gd_prim.specs.declared.Batch.{Batch}
 use Rattle.gd_runs.specs.Explained.{Numbered, Run, memory_line}
 use Rattle.gd_runs.specs.Explained as outcome
 use Rattle.gd_runs.specs.Core.{State}
-use Rattle.gd_runs.specs.Side.{Told, WriteLine}
-use Rattle.gd_runs.proofs.Rounds.{no_some, some_same}
 use Rattle.gd_runs.proofs.LineMore.{run_of}
-use Rattle.gd_core_laws.specs.Round.{write_lines, StandsAt, LineCame, lacks_memory}
-use Rattle.gd_core_laws.specs.Writes.{CallerWrites}
-use Rattle.gd_core_laws.specs.Threads.{RoundServed}
+use Rattle.gd_core_laws.specs.Round.{StandsAt}
 use Rattle.gd_core_laws.proofs.Whole.{RoundsRise, upto_next}
-use Rattle.gd_core_laws.proofs.Threads.{are_new, round_stands}
-use Rattle.gd_core_laws.proofs.LockRun.{history_begins, lock_begins}
+use Rattle.gd_core_laws.proofs.Threads.{round_stands}
 use Rattle.gd_core_laws.proofs.Prefix.{unrun}
 use Rattle.gd_round_laws.specs.Rounds.{passed}
 

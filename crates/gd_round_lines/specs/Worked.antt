@@ -2,7 +2,7 @@
 use Rattle.std.specs.Prelude.{◌≡◌, ◌≤◌, ℕ, ◌+◌, List, length, take, Option, Some, slice_get}
 use Rattle.gd_prim.specs.declared.Batch.{Batch}
 use Rattle.gd_runs.specs.Request.{reply_of}
-use Rattle.gd_mql.specs.Requests.{read_view}
+use Rattle.gd_mql.specs.Requests.{read_set_view}
 use Rattle.gd_round_lines.specs.declared.work.ReadLine.{ReadLine}
 use Rattle.gd_round_lines.specs.declared.worked.Worked.{Worked}
 
@@ -16,7 +16,7 @@ pub record IsWorked (first : ℕ) (reads : List ReadLine) (batches : List Batch)
   pub within : w.at ≤ length entered
   pub below : length entered ≤ shown
   pub begins : entered ≡ take (length entered) batches
-  pub is : w.reply.items ≡ reply_of entered w.at read.line (read_view read.request)
+  pub is : w.reply.items ≡ reply_of entered w.at read.line (read_set_view read.request)
 
 -- of each place what a worker kept, if it kept something
 abbrev pub AreWorked : ℕ → List ReadLine → List Batch → ℕ → List (Option Worked) → Type 0

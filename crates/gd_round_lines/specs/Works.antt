@@ -7,7 +7,7 @@ use Rattle.gd_runs.specs.Explained.{Numbered, memory_line}
 use Rattle.gd_runs.specs.Side as side
 use Rattle.gd_input.specs.declared.line.RoundLine.{RoundLine}
 use Rattle.gd_input.specs.Line.{IsKept}
-use Rattle.gd_mql.specs.Requests.{read_view, write_view}
+use Rattle.gd_mql.specs.Requests.{read_set_view, write_view}
 use Rattle.gd_core_laws.specs.Round.{one_write, write_lines}
 use Rattle.gd_core_laws.specs.Writes.{RisesBy}
 use Rattle.gd_round_lines.specs.declared.work.ReadLine.{ReadLine}
@@ -39,7 +39,7 @@ IsFirstReply k bytes reply = ((f : InputFault) × (line_from bytes ≡ Err f) ×
 
 -- line k of these bytes is this read
 abbrev pub IsReadOf : ℕ → List ℕ → ReadLine → Type 0
-IsReadOf k bytes r = (r.line ≡ k) × (line_from bytes ≡ Ok (read r.session (read_view r.request)))
+IsReadOf k bytes r = (r.line ≡ k) × (line_from bytes ≡ Ok (read r.session (read_set_view r.request)))
 
 -- these bytes are no line
 abbrev pub IsNoLine : List ℕ → Type 0

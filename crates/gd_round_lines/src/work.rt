@@ -16,7 +16,7 @@ use gd_base::memory::Memory;
 use gd_input::line::RoundLine;
 use gd_mql::fault::LineFault;
 use gd_mql::line::line_from;
-use gd_mql::request::{Line, ReadRequest, WriteRequest};
+use gd_mql::request::{Line, ReadSet, WriteRequest};
 use gd_reply::lines::err_line_plain;
 use gd_reply::refusal::Refusal;
 use gd_reply::reply::Reply;
@@ -33,7 +33,7 @@ const LEAST_LINES: usize = 16;
 pub struct ReadLine {
     pub line: u64,
     pub session: u32,
-    pub request: ReadRequest,
+    pub request: ReadSet,
 }
 
 /// A write line of a round: its number, its session, what it asks, and its length.

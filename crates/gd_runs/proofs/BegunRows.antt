@@ -2,7 +2,7 @@
 use Rattle.std.proofs.Common.{◌≡◌, refl, ℕ, List, [], ◌∷◌, Option, Some, map, option_and_then, option_map, codes}
 use Rattle.gd_prim.specs.declared.Batch.{Batch}
 use Rattle.gd_runs.specs.Input.{line_from}
-use Rattle.gd_runs.specs.Request.{no_cursor}
+use Rattle.gd_runs.specs.Request.{one_query, no_cursor}
 use Rattle.gd_runs.specs.Core.{Reading, reading_of, owed_reply}
 use Rattle.gd_runs.proofs.Plain.{computing, replies, run}
 use Rattle.gd_runs.proofs.Asking.{query_from, value_of}
@@ -22,7 +22,7 @@ batches_of lines = (run [] 0 (map line_from lines)).0
 
 -- the reading of a query that begins after some batches
 abbrev begun : List Batch → ℕ → List ℕ → Option Reading
-begun batches n bytes = option_and_then (λ q. value_of (reading_of batches n (record { cursor = no_cursor; query = q }))) (query_from bytes)
+begun batches n bytes = option_and_then (λ q. value_of (reading_of batches n (one_query (record { cursor = no_cursor; query = q })))) (query_from bytes)
 
 pub written : replies (created ∷ renamed ∷ [])
     ≡ codes "{\"code\":\"/api/status/ok\",\"dateline\":1,\"line\":0,\"result\":{\"create\":\"created\",\"name\":\"X\"}}"

@@ -4,7 +4,7 @@ use Rattle.std.specs.Prelude.{slice_get}
 use Rattle.gd_prim.specs.declared.Batch.{Batch}
 use Rattle.gd_tree.specs.Json.{Json, null}
 use Rattle.gd_defs.specs.Change as change
-use Rattle.gd_defs.specs.Write.{WriteRequest, ChangeFault}
+use Rattle.gd_defs.specs.Write.{one_change, WriteRequest, ChangeFault}
 use Rattle.gd_runs.specs.Request.{Line, write, exec_after}
 use Rattle.gd_runs.specs.Input.{line_from, InputFault}
 use Rattle.gd_runs.specs.Legal.{Entry, History, IsLegal}
@@ -19,7 +19,7 @@ second_bytes = codes "{\"sid\":0,\"write\":{\"query\":{\"create\":\"unconditiona
 
 abbrev request_of : Result Line InputFault → WriteRequest
 request_of (Ok (write s w)) = w
-request_of _ = record { scope = None; change = record { root = change.to_create change.unconditional; members = change.no_members } }
+request_of _ = record { scope = None; asks = one_change (record { root = change.to_create change.unconditional; members = change.no_members }) }
 
 abbrev done_of : Result (Batch × Json) ChangeFault → Batch × Json
 done_of (Ok done) = done

@@ -12,8 +12,8 @@ use Rattle.std.proofs.Common.{◌≡◌, refl, ℕ, zero, suc, ◌<◌, ◌≤�
 use Rattle.gd_prim.specs.History.{prims_of}
 use Rattle.gd_prim.specs.declared.Batch.{Batch}
 use Rattle.gd_tree.specs.Json.{Json, null}
-use Rattle.gd_defs.specs.Write.{WriteRequest, ChangeFault}
-use Rattle.gd_runs.specs.Request.{Line, read, write, ReadRequest, exec_after, reply_of}
+use Rattle.gd_defs.specs.Write.{one_change, WriteRequest, ChangeFault}
+use Rattle.gd_runs.specs.Request.{one_query, Line, read, write, ReadSet, exec_after, reply_of}
 use Rattle.gd_runs.specs.Input.{line_from, InputFault}
 use Rattle.gd_runs.specs.Legal.{Entry, History, IsLegal, exec_line, batches}
 use Rattle.std.specs.Prelude.{slice_get}
@@ -27,7 +27,7 @@ read_bytes = codes "{\"sid\":0,\"read\":{\"query\":[{\"guid\":null,\"name\":\"An
 
 abbrev request_of : Result Line InputFault → WriteRequest
 request_of (Ok (write s w)) = w
-request_of _ = record { scope = None; change = record { root = Rattle.gd_defs.specs.Change.to_create Rattle.gd_defs.specs.Change.unconditional; members = Rattle.gd_defs.specs.Change.no_members } }
+request_of _ = record { scope = None; asks = one_change (record { root = Rattle.gd_defs.specs.Change.to_create Rattle.gd_defs.specs.Change.unconditional; members = Rattle.gd_defs.specs.Change.no_members }) }
 
 abbrev done_of : Result (Batch × Json) ChangeFault → Batch × Json
 done_of (Ok done) = done
@@ -74,7 +74,7 @@ pub printed_first : Prints history 0 write_bytes (stored 0) first_reply
 unfolding digits value punctuate lex content word after_number number_of scan_numeral is_utf8 chars encode prims_of
 printed_first = (entry, 0, (refl, refl), refl, refl)
 
-abbrev read_of : Result Line InputFault → Option ReadRequest
+abbrev read_of : Result Line InputFault → Option ReadSet
 read_of (Ok (read s r)) = Some r
 read_of _ = None
 
@@ -101,10 +101,10 @@ each_run P a b (suc zero) r e = subst (P 1) (some_eq e) b
     some_eq q = Prim.cc q
 each_run P a b (suc (suc k)) r e = Prim.cc e
 
-abbrev default_read : ReadRequest
-default_read = record { cursor = Rattle.gd_runs.specs.Request.no_cursor; query = record { listed = true; directives = Rattle.gd_defs.specs.Query.no_directives; members = Rattle.gd_defs.specs.Query.no_members } }
+abbrev default_read : ReadSet
+default_read = one_query (record { cursor = Rattle.gd_runs.specs.Request.no_cursor; query = record { listed = true; directives = Rattle.gd_defs.specs.Query.no_directives; members = Rattle.gd_defs.specs.Query.no_members } })
 
-abbrev read_request : ReadRequest
+abbrev read_request : ReadSet
 read_request = Rattle.std.specs.Prelude.unwrap_or (read_of (line_from read_bytes)) default_read
 
 one_le : 1 ≤ 1

@@ -5,7 +5,7 @@ use Rattle.gd_prim.specs.declared.Batch.{Batch}
 use Rattle.gd_tree.specs.Json.{Json}
 use Rattle.gd_defs.specs.Lines.{ok_line, err_line}
 use Rattle.gd_defs.specs.Write.{WriteRequest, ChangeFault}
-use Rattle.gd_runs.specs.Request.{read, write, ReadRequest, reply_of, change_refusal}
+use Rattle.gd_runs.specs.Request.{read, write, ReadSet, reply_of, change_refusal}
 use Rattle.gd_runs.specs.Input.{InputFault, line_from, input_fault_line}
 use Rattle.gd_runs.specs.Legal.{Entry, History, size, batches, with_entries, upto, take_below, exec_line, AreEntriesAfter}
 use Rattle.gd_runs.specs.Explained.{entry_at, Numbered, Run, Outcome, no_request, no_memory, stored, refused, answered, IsWithin, Prints, HasNumber, TakesIn, MayBe, DoesLine, MayBeEntry, memory_line, IsExplainedBy, IsRoundAfter}
@@ -98,7 +98,7 @@ module _ (loaded : List Batch) (may : ℕ → Bool) (given : List Numbered) (out
   memory_more = line_more no_memory (memory_line (length runs)) [] tt refl (λ i e there. no_some there) (λ n has. absurd has)
 
   -- a read
-  pub read_more : (s : ℕ) (r : ReadRequest) → line_from l.bytes ≡ Ok (read s r)
+  pub read_more : (s : ℕ) (r : ReadSet) → line_from l.bytes ≡ Ok (read s r)
       → IsExplainedBy loaded may (given ++ l ∷ []) (output ++ (reply_of (batches h) (size h) (length runs) r ++ 10 ∷ [])) (with_entries h [])
       (runs ++ run_of l (answered (size h)) (reply_of (batches h) (size h) (length runs) r) ∷ [])
   read_more s r is = line_more (answered (size h)) (reply_of (batches h) (size h) (length runs) r) [] tt

@@ -3,7 +3,7 @@ use Rattle.std.specs.Prelude.{option_map}
 use Rattle.std.proofs.Common.{◌≡◌, refl, List, [], ◌∷◌, Option, Some, None, Result, Ok, codes}
 use Rattle.gd_prim.specs.declared.Batch.{Batch}
 use Rattle.gd_prim.specs.Builtin.{object, name_link}
-use Rattle.gd_runs.specs.Request.{Line, read, ReadRequest, reply_of}
+use Rattle.gd_runs.specs.Request.{Line, read, ReadSet, reply_of}
 use Rattle.gd_runs.specs.Input.{line_from, InputFault}
 use Rattle.gd_runs.proofs.Plain.{computing}
 
@@ -12,7 +12,7 @@ abbrev ann : List Batch
 ann = record { moment = 0; prims = object ∷ name_link (70, codes "Ann") ∷ [] } ∷ []
 
 -- the read that a line is
-abbrev read_in : Result Line InputFault → Option ReadRequest
+abbrev read_in : Result Line InputFault → Option ReadSet
 read_in (Ok (read s r)) = Some r
 read_in _ = None
 

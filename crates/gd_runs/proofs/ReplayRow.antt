@@ -4,7 +4,7 @@ use Rattle.gd_runs.specs.Input.{InputFault}
 use Rattle.gd_runs.specs.Owed.{MembersOf}
 use Rattle.gd_bytes.specs.Frozen.{Frozen, scanning}
 use Rattle.gd_defs.specs.Query.{no_directives, no_members}
-use Rattle.gd_runs.specs.Request.{ReadRequest, no_cursor}
+use Rattle.gd_runs.specs.Request.{ReadRequest, one_query, no_cursor}
 use Rattle.gd_runs.specs.Core.{Event, begin, slice, freeze, State, Reading, opened, entered, FreezesAs, owed_line}
 use Rattle.gd_runs.specs.Thawed.{thawed_reply}
 use Rattle.gd_runs.proofs.Plain.{computing}
@@ -28,7 +28,7 @@ no_request = record { cursor = no_cursor; query = record { listed = true; direct
 
 -- the read of an event that begins one
 abbrev request_of : Result Event InputFault → ReadRequest
-request_of (Ok (begin s r)) = r
+request_of (Ok (begin s (one_query r))) = r
 request_of _ = no_request
 
 -- the read of the first line
@@ -37,7 +37,7 @@ request = request_of (event_from begin_bytes)
 
 -- the reading that it begins
 abbrev reading : Reading
-reading = record { request = request; dateline = 0; after = None; thawed = None }
+reading = record { request = one_query request; dateline = 0; after = None; thawed = None }
 
 -- the state in which the session holds it
 abbrev held : State
@@ -59,13 +59,13 @@ pub owes_the_same : (k : ℕ) → thawed_reply [] k request at_start ≡ owed_li
 unfolding computing
 owes_the_same k = refl
 
-pub freezes : FreezesAs members [] reading at_start
+pub freezes : FreezesAs members [] request reading at_start
 unfolding computing
 freezes = record { spelled = refl; dateline = refl; after = refl; fitting = refl; same = owes_the_same }
 
 pub began : LineStep members (λ m. true) (opened []) 0 begin_bytes (codes "{\"code\":\"/api/status/ok\",\"dateline\":0,\"line\":0,\"result\":\"begun\"}") held
 unfolding computing
-began = inr (inl (begin 0 request, refl, (refl, refl)))
+began = inr (inl (begin 0 (one_query request), refl, (refl, refl)))
 
 pub froze : LineStep members (λ m. true) held 1 freeze_bytes (codes "{\"code\":\"/api/status/ok\",\"dateline\":0,\"line\":1,\"result\":{\"frozen\":\"f1:0:-:[]:s[0,0]\"}}") held
 unfolding computing

@@ -12,13 +12,14 @@ use Rattle.gd_defs.specs.History.{prims_at}
 use Rattle.gd_prim.specs.WellFormed.{all_follow}
 use Rattle.gd_defs.specs.Query.{Query}
 use Rattle.gd_bytes.specs.Cursor.{Cursor, cursor_of}
-use Rattle.gd_defs.specs.Lines.{err_line, cursor_ahead}
-use Rattle.gd_defs.specs.Reply.{reply}
-use Rattle.gd_runs.specs.Request.{Line, read, write, ReadRequest, CursorAsk, no_cursor, first_page, page_after, page_reply, reply_of}
+use Rattle.gd_tree.specs.Json.{list}
+use Rattle.gd_defs.specs.Lines.{items_of, ok_line, err_line, cursor_ahead}
+use Rattle.gd_defs.specs.Reply.{answer, answer_item, within_reply, reply}
+use Rattle.gd_runs.specs.Request.{Line, read, write, ReadSet, one_query, queries, CursorAsk, no_cursor, first_page, page_after, asks_page, page_reply, query_reply, reply_of}
 use Rattle.gd_runs.specs.Input.{InputFault, line_from}
 use Rattle.gd_runs.specs.Owed.{MembersOf}
 use Rattle.gd_runs.specs.Legal.{Entry, History, size, batches, with_entry, with_entries, upto, take_below, exec_line, AreEntriesAfter}
-use Rattle.gd_runs.specs.Explained.{Numbered, Run, Outcome, no_request, no_memory, stored, refused, late, in_doubt, not_tried, answered, entry_at, IsOfLine, IsWithin, Prints, HasNumber, MayBeEntry, IsOfRun, SameSession, TakesIn, IsBounded, MayBe, stored_dateline, told_dateline, cursor_dateline, ask_dateline, line_dateline, is_upto, stands_upto, without_return, pieces, IsExplainedBy, IsOldDoubt, IsRoundAfter}
+use Rattle.gd_runs.specs.Explained.{Numbered, Run, Outcome, no_request, no_memory, stored, refused, late, in_doubt, not_tried, answered, entry_at, IsOfLine, IsWithin, Prints, HasNumber, MayBeEntry, IsOfRun, SameSession, TakesIn, IsBounded, MayBe, stored_dateline, told_dateline, cursor_dateline, ask_dateline, read_dateline, line_dateline, is_upto, stands_upto, without_return, pieces, IsExplainedBy, IsOldDoubt, IsRoundAfter}
 use Rattle.gd_runs.specs.Core.{State}
 use Rattle.gd_runs.specs.Replay.{LineStep, Replies}
 
@@ -136,15 +137,20 @@ page_kept bs cs m k q (Ok c) h = by (nat_lt m c.dateline) refl
         ∙ ap (λ (prims : List Primitive). reply prims c.dateline k true (Some c.after) q) (prims_kept bs cs c.dateline within)
         ∙ sym (ap (λ (b : Bool). if b then ahead else at bs) f)
 
-pub reply_kept_at : (bs cs : List Batch) (m k : ℕ) (a : CursorAsk) (q : Query) → m ≤ length bs → reply_of (bs ++ cs) m k (record { cursor = a; query = q }) ≡ reply_of bs m k (record { cursor = a; query = q })
-reply_kept_at bs cs m k no_cursor q h = ap (λ (prims : List Primitive). reply prims m k false None q) (prims_kept bs cs m h)
-reply_kept_at bs cs m k first_page q h = ap (λ (prims : List Primitive). reply prims m k true None q) (prims_kept bs cs m h)
-reply_kept_at bs cs m k (page_after t) q h = page_kept bs cs m k q (cursor_of t) h
+pub query_kept : (bs cs : List Batch) (m k : ℕ) (a : CursorAsk) (q : Query) → m ≤ length bs → query_reply (bs ++ cs) m k (record { cursor = a; query = q }) ≡ query_reply bs m k (record { cursor = a; query = q })
+query_kept bs cs m k no_cursor q h = ap (λ (prims : List Primitive). reply prims m k false None q) (prims_kept bs cs m h)
+query_kept bs cs m k first_page q h = ap (λ (prims : List Primitive). reply prims m k true None q) (prims_kept bs cs m h)
+query_kept bs cs m k (page_after t) q h = page_kept bs cs m k q (cursor_of t) h
 
-pub reply_kept : (h : History) (new : List Entry) (m k : ℕ) (r : ReadRequest) → m ≤ size h → reply_of (batches (with_entries h new)) m k r ≡ reply_of (batches h) m k r
+pub reply_kept_at : (bs cs : List Batch) (m k : ℕ) (r : ReadSet) → m ≤ length bs → reply_of (bs ++ cs) m k r ≡ reply_of bs m k r
+reply_kept_at bs cs m k (one_query r) h = query_kept bs cs m k r.cursor r.query h
+reply_kept_at bs cs m k (queries rs) h = ap (λ (prims : List Primitive). within_reply m k (ok_line m k
+    (list (items_of (map (λ r. answer_item (answer prims m (asks_page r.cursor) None r.query)) rs))))) (prims_kept bs cs m h)
+
+pub reply_kept : (h : History) (new : List Entry) (m k : ℕ) (r : ReadSet) → m ≤ size h → reply_of (batches (with_entries h new)) m k r ≡ reply_of (batches h) m k r
 reply_kept h new m k r within =
     let long : m ≤ length (batches h) = omega (arith, within, length_batches h) in
-    ap (λ (bs : List Batch). reply_of bs m k r) (batches_more h new) ∙ reply_kept_at (batches h) (map (λ e. e.batch) new) m k r.cursor r.query long
+    ap (λ (bs : List Batch). reply_of bs m k r) (batches_more h new) ∙ reply_kept_at (batches h) (map (λ e. e.batch) new) m k r long
 
 stop_at : (place n : ℕ) (es : List Entry) → n ≤ place → take_below place n es ≡ []
 stop_at place n [] h = refl
@@ -255,8 +261,12 @@ ask_within m no_cursor = omega arith
 ask_within m first_page = omega arith
 ask_within m (page_after t) = cursor_within m (cursor_of t)
 
+pub read_within : (m : ℕ) (r : ReadSet) → read_dateline m r ≤ m
+read_within m (one_query r) = ask_within m r.cursor
+read_within m (queries rs) = omega arith
+
 pub line_within : (m : ℕ) (l : Result Line InputFault) → line_dateline m l ≤ m
-line_within m (Ok (read s r)) = ask_within m r.cursor
+line_within m (Ok (read s r)) = read_within m r
 line_within m (Ok (write s w)) = omega arith
 line_within m (Err f) = omega arith
 

@@ -9,5 +9,6 @@ mod Meanings
 mod Pages
 mod Properties
 mod Reading
+mod Several
 mod Versions
 mod Writing

@@ -12,24 +12,24 @@ use Rattle.gd_runs.specs.Thawed.{thawed_reply}
 use Rattle.gd_runs.specs.Fitting.{fits}
 use Rattle.gd_defs.specs.Lines.{Refusal, refusal, ok_line, err_line, err_line_plain, bad_cursor, cursor_ahead}
 use Rattle.gd_defs.specs.Write.{WriteRequest, ChangeFault}
-use Rattle.gd_runs.specs.Request.{ReadRequest, CursorAsk, page_after, asks_page, change_refusal}
+use Rattle.gd_runs.specs.Request.{ReadRequest, ReadSet, one_query, queries, queries_reply, CursorAsk, page_after, asks_page, change_refusal}
 use Rattle.gd_runs.specs.Legal.{Entry, History, batches, size, with_entry, exec_line}
 use Rattle.gd_runs.specs.Explained.{memory_line, late_line, disk_line, MayBe}
 use Rattle.gd_bytes.specs.Frozen.{Frozen, spelling, Fits, IsFrozenText, IsBadFrozenAt}
 
 -- an event of the core: beginning, slicing, freezing and thawing a read of a session, a write, a dateline to be learnt, and opening the store again; the moment of a write is what the clock gives
 pub data Event : Type 0 where
-  begin : ℕ → ReadRequest → Event
+  begin : ℕ → ReadSet → Event
   slice : ℕ → ℕ → Event
   write : ℕ → WriteRequest → Event
   learn : ℕ → ℕ → Event
   freeze : ℕ → Event
-  thaw : ℕ → ReadRequest → List ℕ → Event
+  thaw : ℕ → ReadSet → List ℕ → Event
   reopen : Event
 
--- a suspended read: its request and dateline, the row after which its page begins, and the text that it goes on from, if it was thawed
+-- a suspended read: its request and dateline, and of one query the row after which its page begins, and the text that it goes on from, if it was thawed
 pub record Reading : Type 0 where
-  pub request : ReadRequest
+  pub request : ReadSet
   pub dateline : ℕ
   pub after : Option Mark
   pub thawed : Option Frozen
@@ -106,11 +106,11 @@ pub data WriteStep (may : ℕ → Bool) (s : State) (k bytes i : ℕ) (w : Write
 -- the reading of a request at a dateline, or where its query has no meaning the refusal with its dateline
 abbrev pub with_meaning : List Batch → ReadRequest → ℕ → Option Mark → Result Asked Unknown → Result Reading (ℕ × Refusal)
 with_meaning batches r dateline after (Err u) = Err (dateline, unknown_refusal u)
-with_meaning batches r dateline after (Ok q) = Ok (record { request = r; dateline = dateline; after = after; thawed = None })
+with_meaning batches r dateline after (Ok q) = Ok (record { request = one_query r; dateline = dateline; after = after; thawed = None })
 
--- the reading that begins at a snapshot, or the refusal of its cursor or its query with the dateline
-abbrev pub reading_of : List Batch → ℕ → ReadRequest → Result Reading (ℕ × Refusal)
-reading_of batches snapshot r = by r.cursor
+-- the reading of one query that begins at a snapshot, or the refusal of its cursor or its query with the dateline
+abbrev pub query_reading : List Batch → ℕ → ReadRequest → Result Reading (ℕ × Refusal)
+query_reading batches snapshot r = by r.cursor
   where
     at : ℕ → Option Mark → Result Reading (ℕ × Refusal)
     at n after = with_meaning batches r n after (asked_query (prims_at batches n) r.query)
@@ -123,17 +123,26 @@ reading_of batches snapshot r = by r.cursor
     by (page_after t) = page (cursor_of t)
     by _ = at snapshot None
 
+-- the reading that begins at a snapshot; one of several queries has begun whatever they ask, since each is answered or refused by itself
+abbrev pub reading_of : List Batch → ℕ → ReadSet → Result Reading (ℕ × Refusal)
+reading_of batches snapshot (one_query r) = query_reading batches snapshot r
+reading_of batches snapshot (queries rs) = Ok (record { request = queries rs; dateline = snapshot; after = None; thawed = None })
+
 -- the reply line of line k that a reading owes which has begun
 abbrev pub owed_reply : List Batch → ℕ → Reading → List ℕ
-owed_reply batches k r = reply (prims_at batches r.dateline) r.dateline k (asks_page r.request.cursor) r.after r.request.query
+owed_reply batches k r = by r.request
+  where
+    by : ReadSet → List ℕ
+    by (one_query q) = reply (prims_at batches r.dateline) r.dateline k (asks_page q.cursor) r.after q.query
+    by (queries qs) = queries_reply batches r.dateline k qs
 
 -- the reply line of line k that a reading owes
 abbrev pub owed_line : List Batch → ℕ → Reading → List ℕ
-owed_line batches k r = by r.thawed
+owed_line batches k r = by r.thawed r.request
   where
-    by : Option Frozen → List ℕ
-    by None = owed_reply batches k r
-    by (Some f) = thawed_reply batches k r.request f
+    by : Option Frozen → ReadSet → List ℕ
+    by (Some f) (one_query q) = thawed_reply batches k q f
+    by _ _ = owed_reply batches k r
 
 -- a frozen reading fits a request at its dateline, if the query has a meaning there
 abbrev pub frozen_fits : MembersOf → List Batch → ReadRequest → Frozen → Bool
@@ -143,24 +152,28 @@ frozen_fits members batches r f = by (asked_query (prims_at batches f.dateline) 
     by (Err u) = false
     by (Ok q) = fits (prims_at batches f.dateline) members q f
 
--- a reading may be frozen as this one: of its dateline and mark, it has a text and fits, and it owes the same reply
-pub record FreezesAs (members : MembersOf) (batches : List Batch) (r : Reading) (f : Frozen) : Type 0 where
+-- a reading of one query may be frozen as this one: of its dateline and mark, it has a text and fits, and it owes the same reply
+pub record FreezesAs (members : MembersOf) (batches : List Batch) (q : ReadRequest) (r : Reading) (f : Frozen) : Type 0 where
   pub spelled : Fits f
   pub dateline : f.dateline ≡ r.dateline
   pub after : f.after ≡ r.after
-  pub fitting : IsTrue (frozen_fits members batches r.request f)
-  pub same : (k : ℕ) → thawed_reply batches k r.request f ≡ owed_line batches k r
+  pub fitting : IsTrue (frozen_fits members batches q f)
+  pub same : (k : ℕ) → thawed_reply batches k q f ≡ owed_line batches k r
 
 -- the reply line of line k where no reading is held
 abbrev pub no_reading_line : ℕ → List ℕ
 no_reading_line k = err_line_plain k (refusal (codes "NoReading") [])
+
+-- the reply line of line k where several queries cannot be frozen or thawed
+abbrev pub many_queries_line : ℕ → List ℕ
+many_queries_line k = err_line_plain k (refusal (codes "ManyQueries") [])
 
 -- the reply line of line k with one word as its result
 abbrev pub said : ℕ → ℕ → List ℕ → List ℕ
 said dateline k what = ok_line dateline k (text what)
 
 -- beginning: session i holds the reading, or is told its refusal and holds none
-abbrev pub BeginStep : State → ℕ → ℕ → ReadRequest → List ℕ → State → Type 0
+abbrev pub BeginStep : State → ℕ → ℕ → ReadSet → List ℕ → State → Type 0
 BeginStep s k i r line t = by (reading_of (batches s.history) s.shown r)
   where
     by : Result Reading (ℕ × Refusal) → Type 0
@@ -186,13 +199,17 @@ LearnStep s k i m line t = MatchBool (nat_lt s.shown m)
 abbrev pub frozen_line : ℕ → Reading → Frozen → List ℕ
 frozen_line k r f = within_reply r.dateline k (ok_line r.dateline k (object (JsonMembers.member (codes "frozen") (text (spelling f)) JsonMembers.no_members)))
 
--- freezing: session i is told a text of its reading, and holds it as it was
+-- freezing: session i is told a text of its reading, if that is of one query, and holds it as it was
 abbrev pub FreezeStep : MembersOf → State → ℕ → ℕ → List ℕ → State → Type 0
 FreezeStep members s k i line t = by (s.sessions i).reading
   where
     by : Option Reading → Type 0
     by None = (line ≡ no_reading_line k) × (t ≡ s)
-    by (Some r) = (t ≡ s) × ((f : Frozen) × FreezesAs members (batches s.history) r f × (line ≡ frozen_line k r f))
+    by (Some r) = (t ≡ s) × of r r.request
+      where
+        of : Reading → ReadSet → Type 0
+        of r (one_query q) = (f : Frozen) × FreezesAs members (batches s.history) q r f × (line ≡ frozen_line k r f)
+        of r (queries qs) = line ≡ many_queries_line k
 
 -- the refusal of a text that goes so far as that of a frozen reading, and no further
 abbrev pub bad_frozen : ℕ → Refusal
@@ -211,14 +228,15 @@ ThawsAs members s k i r bytes f line t =
     by : Result Asked Unknown → Type 0
     by (Err u) = (line ≡ err_line f.dateline k (unknown_refusal u)) × (t ≡ refused_thaw s i)
     by (Ok q) = (IsTrue (frozen_fits members (batches s.history) r f) × (line ≡ said f.dateline k (codes "thawed"))
-        × (t ≡ entered s i (Some (record { request = r; dateline = f.dateline; after = f.after; thawed = Some f }))))
+        × (t ≡ entered s i (Some (record { request = one_query r; dateline = f.dateline; after = f.after; thawed = Some f }))))
         ⊎ ((IsTrue (frozen_fits members (batches s.history) r f) → ⊥) × (line ≡ err_line s.shown k (bad_frozen (length bytes))) × (t ≡ refused_thaw s i))
 
--- thawing: the bytes are the text of a frozen reading, which is thawed, or so many of them go with the grammar
-abbrev pub ThawStep : MembersOf → State → ℕ → ℕ → ReadRequest → List ℕ → List ℕ → State → Type 0
-ThawStep members s k i r bytes line t =
+-- thawing: the bytes are the text of a frozen reading of one query, which is thawed, or so many of them go with the grammar
+abbrev pub ThawStep : MembersOf → State → ℕ → ℕ → ReadSet → List ℕ → List ℕ → State → Type 0
+ThawStep members s k i (one_query r) bytes line t =
     ((f : Frozen) × IsFrozenText f bytes × ThawsAs members s k i r bytes f line t)
     ⊎ ((n : ℕ) × IsBadFrozenAt bytes n × (line ≡ err_line s.shown k (bad_frozen n)) × (t ≡ refused_thaw s i))
+ThawStep members s k i (queries rs) bytes line t = (line ≡ many_queries_line k) × (t ≡ s)
 
 -- opening again: the store has the batches of the history, with the group in doubt or without it
 abbrev pub ReopenStep : State → ℕ → List ℕ → State → Type 0

@@ -4,7 +4,7 @@ pub mod Outcomes
 pub mod Runs
 pub mod Rounds
 pub use Rattle.gd_runs.specs.Explained.Lines.{Numbered, without_return, pieces, max_round, numbered, lines_of}
-pub use Rattle.gd_runs.specs.Explained.Outcomes.{Outcome, no_request, no_memory, stored, refused, late, in_doubt, not_tried, answered, memory_line, late_line, disk_line, entry_at, IsOfLine, IsWithin, IsWrite, Prints, HasNumber, MayBeEntry, DoesLine, session_of, cursor_dateline, ask_dateline, line_dateline, printed_dateline, stored_dateline, told_dateline}
+pub use Rattle.gd_runs.specs.Explained.Outcomes.{Outcome, no_request, no_memory, stored, refused, late, in_doubt, not_tried, answered, memory_line, late_line, disk_line, entry_at, IsOfLine, IsWithin, IsWrite, Prints, HasNumber, MayBeEntry, DoesLine, session_of, cursor_dateline, ask_dateline, read_dateline, line_dateline, printed_dateline, stored_dateline, told_dateline}
 pub use Rattle.gd_runs.specs.Explained.Runs.{Run, SameSession, is_upto, stands_upto, TakesIn, IsBounded, MayBe, IsOfRun}
 pub use Rattle.gd_runs.specs.Explained.Rounds.{IsOfRound, IsOldDoubt, IsRoundAfter}
 use Rattle.std.specs.Prelude.{◌||◌, bytes_eq, ◌≡◌, ℕ, ◌+◌, ◌<◌, ◌⊎◌, List, [], ◌∷◌, ◌++◌, map, filter, flat_map, Bool, nat_lt, Option, None, Some, slice_get, if◌then◌else◌, codes}

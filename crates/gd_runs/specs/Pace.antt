@@ -9,8 +9,9 @@ use Rattle.gd_defs.specs.Asked.{Asked, Unknown, asked_query}
 use Rattle.gd_defs.specs.Template.{Template, template, Clauses, no_clauses, clause}
 use Rattle.gd_defs.specs.Plan.{template_of}
 use Rattle.gd_defs.specs.Cost.{resolving}
+use Rattle.gd_defs.specs.Reply.{Mark}
 use Rattle.gd_runs.specs.Work.{first_left}
-use Rattle.gd_runs.specs.Request.{ReadRequest, asks_page}
+use Rattle.gd_runs.specs.Request.{ReadRequest, ReadSet, one_query, queries, asks_page}
 use Rattle.gd_bytes.specs.Frozen.{Frame, Walk, by_links, Body, scanning, building, printing, Frozen}
 use Rattle.gd_runs.specs.Owed.{MembersOf}
 use Rattle.gd_tree.specs.Trees.{TreeLists, no_lists, and_list, trees_count, lists_count}
@@ -65,6 +66,10 @@ frame_count prims members q f = length f.rows + body_count prims members (templa
 abbrev pub begin_steps : List Primitive → Query → ℕ
 begin_steps prims q = 64 * (1 + resolving prims q)
 
+-- the greatest number of steps that beginning several queries takes
+abbrev pub begin_all_steps : List Primitive → List ReadRequest → ℕ
+begin_all_steps prims rs = sum_by (λ r. begin_steps prims r.query) rs
+
 -- the greatest number of steps that thawing takes, where the query has a meaning
 abbrev pub thaw_steps : List Primitive → MembersOf → Query → Asked → Frozen → ℕ
 thaw_steps prims members q a f = begin_steps prims q + 24 * frame_count prims members a f
@@ -79,17 +84,22 @@ due d batches r f = d (take f.dateline batches) (asks_page r.cursor) r.query f
 
 -- ---- a run
 
--- the number of steps that a reading has left first: that of its query, or what is due of it where it was thawed
-abbrev pub first_number : DueOf → List Batch → Reading → ℕ
-first_number d batches r = by r.thawed
-  where
-    of_query : Result Asked Unknown → ℕ
-    of_query (Err u) = 0
-    of_query (Ok q) = first_left (prims_at batches r.dateline) q r.after
+-- the number of steps that a query has left first, none where it has no meaning
+abbrev pub query_left : List Primitive → Option Mark → Result Asked Unknown → ℕ
+query_left prims after (Err u) = 0
+query_left prims after (Ok q) = first_left prims q after
 
-    by : Option Frozen → ℕ
-    by None = of_query (asked_query (prims_at batches r.dateline) r.request.query)
-    by (Some f) = due d batches r.request f
+-- the number of steps that a reading has left first: that of its query, those of its queries together, or what is due of it where it was thawed
+abbrev pub first_number : DueOf → List Batch → Reading → ℕ
+first_number d batches r = by r.thawed r.request
+  where
+    of_query : ReadRequest → ℕ
+    of_query q = query_left (prims_at batches r.dateline) r.after (asked_query (prims_at batches r.dateline) q.query)
+
+    by : Option Frozen → ReadSet → ℕ
+    by (Some f) (one_query q) = due d batches q f
+    by None (one_query q) = of_query q
+    by _ (queries qs) = sum_by of_query qs
 
 -- how many steps the reading of each session has left
 abbrev pub Left : Type 0
@@ -112,18 +122,22 @@ renewed d t i a = by (t.sessions i).reading
     by None = a
     by (Some r) = with_left a i (first_number d (batches t.history) r)
 
--- of a frozen reading is due at most what was left, and 24 for each of its frames
-abbrev pub IsDueWithin : MembersOf → DueOf → List Batch → Reading → Frozen → ℕ → Type 0
-IsDueWithin members d batches r f left = by (asked_query (prims_at batches f.dateline) r.request.query)
+-- of a frozen reading of a query is due at most what was left, and 24 for each of its frames
+abbrev pub IsDueWithin : MembersOf → DueOf → List Batch → ReadRequest → Frozen → ℕ → Type 0
+IsDueWithin members d batches q f left = by (asked_query (prims_at batches f.dateline) q.query)
   where
     by : Result Asked Unknown → Type 0
     by (Err u) = Unit {0}
-    by (Ok q) = due d batches r.request f ≤ left + 24 * frame_count (prims_at batches f.dateline) members q f
+    by (Ok a) = due d batches q f ≤ left + 24 * frame_count (prims_at batches f.dateline) members a f
 
 -- of each text that line k may print of a reading is due no more than that
 abbrev pub FreezePace : MembersOf → DueOf → State → ℕ → List ℕ → Option Reading → ℕ → Type 0
 FreezePace members d s k reply None left = Unit {0}
-FreezePace members d s k reply (Some r) left = (f : Frozen) → reply ≡ frozen_line k r f → IsDueWithin members d (batches s.history) r f left
+FreezePace members d s k reply (Some r) left = by r.request
+  where
+    by : ReadSet → Type 0
+    by (one_query q) = (f : Frozen) → reply ≡ frozen_line k r f → IsDueWithin members d (batches s.history) q f left
+    by (queries qs) = Unit {0}
 
 -- what the readings have left behind an event that printed this reply: a slice that was unfinished takes its budget off, which they had left
 abbrev pub Pace : MembersOf → DueOf → State → ℕ → Event → List ℕ → State → Left → Left → Type 0

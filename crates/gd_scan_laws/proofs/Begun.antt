@@ -1,15 +1,15 @@
--- A reading that has settled nothing owes the reply to its query, where the template of the query stands for it.
+-- A reading that has settled nothing owes the answer to its query, where the template of the query stands for it.
 use Rattle.std.proofs.Common.{◌≡◌, ◌↔◌, ℕ, List, [], Bool, Option, map, sym, ◌∙◌}
 use Rattle.gd_prim.specs.declared.Primitive.{Primitive}
 use Rattle.gd_prim.specs.Live.{objects, is_object}
 use Rattle.gd_defs.specs.Asked.{Asked}
 use Rattle.gd_defs.specs.Rows.{meets_given, candidates}
-use Rattle.gd_defs.specs.Reply.{Mark, asked_line}
+use Rattle.gd_defs.specs.Reply.{Mark, asked_answer}
 use Rattle.gd_defs.specs.Template.{passes_template}
 use Rattle.gd_defs.specs.Plan.{template_of}
 use Rattle.gd_bytes.specs.Frozen.{scanning}
 use Rattle.gd_runs.specs.Scanned.{scan_order}
-use Rattle.gd_runs.specs.Thawed.{body_line}
+use Rattle.gd_runs.specs.Thawed.{body_answer}
 use Rattle.gd_order_laws.specs.Window.{In}
 use Rattle.gd_order_laws.proofs.Sorted.{In-filter, In-filtered}
 use Rattle.gd_scan_laws.specs.Ordered.{start, scanned}
@@ -34,7 +34,7 @@ scanned_is prims q planned o = (there, back)
         In-filtered (passes_template prims (template_of q)) (map (λ c. c.1) (scan_order prims q)) o (scanned_all prims q o here)
         (planned.passes o ∙ true_both (is_object prims o) (meets_given prims q.members 0 o) (object_is prims o both.0) both.1)
 
-pub begun_replies : (prims : List Primitive) (q : Asked) → Planned prims q → (dateline k : ℕ) (with_cursor : Bool) (after : Option Mark)
-    → body_line prims q (scan_order prims q) dateline k with_cursor after [] (scanning start) ≡ asked_line prims dateline k with_cursor after q
-begun_replies prims q planned dateline k with_cursor after =
-    start_replies prims q planned (scan_order prims q) (scanned_apart prims q) (scanned_is prims q planned) dateline k with_cursor after
+pub begun_replies : (prims : List Primitive) (q : Asked) → Planned prims q → (dateline : ℕ) (with_cursor : Bool) (after : Option Mark)
+    → body_answer prims q (scan_order prims q) dateline with_cursor after [] (scanning start) ≡ asked_answer prims dateline with_cursor after q
+begun_replies prims q planned dateline with_cursor after =
+    start_replies prims q planned (scan_order prims q) (scanned_apart prims q) (scanned_is prims q planned) dateline with_cursor after

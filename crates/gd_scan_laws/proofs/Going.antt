@@ -1,7 +1,6 @@
 -- A scan that goes on between candidates owes what it did at its start.
-use Rattle.std.proofs.Common.{◌≡◌, ⊎_elim, ℕ, zero, suc, ◌+◌, ◌<◌, ◌≤◌, List, [], ◌∷◌, ◌++◌, Bool, true, false, cond, Option, None, Some, Ok, length, take, map, filter, refl, sym, ap, ◌∙◌, arith}
+use Rattle.std.proofs.Common.{◌≡◌, ⊎_elim, ℕ, zero, suc, ◌+◌, ◌<◌, ◌≤◌, List, [], ◌∷◌, ◌++◌, Bool, true, false, cond, Option, None, Some, Ok, length, take, map, filter, refl, sym, ap, ◌∙◌, arith, Err}
 use Rattle.std.specs.Prelude.{nat_le, nat_lt, ◌&&◌, ◌||◌, not, if◌then◌else◌, codes, slice_get}
-use Rattle.std.specs.Cmp.{both_ways}
 use Rattle.std.specs.List.{list_any, list_all}
 use Rattle.std.specs.Ordering.{nat_cmp, is_lt}
 use Rattle.std.proofs.lemmas.Bool.{le-leb, ltb-true, lt-ltb}
@@ -11,9 +10,9 @@ use Rattle.gd_prim.specs.declared.Primitive.{Primitive}
 use Rattle.gd_prim.specs.Live.{is_live, is_current, passes_at}
 use Rattle.gd_list_laws.proofs.Fronts.{take_longer, more_than}
 use Rattle.gd_defs.specs.Asked.{Asked}
-use Rattle.gd_defs.specs.Lines.{too_wide, refused_at, err_line, count_json}
+use Rattle.gd_defs.specs.Lines.{too_wide, refused_at, count_json}
 use Rattle.gd_defs.specs.Plan.{template_of}
-use Rattle.gd_defs.specs.Reply.{Mark, mark_row, row_mark, page_cursor, result_line, max_candidate_weight, max_page_weight}
+use Rattle.gd_defs.specs.Reply.{Mark, mark_row, row_mark, page_cursor, max_candidate_weight, max_page_weight, Answer, page_answer}
 use Rattle.gd_defs.specs.Rows.{Row, row_of, row_cmp}
 use Rattle.gd_defs.specs.Template.{Template, template, passes_template, is_answer, meets_constraints, meets_clauses, holds}
 use Rattle.gd_runs.specs.Owed.{ScanOrder, Candidate, candidate, candidates_from, weighs_too_much}
@@ -22,10 +21,10 @@ use Rattle.gd_runs.specs.Thawed.{window, answering, built_trees, built_weight, r
 use Rattle.gd_order_laws.specs.Window.{In, Each, Apart}
 use Rattle.gd_order_laws.proofs.Rows.{In-map, apart_rows}
 use Rattle.gd_order_laws.proofs.Sorted.{Apart-filter, In-filter, In-sorted}
-use Rattle.gd_scan_laws.specs.Ordered.{start, settled, scan_line, scanned}
+use Rattle.gd_scan_laws.specs.Ordered.{start, settled, scan_answer, scanned}
 use Rattle.gd_scan_laws.proofs.Objects.{both_true, passes_there}
 use Rattle.gd_scan_laws.proofs.Settled.{first_of_window, marks_again, In-take}
-use Rattle.gd_scan_laws.proofs.Start.{any_append, any_map, answer_rows, answers_first, line_by, heavy_by, heavy_line, start_line}
+use Rattle.gd_scan_laws.proofs.Start.{any_append, any_map, answer_rows, answers_first, answer_by, heavy_by, heavy_answer, start_answer}
 
 module _ {A : Type 0} where
   map_append : {B : Type 0} (f : A → B) (xs ys : List A) → map f (xs ++ ys) ≡ map f xs ++ map f ys
@@ -96,41 +95,41 @@ module _ (prims : List Primitive) (q : Asked) where
           let at = passes_there (λ p. p.live) prims o placed.0 in
           got prims o at.0 at.1
 
-  module _ (dateline k : ℕ) (with_cursor : Bool) (after : Option Mark) where
-    -- a line by the page, and by whether there are two rows and whether more follow
-    abbrev line_of : Bool → List Row → Bool → Bool → List ℕ
-    line_of heavy page two more =
-        if heavy || list_any weighs_too_much (row_candidates prims q 0 page) then err_line dateline k (too_wide (max_candidate_weight + 1))
-        else if not q.count && nat_lt max_page_weight (built_weight (row_candidates prims q 0 page)) then err_line dateline k (too_wide (max_page_weight + 1))
-        else if q.single && two then err_line dateline k (refused_at (codes "NotUnique") [])
-        else result_line dateline k (if with_cursor then Some (page_cursor dateline page more) else None)
+  module _ (dateline : ℕ) (with_cursor : Bool) (after : Option Mark) where
+    -- an answer by the page, and by whether there are two rows and whether more follow
+    abbrev answer_of : Bool → List Row → Bool → Bool → Answer
+    answer_of heavy page two more =
+        if heavy || list_any weighs_too_much (row_candidates prims q 0 page) then Err (too_wide (max_candidate_weight + 1))
+        else if not q.count && nat_lt max_page_weight (built_weight (row_candidates prims q 0 page)) then Err (too_wide (max_page_weight + 1))
+        else if q.single && two then Err (refused_at (codes "NotUnique") [])
+        else page_answer (if with_cursor then Some (page_cursor dateline page more) else None)
         (if q.count then Ok (count_json (length page)) else page_shape prims q (built_trees (row_candidates prims q 0 page)) [])
 
-    -- a line hangs on the first rows alone, one more than a page has
-    first_rows : 0 < q.limit → (heavy : Bool) (offered : List Row) → line_by prims q dateline k with_cursor after heavy offered
-        ≡ line_of heavy (take q.limit (take (suc q.limit) offered)) (nat_lt 1 (length (take (suc q.limit) offered))) (nat_lt q.limit (length (take (suc q.limit) offered)))
+    -- an answer hangs on the first rows alone, one more than a page has
+    first_rows : 0 < q.limit → (heavy : Bool) (offered : List Row) → answer_by prims q dateline with_cursor after heavy offered
+        ≡ answer_of heavy (take q.limit (take (suc q.limit) offered)) (nat_lt 1 (length (take (suc q.limit) offered))) (nat_lt q.limit (length (take (suc q.limit) offered)))
     first_rows some heavy offered =
-        ap (λ page. line_of heavy page (nat_lt 1 (length offered)) (nat_lt q.limit (length offered))) (sym (take_longer q.limit offered))
-        ∙ (ap (λ two. line_of heavy (take q.limit (take (suc q.limit) offered)) two (nat_lt q.limit (length offered))) (sym (more_than 1 (suc q.limit) offered (omega (arith, some))))
-        ∙ ap (line_of heavy (take q.limit (take (suc q.limit) offered)) (nat_lt 1 (length (take (suc q.limit) offered)))) (sym (more_than q.limit (suc q.limit) offered (omega arith))))
+        ap (λ page. answer_of heavy page (nat_lt 1 (length offered)) (nat_lt q.limit (length offered))) (sym (take_longer q.limit offered))
+        ∙ (ap (λ two. answer_of heavy (take q.limit (take (suc q.limit) offered)) two (nat_lt q.limit (length offered))) (sym (more_than 1 (suc q.limit) offered (omega (arith, some))))
+        ∙ ap (answer_of heavy (take q.limit (take (suc q.limit) offered)) (nat_lt 1 (length (take (suc q.limit) offered)))) (sym (more_than q.limit (suc q.limit) offered (omega arith))))
 
-    same_first : 0 < q.limit → (heavy : Bool) (one two : List Row) → take (suc q.limit) one ≡ take (suc q.limit) two → line_by prims q dateline k with_cursor after heavy one ≡ line_by prims q dateline k with_cursor after heavy two
+    same_first : 0 < q.limit → (heavy : Bool) (one two : List Row) → take (suc q.limit) one ≡ take (suc q.limit) two → answer_by prims q dateline with_cursor after heavy one ≡ answer_by prims q dateline with_cursor after heavy two
     same_first some heavy one two same =
         first_rows some heavy one
-        ∙ (ap (λ l. line_of heavy (take q.limit l) (nat_lt 1 (length l)) (nat_lt q.limit (length l))) same ∙ sym (first_rows some heavy two))
+        ∙ (ap (λ l. answer_of heavy (take q.limit l) (nat_lt 1 (length l)) (nat_lt q.limit (length l))) same ∙ sym (first_rows some heavy two))
 
     -- a scan that has settled the places before one, of which no candidate weighs too much, and keeps their best rows
     pub going_on : (from : ℕ) (before behind : ScanOrder) → Each (λ c. c.0 < from) before → Each (λ c. from ≤ c.0) behind → list_any (λ p. weighs_too_much (candidate prims (template_of q) p)) (scanned prims q before) ≡ false
         → Apart nat_cmp (scanned prims q before) → 0 < q.limit
-        → scan_line prims q (before ++ behind) dateline k with_cursor after (map row_mark (kept_rows after before)) (settled from) ≡ scan_line prims q (before ++ behind) dateline k with_cursor after [] start
+        → scan_answer prims q (before ++ behind) dateline with_cursor after (map row_mark (kept_rows after before)) (settled from) ≡ scan_answer prims q (before ++ behind) dateline with_cursor after [] start
     going_on from before behind below above light once some =
-        ap (λ cs. heavy_by prims q dateline k with_cursor after cs (window prims q after (map (mark_row prims q.sort) (map row_mark (kept_rows after before)) ++ map (row_of prims q.sort 0) (answering cs)))) (before_none prims plan from before behind below ∙ behind_all prims plan from behind above)
-        ∙ (ap (λ l. heavy_by prims q dateline k with_cursor after later (window prims q after (l ++ map (row_of prims q.sort 0) (answering later)))) (marks_again prims q (kept_rows after before) (known after before))
-        ∙ (ap (λ ps. heavy_by prims q dateline k with_cursor after later (window prims q after (kept_rows after before ++ map (row_of prims q.sort 0) ps))) (answers_first prims plan (scanned prims q behind))
-        ∙ (heavy_line prims q dateline k with_cursor after later (window prims q after (kept_rows after before ++ answer_rows prims q (scanned prims q behind)))
-        ∙ (ap (λ b. line_by prims q dateline k with_cursor after b (window prims q after (kept_rows after before ++ answer_rows prims q (scanned prims q behind)))) heavy_is
+        ap (λ cs. heavy_by prims q dateline with_cursor after cs (window prims q after (map (mark_row prims q.sort) (map row_mark (kept_rows after before)) ++ map (row_of prims q.sort 0) (answering cs)))) (before_none prims plan from before behind below ∙ behind_all prims plan from behind above)
+        ∙ (ap (λ l. heavy_by prims q dateline with_cursor after later (window prims q after (l ++ map (row_of prims q.sort 0) (answering later)))) (marks_again prims q (kept_rows after before) (known after before))
+        ∙ (ap (λ ps. heavy_by prims q dateline with_cursor after later (window prims q after (kept_rows after before ++ map (row_of prims q.sort 0) ps))) (answers_first prims plan (scanned prims q behind))
+        ∙ (heavy_answer prims q dateline with_cursor after later (window prims q after (kept_rows after before ++ answer_rows prims q (scanned prims q behind)))
+        ∙ (ap (λ b. answer_by prims q dateline with_cursor after b (window prims q after (kept_rows after before ++ answer_rows prims q (scanned prims q behind)))) heavy_is
         ∙ (same_first some (list_any heavy (scanned prims q (before ++ behind))) (window prims q after (kept_rows after before ++ answer_rows prims q (scanned prims q behind))) (window prims q after (answer_rows prims q (scanned prims q (before ++ behind)))) rows_are
-        ∙ sym (start_line prims q dateline k with_cursor after (before ++ behind)))))))
+        ∙ sym (start_answer prims q dateline with_cursor after (before ++ behind)))))))
       where
         plan : Template
         plan = template_of q

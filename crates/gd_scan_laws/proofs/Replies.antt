@@ -1,4 +1,4 @@
--- A reading owes at its start the reply to its query.
+-- A reading owes at its start the answer to its query.
 use Rattle.std.proofs.Common.{◌≡◌, ◌↔◌, inl, inr, ℕ, zero, suc, ◌+◌, List, [], ◌∷◌, Bool, true, false, cond, Option, None, Some, Result, Ok, Err, length, take, drop, map, filter, refl, sym, ap, subst, ◌∙◌}
 use Rattle.std.specs.Prelude.{nat_lt, ◌&&◌, ◌||◌, not, if◌then◌else◌, is_some, sum_by, codes}
 use Rattle.std.specs.List.{list_any}
@@ -11,8 +11,8 @@ use Rattle.gd_tree.specs.Json.{Json, object, Items, item, Members as JsonMembers
 use Rattle.gd_grammar.specs.Chain.{◌>>=◌}
 use Rattle.gd_defs.specs.Asked.{Asked}
 use Rattle.gd_defs.specs.Rows.{Row, row_of, row_cmp, rows, meets, meets_given, candidates, row_weight}
-use Rattle.gd_defs.specs.Lines.{refused_at, too_wide, err_line, count_json}
-use Rattle.gd_defs.specs.Reply.{Mark, Path, mark_row, rows_after, page, has_more, page_cursor, object_json, each_row, as_list, is_ambiguous, result_line, has_heavy_candidate, max_candidate_weight, max_page_weight, asked_line}
+use Rattle.gd_defs.specs.Lines.{refused_at, too_wide, count_json}
+use Rattle.gd_defs.specs.Reply.{Mark, Path, mark_row, rows_after, page, has_more, page_cursor, object_json, each_row, as_list, is_ambiguous, has_heavy_candidate, max_candidate_weight, max_page_weight, Answer, page_answer, asked_answer}
 use Rattle.gd_defs.specs.Template.{Template, passes_template, is_answer, tree_of, weight}
 use Rattle.gd_defs.specs.Plan.{template_of}
 use Rattle.gd_runs.specs.Owed.{ScanOrder, Candidate, candidate, weighs_too_much}
@@ -22,11 +22,11 @@ use Rattle.gd_order_laws.specs.Window.{In, Each, Apart}
 use Rattle.gd_order_laws.proofs.Keys.{row_total}
 use Rattle.gd_order_laws.proofs.Sorted.{Apart-filter, Each-filter, Each-member, Each-from_members, In-filter, In-filtered, sorted-filter}
 use Rattle.gd_order_laws.proofs.Rows.{meeting, of_objects, In-map, In-mapped, apart_rows, apart_objects, row_known}
-use Rattle.gd_scan_laws.specs.Ordered.{start, scan_line, scanned}
+use Rattle.gd_scan_laws.specs.Ordered.{start, scan_answer, scanned}
 use Rattle.gd_scan_laws.specs.Planned.{Planned}
 use Rattle.gd_template_laws.proofs.Results.{answer-passes}
 use Rattle.gd_scan_laws.proofs.Objects.{both_true, true_both, object_is, is_object_in}
-use Rattle.gd_scan_laws.proofs.Start.{same_any, answer_rows, window_alike, line_by, start_line}
+use Rattle.gd_scan_laws.proofs.Start.{same_any, answer_rows, window_alike, answer_by, start_answer}
 
 -- ---- lists
 
@@ -191,9 +191,9 @@ module _ (prims : List Primitive) (q : Asked) (planned : Planned prims q) (order
       by false (Err e) = refl
       by false (Ok l) = refl
 
-  -- ---- the line
+  -- ---- the answer
 
-  module _ (dateline k : ℕ) (with_cursor : Bool) (after : Option Mark) where
+  module _ (dateline : ℕ) (with_cursor : Bool) (after : Option Mark) where
     abbrev here : List Row
     here = rows_after prims q after
 
@@ -204,7 +204,7 @@ module _ (prims : List Primitive) (q : Asked) (planned : Planned prims q) (order
     cursor = if with_cursor then Some (page_cursor dateline (page prims q after) (has_more prims q after)) else None
 
     -- a result, or the refusal of two answers
-    refused : (b : Bool) (r : Result Json Path) → (if b then err_line dateline k (refused_at (codes "NotUnique") []) else result_line dateline k cursor r) ≡ result_line dateline k cursor (if b then Err [] else r)
+    refused : (b : Bool) (r : Result Json Path) → (if b then Err (refused_at (codes "NotUnique") []) else page_answer cursor r) ≡ page_answer cursor (if b then Err [] else r)
     refused true r = refl
     refused false r = refl
 
@@ -212,53 +212,53 @@ module _ (prims : List Primitive) (q : Asked) (planned : Planned prims q) (order
     built c = if c then [] else map (candidate prims plan) (filter (passes_template prims plan) (map (λ r. r.object) (drop 0 (page prims q after))))
 
     -- what is owed behind the weights of candidates, for a count or not
-    abbrev owed : Bool → List ℕ
-    owed c = if list_any weighs_too_much (built c) then err_line dateline k (too_wide (max_candidate_weight + 1))
-        else if not c && nat_lt max_page_weight (built_weight (built c)) then err_line dateline k (too_wide (max_page_weight + 1))
-        else if q.single && nat_lt 1 (length here) then err_line dateline k (refused_at (codes "NotUnique") [])
-        else result_line dateline k cursor (if c then Ok (count_json (length (page prims q after))) else page_shape prims q (built_trees (built c)) [])
+    abbrev owed : Bool → Answer
+    owed c = if list_any weighs_too_much (built c) then Err (too_wide (max_candidate_weight + 1))
+        else if not c && nat_lt max_page_weight (built_weight (built c)) then Err (too_wide (max_page_weight + 1))
+        else if q.single && nat_lt 1 (length here) then Err (refused_at (codes "NotUnique") [])
+        else page_answer cursor (if c then Ok (count_json (length (page prims q after))) else page_shape prims q (built_trees (built c)) [])
 
-    abbrev replied : Bool → List ℕ
-    replied c = if not c && nat_lt max_page_weight (sum_by (λ r. row_weight prims q r.object) (page prims q after)) then err_line dateline k (too_wide (max_page_weight + 1))
-        else result_line dateline k cursor (if is_ambiguous q.single (length here) then Err []
+    abbrev replied : Bool → Answer
+    replied c = if not c && nat_lt max_page_weight (sum_by (λ r. row_weight prims q r.object) (page prims q after)) then Err (too_wide (max_page_weight + 1))
+        else page_answer cursor (if is_ambiguous q.single (length here) then Err []
         else if c then Ok (count_json (length (page prims q after)))
         else as_list q.listed (each_row row_json (page prims q after)))
 
-    single_line : (r : Result Json Path) → (if q.single && nat_lt 1 (length here) then err_line dateline k (refused_at (codes "NotUnique") []) else result_line dateline k cursor r)
-        ≡ result_line dateline k cursor (if is_ambiguous q.single (length here) then Err [] else r)
-    single_line r = refused (q.single && nat_lt 1 (length here)) r
+    single_answer : (r : Result Json Path) → (if q.single && nat_lt 1 (length here) then Err (refused_at (codes "NotUnique") []) else page_answer cursor r)
+        ≡ page_answer cursor (if is_ambiguous q.single (length here) then Err [] else r)
+    single_answer r = refused (q.single && nat_lt 1 (length here)) r
 
-    abbrev owed_of : List Candidate → List ℕ
-    owed_of cs = if list_any weighs_too_much cs then err_line dateline k (too_wide (max_candidate_weight + 1))
-        else if nat_lt max_page_weight (built_weight cs) then err_line dateline k (too_wide (max_page_weight + 1))
-        else if q.single && nat_lt 1 (length here) then err_line dateline k (refused_at (codes "NotUnique") [])
-        else result_line dateline k cursor (page_shape prims q (built_trees cs) [])
+    abbrev owed_of : List Candidate → Answer
+    owed_of cs = if list_any weighs_too_much cs then Err (too_wide (max_candidate_weight + 1))
+        else if nat_lt max_page_weight (built_weight cs) then Err (too_wide (max_page_weight + 1))
+        else if q.single && nat_lt 1 (length here) then Err (refused_at (codes "NotUnique") [])
+        else page_answer cursor (page_shape prims q (built_trees cs) [])
 
-    abbrev owed_by_page : Bool → ℕ → Result Json Path → List ℕ
-    owed_by_page heavy w r = if heavy then err_line dateline k (too_wide (max_candidate_weight + 1))
-        else if nat_lt max_page_weight w then err_line dateline k (too_wide (max_page_weight + 1))
-        else if q.single && nat_lt 1 (length here) then err_line dateline k (refused_at (codes "NotUnique") [])
-        else result_line dateline k cursor r
+    abbrev owed_by_page : Bool → ℕ → Result Json Path → Answer
+    owed_by_page heavy w r = if heavy then Err (too_wide (max_candidate_weight + 1))
+        else if nat_lt max_page_weight w then Err (too_wide (max_page_weight + 1))
+        else if q.single && nat_lt 1 (length here) then Err (refused_at (codes "NotUnique") [])
+        else page_answer cursor r
 
-    line_is : (c : Bool) → list_any (λ p. weighs_too_much (candidate prims plan p)) (scanned prims q order) ≡ false → owed c ≡ replied c
-    line_is true none = single_line (Ok (count_json (length (page prims q after))))
-    line_is false none =
+    answer_is : (c : Bool) → list_any (λ p. weighs_too_much (candidate prims plan p)) (scanned prims q order) ≡ false → owed c ≡ replied c
+    answer_is true none = single_answer (Ok (count_json (length (page prims q after))))
+    answer_is false none =
         ap (λ os. owed_of (map (candidate prims plan) os)) (all_pass (page prims q after) known_page)
         ∙ (ap (λ b. owed_by_page b (built_weight (of_page (page prims q after))) (page_shape prims q (built_trees (of_page (page prims q after))) [])) (none_heavy (page prims q after) known_page none)
         ∙ (ap (λ w. owed_by_page false w (page_shape prims q (built_trees (of_page (page prims q after))) [])) (weight_is (page prims q after) known_page)
         ∙ (ap (λ ts. owed_by_page false (sum_by (λ r. row_weight prims q r.object) (page prims q after)) (page_shape prims q ts [])) (trees_are (page prims q after) known_page)
         ∙ (ap (owed_by_page false (sum_by (λ r. row_weight prims q r.object) (page prims q after))) (page_prints (page prims q after) known_page)
-        ∙ ap (λ l. if nat_lt max_page_weight (sum_by (λ r. row_weight prims q r.object) (page prims q after)) then err_line dateline k (too_wide (max_page_weight + 1)) else l) (single_line (as_list q.listed (each_row row_json (page prims q after))))))))
+        ∙ ap (λ l. if nat_lt max_page_weight (sum_by (λ r. row_weight prims q r.object) (page prims q after)) then Err (too_wide (max_page_weight + 1)) else l) (single_answer (as_list q.listed (each_row row_json (page prims q after))))))))
 
     both_heavy : (b : Bool) → list_any (λ p. weighs_too_much (candidate prims plan p)) (scanned prims q order) ≡ b
-        → line_by prims q dateline k with_cursor after b here ≡ (if b then err_line dateline k (too_wide (max_candidate_weight + 1)) else replied q.count)
+        → answer_by prims q dateline with_cursor after b here ≡ (if b then Err (too_wide (max_candidate_weight + 1)) else replied q.count)
     both_heavy true is = refl
-    both_heavy false is = line_is q.count is
+    both_heavy false is = answer_is q.count is
 
-    -- a scan that has settled nothing owes the reply, in each order in which each candidate comes once
-    pub start_replies : scan_line prims q order dateline k with_cursor after [] start ≡ asked_line prims dateline k with_cursor after q
+    -- a scan that has settled nothing owes the answer, in each order in which each candidate comes once
+    pub start_replies : scan_answer prims q order dateline with_cursor after [] start ≡ asked_answer prims dateline with_cursor after q
     start_replies =
-        start_line prims q dateline k with_cursor after order
-        ∙ (ap (line_by prims q dateline k with_cursor after (list_any (λ p. weighs_too_much (candidate prims plan p)) (scanned prims q order))) (offered_is after)
+        start_answer prims q dateline with_cursor after order
+        ∙ (ap (answer_by prims q dateline with_cursor after (list_any (λ p. weighs_too_much (candidate prims plan p)) (scanned prims q order))) (offered_is after)
         ∙ (both_heavy (list_any (λ p. weighs_too_much (candidate prims plan p)) (scanned prims q order)) refl
-        ∙ ap (λ b. if b then err_line dateline k (too_wide (max_candidate_weight + 1)) else replied q.count) heavy_is))
+        ∙ ap (λ b. if b then Err (too_wide (max_candidate_weight + 1)) else replied q.count) heavy_is))

@@ -6,26 +6,26 @@ use Rattle.gd_prim.specs.declared.Primitive.{Primitive}
 use Rattle.gd_defs.specs.Query.{Query}
 use Rattle.gd_defs.specs.Asked.{Asked, asked_query}
 use Rattle.gd_defs.specs.Rows.{Row, row_of, candidates}
-use Rattle.gd_defs.specs.Reply.{Mark, row_mark, reply}
+use Rattle.gd_defs.specs.Reply.{Mark, row_mark, answer}
 use Rattle.gd_defs.specs.Template.{is_answer}
 use Rattle.gd_defs.specs.Plan.{template_of}
 use Rattle.gd_bytes.specs.Frozen.{scanning}
 use Rattle.gd_runs.specs.Owed.{ScanOrder, candidate, weighs_too_much}
 use Rattle.gd_runs.specs.Scanned.{scan_order}
-use Rattle.gd_runs.specs.Thawed.{body_line, window}
+use Rattle.gd_runs.specs.Thawed.{body_answer, window}
 use Rattle.gd_order_laws.specs.Window.{In, Each, Apart, Rising}
 use Rattle.gd_template_laws.specs.Laws.{AreHeld}
-use Rattle.gd_scan_laws.specs.Ordered.{start, settled, scan_line, scanned}
+use Rattle.gd_scan_laws.specs.Ordered.{start, settled, scan_answer, scanned}
 
--- A reading that has settled nothing and keeps no rows owes the reply to its query, with or without a cursor, from the start or behind a mark.
+-- A reading that has settled nothing and keeps no rows owes the answer to its query, with or without a cursor, from the start or behind a mark.
 abbrev pub ReadingsOwe : Type 0
-ReadingsOwe = (prims : List Primitive) (written : Query) (q : Asked) → AreHeld prims → asked_query prims written ≡ Ok q → (dateline k : ℕ) (with_cursor : Bool) (after : Option Mark)
-    → body_line prims q (scan_order prims q) dateline k with_cursor after [] (scanning start) ≡ reply prims dateline k with_cursor after written
+ReadingsOwe = (prims : List Primitive) (written : Query) (q : Asked) → AreHeld prims → asked_query prims written ≡ Ok q → (dateline : ℕ) (with_cursor : Bool) (after : Option Mark)
+    → body_answer prims q (scan_order prims q) dateline with_cursor after [] (scanning start) ≡ answer prims dateline with_cursor after written
 
 -- What is owed at the start does not depend on the order of the scan, where each candidate comes once.
 abbrev pub AnyOrder : Type 0
 AnyOrder = (prims : List Primitive) (q : Asked) (one two : ScanOrder) → Apart nat_cmp (scanned prims q one) → Apart nat_cmp (scanned prims q two) → ((p : ℕ) → In p (scanned prims q one) ↔ In p (scanned prims q two))
-    → (dateline k : ℕ) (with_cursor : Bool) (after : Option Mark) → scan_line prims q one dateline k with_cursor after [] start ≡ scan_line prims q two dateline k with_cursor after [] start
+    → (dateline : ℕ) (with_cursor : Bool) (after : Option Mark) → scan_answer prims q one dateline with_cursor after [] start ≡ scan_answer prims q two dateline with_cursor after [] start
 
 -- an order walks rising places, has each candidate of a query, and none that passes twice
 pub record HasAll (prims : List Primitive) (q : Asked) (order : ScanOrder) : Type 0 where
@@ -45,5 +45,5 @@ kept prims q after before = take (suc q.limit) (window prims q after (map (row_o
 abbrev pub ScansGoOn : Type 0
 ScansGoOn = (prims : List Primitive) (q : Asked) (from : ℕ) (before behind : ScanOrder) → Each (λ c. c.0 < from) before → Each (λ c. from ≤ c.0) behind
     → list_any (λ p. weighs_too_much (candidate prims (template_of q) p)) (scanned prims q before) ≡ false → Apart nat_cmp (scanned prims q before) → 0 < q.limit
-    → (dateline k : ℕ) (with_cursor : Bool) (after : Option Mark)
-    → scan_line prims q (before ++ behind) dateline k with_cursor after (map row_mark (kept prims q after before)) (settled from) ≡ scan_line prims q (before ++ behind) dateline k with_cursor after [] start
+    → (dateline : ℕ) (with_cursor : Bool) (after : Option Mark)
+    → scan_answer prims q (before ++ behind) dateline with_cursor after (map row_mark (kept prims q after before)) (settled from) ≡ scan_answer prims q (before ++ behind) dateline with_cursor after [] start

@@ -4,7 +4,7 @@
 
 ghost use Rattle.gd_scan_laws.specs.Laws.{AnyOrder, OrdersHaveAll, ReadingsOwe, ScansGoOn};
 
-/// A reading that has settled nothing owes the reply to its query.
+/// A reading that has settled nothing owes the answer to its query.
 pub fn readings_owe()
     ensures { ReadingsOwe }
 {}

@@ -2,7 +2,7 @@
 use Rattle.std.proofs.Common.{◌≡◌, ℕ, List, [], Result, Ok, Err, refl, sym, subst, arith, append-nil}
 use mathlib.Core.List.{IsPrefix}
 use Rattle.gd_prim.specs.declared.Batch.{Batch}
-use Rattle.gd_runs.specs.Request.{ReadRequest}
+use Rattle.gd_runs.specs.Request.{ReadSet}
 use Rattle.gd_shared.specs.Shared.{SeatValue, EnteredValue}
 use Rattle.gd_read.specs.declared.reading.Progress.{Progress}
 use Rattle.gd_read.specs.declared.reading.Progress.TheVariants.{Reply, Unfinished}
@@ -54,7 +54,7 @@ later_met old new (Ok a) met = later_entered old.seat new.seat met.0
 later_met old new (Err (Read f)) met = absurd met
 later_met old new (Err Shut) met = later_turned old new met
 
-pub later_begun : (old new : SessionValue) (r : ReadRequest) (result : Result ℕ SessionFault) → BeginsAs old new r result → IsLater old.seat new.seat
+pub later_begun : (old new : SessionValue) (r : ReadSet) (result : Result ℕ SessionFault) → BeginsAs old new r result → IsLater old.seat new.seat
 later_begun old new r (Ok n) begins = later_entered old.seat new.seat begins.0
 later_begun old new r (Err (Read f)) begins = later_entered old.seat new.seat begins.0
 later_begun old new r (Err Shut) begins = later_turned old new begins

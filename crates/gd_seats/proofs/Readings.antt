@@ -5,7 +5,7 @@ use mathlib.Core.List.{IsPrefix}
 use Rattle.gd_base.specs.declared.memory.Memory.{Memory}
 use Rattle.gd_prim.specs.declared.Batch.{Batch}
 use Rattle.gd_runs.specs.Core as core
-use Rattle.gd_runs.specs.Request.{ReadRequest}
+use Rattle.gd_runs.specs.Request.{ReadSet}
 use Rattle.gd_shared.specs.Shared.{SeatValue}
 use Rattle.gd_read.specs.Left.{reading_left}
 use Rattle.gd_read.specs.Reading.{reading_view}
@@ -42,7 +42,7 @@ left_within n held bs cs begins holds = by held.reading refl
 same_number : (a b : ℕ) → Some a ≡ Some b → a ≡ b
 same_number a b is = cc
 
-pub has_begun : (new : SeatValue) (bs : List Batch) (request : ReadRequest) (held : SessionState) (n : ℕ) → bs ≡ new.entered → state.HasBegun bs (length bs) request held → option_map (λ r. r.dateline) (state.reads held) ≡ Some n
+pub has_begun : (new : SeatValue) (bs : List Batch) (request : ReadSet) (held : SessionState) (n : ℕ) → bs ≡ new.entered → state.HasBegun bs (length bs) request held → option_map (λ r. r.dateline) (state.reads held) ≡ Some n
     → HasBegun (record { seat = new; held = held.reading }) request n
 has_begun new bs request held n is begins at =
     let same : n ≡ begins.begun.dateline = same_number n begins.begun.dateline (sym at ∙ ap (option_map (λ r. r.dateline)) begins.held) in
@@ -55,7 +55,7 @@ has_begun new bs request held n is begins at =
     }
 
 -- or is refused there
-pub is_refused : (new : SeatValue) (bs : List Batch) (request : ReadRequest) (f : ReadFault) → bs ≡ new.entered → state.IsRefused bs (length bs) request f → IsRefused (record { seat = new; held = None }) request f
+pub is_refused : (new : SeatValue) (bs : List Batch) (request : ReadSet) (f : ReadFault) → bs ≡ new.entered → state.IsRefused bs (length bs) request f → IsRefused (record { seat = new; held = None }) request f
 is_refused new bs request f is refused = subst (λ l. state.IsRefused l (length l) request f → IsRefused (record { seat = new; held = None }) request f) (sym is) (λ there. record { of = there.of; offset = there.offset; none = refl }) refused
 
 -- ---- a slice over it

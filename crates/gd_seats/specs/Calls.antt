@@ -3,7 +3,7 @@ use Rattle.std.specs.Prelude.{◌≡◌, ◌≢◌, ℕ, ◌≤◌, List, length
 use mathlib.Core.List.{IsPrefix}
 use Rattle.gd_base.specs.Counts.{Rose}
 use Rattle.gd_runs.specs.Core as core
-use Rattle.gd_runs.specs.Request.{ReadRequest}
+use Rattle.gd_runs.specs.Request.{ReadSet}
 use Rattle.gd_shared.specs.Shared.{SeatValue, one_more}
 use Rattle.gd_read.specs.Begun.{fault_at, HasOffset}
 use Rattle.gd_read.specs.declared.fault.ReadFault.{ReadFault}
@@ -41,7 +41,7 @@ pub record WasTurnedAway (old new : SessionValue) : Type 0 where
 -- ---- readings
 
 -- a session reads what the definitions say for a request over the list that it entered, at this dateline
-pub record HasBegun (new : SessionValue) (request : ReadRequest) (n : ℕ) : Type 0 where
+pub record HasBegun (new : SessionValue) (request : ReadSet) (n : ℕ) : Type 0 where
   pub begun : core.Reading
   pub of : core.reading_of new.seat.entered (length new.seat.entered) request ≡ Ok begun
   pub held : reads new ≡ Some begun
@@ -49,7 +49,7 @@ pub record HasBegun (new : SessionValue) (request : ReadRequest) (n : ℕ) : Typ
   pub below : n ≤ length new.seat.entered
 
 -- a request is refused as the definitions say over the list that was entered, or there was no memory, and nothing is read
-pub record IsRefused (new : SessionValue) (request : ReadRequest) (f : ReadFault) : Type 0 where
+pub record IsRefused (new : SessionValue) (request : ReadSet) (f : ReadFault) : Type 0 where
   pub of : f ≢ read_fault.Memory → core.reading_of new.seat.entered (length new.seat.entered) request ≡ Err (fault_at (length new.seat.entered) f)
   pub offset : HasOffset f
   pub none : reads new ≡ None
@@ -62,7 +62,7 @@ pub record HasReplied (old new : SessionValue) (k : ℕ) (reply : List ℕ) : Ty
 -- ---- calls
 
 -- beginning a read gives its dateline, or why it does not begin
-abbrev pub BeginsAs : SessionValue → SessionValue → ReadRequest → Result ℕ SessionFault → Type 0
+abbrev pub BeginsAs : SessionValue → SessionValue → ReadSet → Result ℕ SessionFault → Type 0
 BeginsAs old new request (Ok n) = HasEntered old.seat new.seat × HasBegun new request n
 BeginsAs old new request (Err (Read f)) = HasEntered old.seat new.seat × IsRefused new request f
 BeginsAs old new request (Err Shut) = WasTurnedAway old new

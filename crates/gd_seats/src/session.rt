@@ -2,7 +2,7 @@
 ghost use Rattle.std.specs.Prelude.{◌≡◌, ◌≢◌, ◌+◌, ◌-◌, ◌<◌, ◌≤◌, ◌^◌, ℕ, true, None, Some, length};
 ghost use Rattle.std.specs.Prelude.{max, min, option_map, Ok, Err, IfOk, IfErr, IfSome, MatchBool};
 ghost use mathlib.Core.List.{IsPrefix};
-ghost use Rattle.gd_mql.specs.Requests.{read_view};
+ghost use Rattle.gd_mql.specs.Requests.{read_set_view};
 ghost use Rattle.gd_shared.specs.Shared.{longer};
 ghost use Rattle.gd_read.specs.Left.{IsPastIds};
 ghost use Rattle.gd_read.specs.Reading.{is_unfinished};
@@ -13,7 +13,7 @@ use crate::fault::SessionFault;
 use core::mem::{replace, replace_with};
 use gd_base::memory::Memory;
 use gd_base::steps::Steps;
-use gd_mql::request::ReadRequest;
+use gd_mql::request::ReadSet;
 use gd_read::fault::ReadFault;
 use gd_read::reading::Progress;
 use gd_read::session::SessionState;
@@ -50,7 +50,7 @@ impl Model for Session {
 #[derive(Drop)]
 struct Beginning<L> {
     alloc: Global,
-    request: ReadRequest,
+    request: ReadSet,
     steps: Steps<L>,
 }
 
@@ -83,7 +83,7 @@ fn begin_in<L>(
     beginning: Beginning<L>,
 ) -> (Session, (Steps<L>, Result<u32, SessionFault>))
     requires none { reads session ≡ None }
-    ensures begins { BeginsAs session result.0 (read_view beginning.request) result.1.1 }
+    ensures begins { BeginsAs session result.0 (read_set_view beginning.request) result.1.1 }
     ensures steps { beginning.steps ≤ result.1.0 }
 {
     let Session { seat, state: held } = session;
@@ -243,11 +243,11 @@ impl Session {
     pub fn begin<L>(
         &mut self,
         alloc: Global,
-        request: ReadRequest,
+        request: ReadSet,
         steps: &mut Steps<L>,
     ) -> Result<u32, SessionFault>
         requires none { reads self.old ≡ None }
-        ensures begins { BeginsAs self.old self.new (read_view request) result }
+        ensures begins { BeginsAs self.old self.new (read_set_view request) result }
         ensures later { IsLater self.old.seat self.new.seat }
         ensures steps { steps.old ≤ steps.new }
     {

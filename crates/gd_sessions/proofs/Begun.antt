@@ -3,7 +3,7 @@ use Rattle.std.proofs.Common.{◌≡◌, ◌≢◌, ℕ, List, None, Option, ref
 use Rattle.std.specs.Prelude.{IfSome}
 use Rattle.gd_prim.specs.declared.Batch.{Batch}
 use Rattle.gd_defs.specs.Lines.{err_line}
-use Rattle.gd_runs.specs.Request.{ReadRequest}
+use Rattle.gd_runs.specs.Request.{ReadSet}
 use Rattle.gd_runs.specs.Core.{Reading, said}
 use Rattle.gd_read.specs.Begun.{fault_at}
 use Rattle.gd_read.specs.Session.{reads, HasBegun, IsRefused}
@@ -13,10 +13,10 @@ use Rattle.gd_read.specs.declared.session.SessionState.{SessionState}
 use Rattle.gd_sessions.specs.Sessions.{in_session, BeginsAs}
 
 -- it has begun
-pub tells_begun : (bs : List Batch) (n k : ℕ) (r : ReadRequest) (line : List ℕ) (state : SessionState) → HasBegun bs n r state → IfSome (reads state) (λ x. line ≡ said x.dateline k (codes "begun")) → BeginsAs bs n k r line (in_session n (reads state))
+pub tells_begun : (bs : List Batch) (n k : ℕ) (r : ReadSet) (line : List ℕ) (state : SessionState) → HasBegun bs n r state → IfSome (reads state) (λ x. line ≡ said x.dateline k (codes "begun")) → BeginsAs bs n k r line (in_session n (reads state))
 tells_begun bs n k r line state begins told =
     rw begins.of (subst (λ (o : Option Reading). IfSome o (λ x. line ≡ said x.dateline k (codes "begun"))) begins.held told, ap (in_session n) begins.held)
 
 -- or is refused
-pub tells_refused : (bs : List Batch) (n k : ℕ) (r : ReadRequest) (line : List ℕ) (f : ReadFault) → IsRefused bs n r f → f ≢ read_fault.Memory → line ≡ err_line (fault_at n f).0 k (fault_at n f).1 → BeginsAs bs n k r line (in_session n None)
+pub tells_refused : (bs : List Batch) (n k : ℕ) (r : ReadSet) (line : List ℕ) (f : ReadFault) → IsRefused bs n r f → f ≢ read_fault.Memory → line ≡ err_line (fault_at n f).0 k (fault_at n f).1 → BeginsAs bs n k r line (in_session n None)
 tells_refused bs n k r line f refused some told = rw (refused.of some) (told, refl)

@@ -1,6 +1,7 @@
 -- A store that is opened, or opened again.
-use Rattle.std.proofs.Common.{◌≡◌, ℕ, zero, suc, List, [], ◌∷◌, ◌++◌, length, map, codes, Bool, Option, Some, None, Result, Ok, Err, IfOk, ◌⊎◌, inl, inr, ⊎_elim, refl, sym, ap, subst, ◌∙◌}
+use Rattle.std.proofs.Common.{◌≡◌, ℕ, zero, suc, List, [], ◌∷◌, ◌++◌, length, map, codes, Bool, Option, Some, None, Result, Ok, Err, IfOk, ◌⊎◌, inl, inr, ⊎_elim, refl, sym, ap, subst, ◌∙◌, arith}
 use Rattle.std.specs.Prelude.{get_or}
+use Rattle.std.specs.Option.{is_some}
 use Rattle.std.specs.List.{AllByRecursion}
 use Rattle.gd_base.specs.declared.memory.Memory.{Memory}
 use Rattle.gd_prim.specs.declared.Batch.{Batch}
@@ -9,6 +10,7 @@ use Rattle.gd_reply.specs.declared.reply.Reply.{Reply}
 use Rattle.gd_bytes.specs.File.{groups, joined, StandsFor, MayStandFor}
 use Rattle.gd_runs.specs.Legal.{Entry, History, batches, size}
 use Rattle.gd_runs.specs.Core.{Session, State, opened, said, ReopenStep}
+use Rattle.gd_replay_laws.specs.Built.{ReopenBuilt}
 use Rattle.gd_runs.specs.Side.{doubt_groups}
 use Rattle.gd_writer.specs.Parts.{Tells}
 use Rattle.gd_writer.specs.Side.{SideValue, state_of, KeepsAll, Begins}
@@ -85,21 +87,32 @@ module _ {D C : Type 0} (content : D → Option (List ℕ)) (images : D → List
           let stands : StandsFor file new.history.loaded = begins.means file is in
           loads_again old.history old.doubt file new.history.loaded (keeps.holds file (tells, reads old.log.disk file is)) stands
 
-  pub reopens : Tells (content old.log.disk) → (k : ℕ) (line : List ℕ) → line ≡ said (size new.history) k (codes "reopened") → ReopenStep (state_of old (sessions_of hs)) k line (state_of new (sessions_of held))
-  reopens tells k line is =
+  reopens_told : Tells (content old.log.disk) → (k : ℕ) (line : List ℕ) → line ≡ said (size new.history) k (codes "reopened") → ReopenStep (state_of old (sessions_of hs)) k line (state_of new (sessions_of held))
+  reopens_told tells k line is =
       let opened_as = opens_as (content old.log.disk) given may new held begins all in
       (is, ⊎_elim (λ same. inl (opened_as ∙ ap opened same)) (λ (e, doubt, same). inr (e, doubt, opened_as ∙ ap opened same)) (loads tells))
 
-  pub reopens_ok : Tells (content old.log.disk) → (k requests : ℕ) (result : Result Reply Memory) → requests ≡ size new.history → IfOk result (λ reply. reply_text reply ≡ said requests k (codes "reopened"))
-      → Answers (λ line. ReopenStep (state_of old (sessions_of hs)) k line (state_of new (sessions_of held))) result
-  reopens_ok tells k requests (Ok reply) count told = reopens tells k (reply_text reply) (told ∙ ap (λ (n : ℕ). said n k (codes "reopened")) count)
-  reopens_ok tells k requests (Err e) count told = (said (size new.history) k (codes "reopened"), reopens tells k (said (size new.history) k (codes "reopened")) refl)
+  -- how many batches it has
+  new_size : size new.history ≡ length new.history.loaded
+  new_size = let none : length new.history.entries ≡ 0 = ap length begins.entries in omega (arith, none)
+
+  abbrev told_now : Bool
+  told_now = is_some (content old.log.disk)
+
+  reopens : (k : ℕ) (line : List ℕ) → line ≡ said (size new.history) k (codes "reopened") → ReopenBuilt told_now (state_of old (sessions_of hs)) k line (state_of new (sessions_of held))
+  reopens k line is =
+      (λ tells. reopens_told tells k line is, (new.history.loaded, is ∙ ap (λ (n : ℕ). said n k (codes "reopened")) new_size, opens_as (content old.log.disk) given may new held begins all))
+
+  pub reopens_ok : (k requests : ℕ) (result : Result Reply Memory) → requests ≡ size new.history → IfOk result (λ reply. reply_text reply ≡ said requests k (codes "reopened"))
+      → Answers (λ line. ReopenBuilt told_now (state_of old (sessions_of hs)) k line (state_of new (sessions_of held))) result
+  reopens_ok k requests (Ok reply) count told = reopens k (reply_text reply) (told ∙ ap (λ (n : ℕ). said n k (codes "reopened")) count)
+  reopens_ok k requests (Err e) count told = (said (size new.history) k (codes "reopened"), reopens k (said (size new.history) k (codes "reopened")) refl)
 
 -- the same, of a core that was opened over the disk that the old one gave
 pub reopens_run : {D C : Type 0} (content : D → Option (List ℕ)) (images : D → List ℕ → Type 0) (may : C → ℕ → Bool) (given : ℕ → Bool) → ((disk : D) (file : List ℕ) → content disk ≡ Some file → images disk file)
     → (old : SideValue D C) (disk : D) (run : RunningValue D C) (hs held : List Held) → KeepsAll content images may old → disk ≡ old.log.disk → Begins (content disk) given may run.side → run.held ≡ held → AllByRecursion IsNew held
-    → Tells (content old.log.disk) → (k requests : ℕ) (result : Result Reply Memory) (side : SideValue D C) → side ≡ run.side → requests ≡ size side.history → IfOk result (λ reply. reply_text reply ≡ said requests k (codes "reopened"))
-    → Answers (λ line. ReopenStep (state_of old (sessions_of hs)) k line (core_state run)) result
-reopens_run content images may given reads old disk run hs held keeps gave begins now all tells k requests result side same count told =
-    reopens_ok content images may given reads old run.side hs run.held keeps (subst (λ (d : _). Begins (content d) given may run.side) gave begins) (subst (AllByRecursion IsNew) (sym now) all) tells k requests result
+    → (k requests : ℕ) (result : Result Reply Memory) (side : SideValue D C) → side ≡ run.side → requests ≡ size side.history → IfOk result (λ reply. reply_text reply ≡ said requests k (codes "reopened"))
+    → Answers (λ line. ReopenBuilt (is_some (content old.log.disk)) (state_of old (sessions_of hs)) k line (core_state run)) result
+reopens_run content images may given reads old disk run hs held keeps gave begins now all k requests result side same count told =
+    reopens_ok content images may given reads old run.side hs run.held keeps (subst (λ (d : _). Begins (content d) given may run.side) gave begins) (subst (AllByRecursion IsNew) (sym now) all) k requests result
     (count ∙ ap (λ (s : SideValue _ _). size s.history) same) told

@@ -10,7 +10,7 @@ use Rattle.gd_prim.specs.declared.Batch.{Batch}
 use Rattle.gd_defs.specs.Write.{WriteRequest}
 use Rattle.gd_runs.specs.Owed.{MembersOf}
 use Rattle.gd_runs.specs.Legal.{batches}
-use Rattle.gd_runs.specs.Request.{ReadRequest}
+use Rattle.gd_runs.specs.Request.{ReadSet}
 use Rattle.gd_runs.specs.Core.{Session, State, with_session, entered, BeginStep, SliceStep, LearnStep, WriteStep}
 use Rattle.gd_runs.specs.Side.{Kept, kept_stored, kept_late, kept_refused, kept_doubt, kept_unsettled, kept_memory, WriteKeeps, lacks_memory, is_fault}
 use Rattle.gd_runs.proofs.Rounds.{length_batches}
@@ -59,7 +59,7 @@ module _ {D C : Type 0} (side : SideValue D C) (hs : List Held) (i : ℕ) (befor
   pub run_ends : session_view after ≡ in_session (length side.shown) None → new_state ≡ entered old_state i None
   run_ends same = state_set side hs i after lt ∙ ap (with_session old_state i) same
 
-  pub run_begins : (k : ℕ) (r : ReadRequest) (line : List ℕ) → BeginsAs (batches side.history) (length side.shown) k r line (session_view after) → BeginStep old_state k i r line new_state
+  pub run_begins : (k : ℕ) (r : ReadSet) (line : List ℕ) → BeginsAs (batches side.history) (length side.shown) k r line (session_view after) → BeginStep old_state k i r line new_state
   run_begins k r line begins = begin_step old_state new_state k i r line (session_view after) begins (state_set side hs i after lt)
 
   pub run_slices : (members : MembersOf) (k : ℕ) (line : List ℕ) → SlicesAs (batches side.history) (length side.shown) k (session_view before) line (session_view after) → SliceStep members old_state k i line new_state
@@ -73,7 +73,7 @@ module _ {D C : Type 0} (side : SideValue D C) (hs : List Held) (i : ℕ) (befor
       learn_step old_state new_state k i m line (session_view after) at_i (state_set side hs i after lt)
 
   -- the same, of the reply of a call
-  pub begins_ok : (bs : List Batch) (shown k : ℕ) (r : ReadRequest) (result : Result (Vec ℕ) Memory) → bs ≡ batches side.history → shown ≡ length side.shown
+  pub begins_ok : (bs : List Batch) (shown k : ℕ) (r : ReadSet) (result : Result (Vec ℕ) Memory) → bs ≡ batches side.history → shown ≡ length side.shown
       → IfOk result (λ reply. BeginsAs bs shown k r reply.items (session_view after)) → IfOk result (λ reply. BeginStep old_state k i r reply.items new_state)
   begins_ok bs shown k r (Ok bytes) stored count told =
       run_begins k r bytes.items (subst (λ (n : ℕ). BeginsAs (batches side.history) n k r bytes.items (session_view after)) count (subst (λ (b : List Batch). BeginsAs b shown k r bytes.items (session_view after)) stored told))

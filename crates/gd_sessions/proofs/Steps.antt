@@ -5,7 +5,7 @@ use Rattle.std.proofs.lemmas.Bool.{eqb-true}
 use Rattle.gd_defs.specs.Lines.{Refusal}
 use Rattle.gd_runs.specs.Owed.{MembersOf}
 use Rattle.gd_runs.specs.Legal.{batches}
-use Rattle.gd_runs.specs.Request.{ReadRequest}
+use Rattle.gd_runs.specs.Request.{ReadSet}
 use Rattle.gd_runs.specs.Core as core
 use Rattle.gd_runs.specs.Core.{Reading, Session, State, with_session, reading_of, BeginStep, SliceStep, LearnStep}
 use Rattle.gd_sessions.specs.Sessions.{BeginsAs, SlicesAs, LearnsAs}
@@ -31,7 +31,7 @@ session_stays s i x same = ap (with_session s i) same ∙ stays s i
 
 -- ---- a step for each event
 
-pub begin_step : (s t : State) (k i : ℕ) (r : ReadRequest) (line : List ℕ) (x : Session) → BeginsAs (batches s.history) s.shown k r line x → t ≡ with_session s i x → BeginStep s k i r line t
+pub begin_step : (s t : State) (k i : ℕ) (r : ReadSet) (line : List ℕ) (x : Session) → BeginsAs (batches s.history) s.shown k r line x → t ≡ with_session s i x → BeginStep s k i r line t
 begin_step s t k i r line x begins same = by (reading_of (batches s.history) s.shown r) refl
   where
     by : (o : Result Reading (ℕ × Refusal)) → reading_of (batches s.history) s.shown r ≡ o → BeginStep s k i r line t

@@ -1,17 +1,19 @@
 -- What an event comes to, with its reply or without memory for it.
-use Rattle.std.proofs.Common.{◌≡◌, ℕ, List, Bool, Result, Ok, Err, IfOk, OnErr, inl, inr, refl, sym, subst}
+use Rattle.std.proofs.Common.{◌≡◌, ℕ, List, Bool, false, Option, Result, Ok, Err, IfOk, OnErr, inl, inr, refl, sym, subst}
 use Rattle.std.specs.Global.{Vec}
 use Rattle.gd_base.specs.declared.memory.Memory.{Memory}
 use Rattle.gd_runs.specs.Explained.{memory_line}
 use Rattle.gd_runs.specs.Owed.{MembersOf}
 use Rattle.gd_runs.specs.Core as core
 use Rattle.gd_runs.specs.Core.{Event, State}
-use Rattle.gd_replay_laws.specs.Built.{Takes, IsUnbuilt, unbuilt_line}
+use Rattle.gd_runs.specs.Request.{ReadSet, one_query, queries}
+use Rattle.gd_replay_laws.specs.Built.{Takes, IsUnfrozen}
 use Rattle.gd_replay_laws.specs.Faults.{IsCounted, IsNoWrite}
 use Rattle.gd_replay_laws.proofs.Faults.{takes_quiet, quiet_counted}
 use Rattle.gd_reply.specs.Replies.{reply_text, made_text}
 use Rattle.gd_reply.specs.declared.reply.Reply.{Reply}
 use Rattle.gd_sessions.specs.Running.{Answers}
+use Rattle.gd_sessions.specs.Sessions.{IsUnthawed}
 
 -- the reply of a call, or want of memory for it
 pub made_takes : (R P : List ℕ → Type 0) (E : Type 0) (k : ℕ) (made : Result (Vec ℕ) Memory) (reply : List ℕ) → ((line : List ℕ) → R line → P line) → (E → P (memory_line k)) → reply ≡ made_text k made → IfOk made (λ bytes. R bytes.items) → OnErr made E → P reply
@@ -23,25 +25,14 @@ pub made_refuses : (R P : List ℕ → Type 0) (k : ℕ) (made : Result (Vec ℕ
 made_refuses R P k (Ok bytes) reply more none is told = subst P (sym is) (more bytes.items told)
 made_refuses R P k (Err e) reply more none is told = subst P (sym is) none
 
--- ---- an event that is not built
+-- ---- freezing and thawing
 
-pub unbuilt_takes : (members : MembersOf) (may : ℕ → Bool) (s : State) (k bytes : ℕ) (e : Event) → IsUnbuilt e → (line : List ℕ) → line ≡ unbuilt_line k → Takes members may s k bytes e line s
-unbuilt_takes members may s k bytes (core.freeze i) unbuilt line is = inl (is, refl)
-unbuilt_takes members may s k bytes (core.thaw i r frozen) unbuilt line is = inl (is, refl)
-unbuilt_takes members may s k bytes (core.begin i r) unbuilt line is = absurd unbuilt
-unbuilt_takes members may s k bytes (core.slice i n) unbuilt line is = absurd unbuilt
-unbuilt_takes members may s k bytes (core.write i w) unbuilt line is = absurd unbuilt
-unbuilt_takes members may s k bytes (core.learn i m) unbuilt line is = absurd unbuilt
-unbuilt_takes members may s k bytes core.reopen unbuilt line is = absurd unbuilt
+pub frozen_takes : (told : Bool) (members : MembersOf) (may : ℕ → Bool) (s : State) (k bytes i : ℕ) (r : Option core.Reading) → r ≡ (s.sessions i).reading → (line : List ℕ) → IsUnfrozen r k line → Takes told members may s k bytes (core.freeze i) line s
+frozen_takes told members may s k bytes i r is line says = inl (subst (λ (o : Option core.Reading). IsUnfrozen o k line) is says, refl)
 
-pub unbuilt_lacks : (members : MembersOf) (may : ℕ → Bool) (s : State) (k bytes : ℕ) (e : Event) → IsUnbuilt e → Takes members may s k bytes e (memory_line k) s
-unbuilt_lacks members may s k bytes (core.freeze i) unbuilt = inr (refl, refl)
-unbuilt_lacks members may s k bytes (core.thaw i r frozen) unbuilt = inr (refl, inl refl)
-unbuilt_lacks members may s k bytes (core.begin i r) unbuilt = absurd unbuilt
-unbuilt_lacks members may s k bytes (core.slice i n) unbuilt = absurd unbuilt
-unbuilt_lacks members may s k bytes (core.write i w) unbuilt = absurd unbuilt
-unbuilt_lacks members may s k bytes (core.learn i m) unbuilt = absurd unbuilt
-unbuilt_lacks members may s k bytes core.reopen unbuilt = absurd unbuilt
+pub thawed_takes : (told : Bool) (members : MembersOf) (may : ℕ → Bool) (s : State) (k bytes i : ℕ) (r : ReadSet) (text line : List ℕ) → IsUnthawed r k line → Takes told members may s k bytes (core.thaw i r text) line s
+thawed_takes told members may s k bytes i (one_query r) text line says = inl (says, refl)
+thawed_takes told members may s k bytes i (queries rs) text line says = inl (says, refl)
 
 -- ---- answers
 
@@ -50,7 +41,7 @@ answers_more P Q (Ok reply) more given = more (reply_text reply) given
 answers_more P Q (Err e) more (line, given) = (line, more line given)
 
 -- the reply to an event that is no write tells no failure of the disk
-pub takes_counted : (may : ℕ → Bool) (s : State) (k bytes : ℕ) (e : Event) (t : State) (before after : ℕ) (reply : List ℕ) → IsNoWrite e → ((members : MembersOf) → Takes members may s k bytes e reply t) → IsCounted k reply before after
+pub takes_counted : (may : ℕ → Bool) (s : State) (k bytes : ℕ) (e : Event) (t : State) (before after : ℕ) (reply : List ℕ) → IsNoWrite e → ((told : Bool) (members : MembersOf) → Takes told members may s k bytes e reply t) → IsCounted k reply before after
 takes_counted may s k bytes e t before after reply other takes =
     let none : MembersOf = λ prims hop template. 0 in
-    quiet_counted k reply before after (takes_quiet k none may s bytes e reply t other (takes none))
+    quiet_counted k reply before after (takes_quiet k false none may s bytes e reply t other (takes false none))

@@ -3,8 +3,9 @@ use Rattle.std.specs.Prelude.{◌≡◌, ℕ, max, min, List, nat_lt, ◌⊎◌,
 use Rattle.std.specs.Bool.{MatchBool}
 use Rattle.gd_prim.specs.declared.Batch.{Batch}
 use Rattle.gd_defs.specs.Lines.{Refusal, err_line, cursor_ahead}
-use Rattle.gd_runs.specs.Request.{ReadRequest}
-use Rattle.gd_runs.specs.Core.{Reading, Session, reading_of, owed_line, said, no_reading_line}
+use Rattle.gd_runs.specs.Request.{ReadSet, one_query, queries}
+use Rattle.gd_runs.specs.Core.{Reading, Session, reading_of, owed_line, said, no_reading_line, many_queries_line}
+use Rattle.gd_replay_laws.specs.Built.{unbuilt_line}
 
 -- a session that has seen nothing, and holds nothing
 abbrev pub new_session : Session
@@ -19,7 +20,7 @@ abbrev pub learnt_session : ℕ → ℕ → Session → Session
 learnt_session shown m old = record { seen = min shown (max m old.seen); reading = old.reading }
 
 -- beginning a read prints a line and makes a session
-abbrev pub BeginsAs : List Batch → ℕ → ℕ → ReadRequest → List ℕ → Session → Type 0
+abbrev pub BeginsAs : List Batch → ℕ → ℕ → ReadSet → List ℕ → Session → Type 0
 BeginsAs batches shown k r line session = by (reading_of batches shown r)
   where
     by : Result Reading (ℕ × Refusal) → Type 0
@@ -40,3 +41,8 @@ abbrev pub LearnsAs : ℕ → ℕ → ℕ → Session → List ℕ → Session �
 LearnsAs shown k m old line session = MatchBool (nat_lt shown m)
     ((line ≡ err_line shown k (cursor_ahead m shown)) × (session ≡ old))
     ((line ≡ said m k (codes "learnt")) × (session ≡ learnt_session shown m old))
+
+-- thawing prints a line: it is not built where the read is of one query, and several are refused
+abbrev pub IsUnthawed : ReadSet → ℕ → List ℕ → Type 0
+IsUnthawed (one_query r) k line = line ≡ unbuilt_line k
+IsUnthawed (queries rs) k line = line ≡ many_queries_line k

@@ -1,17 +1,18 @@
 //! A session of the core.
 ghost use Rattle.std.specs.Prelude.{◌≡◌, ◌≢◌, ◌+◌, ◌-◌, ◌<◌, ◌≤◌, ◌^◌, ◌⊎◌, ℕ, length, max, min};
 ghost use Rattle.std.specs.Prelude.{None, IfOk, IfSome, OnErr};
-ghost use Rattle.gd_mql.specs.Requests.{read_view};
+ghost use Rattle.gd_mql.specs.Requests.{read_set_view};
 ghost use Rattle.gd_runs.specs.Core as core;
+ghost use Rattle.gd_replay_laws.specs.Built.{IsUnfrozen};
 ghost use Rattle.gd_read.specs.Left.{IsPastIds};
 ghost use Rattle.gd_read.specs.Session.{reads, session_left};
 ghost use Rattle.gd_sessions.specs.Sessions.{in_session, BeginsAs, SlicesAs, LearnsAs};
 ghost use Rattle.gd_sessions.specs.Held.{session_view, IsGoingOn};
 
-use crate::lines::{no_reading_line, said};
+use crate::lines::{many_queries_line, no_reading_line, said, unbuilt_line};
 use gd_base::memory::Memory;
 use gd_base::steps::Steps;
-use gd_mql::request::ReadRequest;
+use gd_mql::request::ReadSet;
 use gd_read::reading::Progress;
 use gd_read::session::SessionState;
 use gd_reply::lines::err_line;
@@ -66,12 +67,12 @@ impl Held {
         store: &Store,
         shown: u32,
         line: u64,
-        request: ReadRequest,
+        request: ReadSet,
         steps: &mut Steps<L>,
     ) -> Result<Vec<u8>, Memory>
         requires line { line < 2 ^ 63 }
         requires shown { shown ≤ length store.now }
-        ensures begins { IfOk result (λ reply. BeginsAs store.now shown line (read_view request)
+        ensures begins { IfOk result (λ reply. BeginsAs store.now shown line (read_set_view request)
             reply.items (session_view self.new)) }
         ensures err { OnErr result (self.new ≡ self.old) }
         ensures held { IsGoingOn store.now shown self.old → IsGoingOn store.now shown self.new }
@@ -140,6 +141,21 @@ impl Held {
                 Err(refused)
             }
         }
+    }
+
+    /// Tells why no text is given of the reading that is held: there is none, it is of several
+    /// queries, or else giving one is not built. `Memory`: there was none.
+    pub(crate) fn freeze(&self, alloc: Global, line: u64) -> Result<Vec<u8>, Memory>
+        requires { line < 2 ^ 63 }
+        ensures { IfOk result (λ reply. IsUnfrozen (reads self.now.state) line reply.items) }
+    {
+        if self.state.dateline().is_none() {
+            return no_reading_line(alloc, line);
+        }
+        if self.state.is_several() {
+            return many_queries_line(alloc, line);
+        }
+        unbuilt_line(alloc, line)
     }
 
     /// Has seen at least this dateline, and at most what is shown.

@@ -2,7 +2,7 @@
 ghost use Rattle.std.specs.Prelude.{◌≡◌, ◌<◌, ◌≤◌, ◌+◌, ◌^◌, ◌⊎◌, ℕ, Bool, List, length, map, None};
 ghost use Rattle.std.specs.Prelude.{IfOk, IfErr, OnErr, MatchResult, [], true, codes};
 ghost use Rattle.std.specs.List.{AllByRecursion};
-ghost use Rattle.std.specs.Option.{ForSome};
+ghost use Rattle.std.specs.Option.{ForSome, is_some};
 ghost use Rattle.gd_base.specs.Counts.{Rose};
 ghost use Rattle.gd_bytes.specs.File.{meaning};
 ghost use Rattle.gd_log.specs.Opening.{Refuses};
@@ -10,31 +10,29 @@ ghost use Rattle.gd_runs.specs.Legal.{batches};
 ghost use Rattle.gd_runs.specs.Owed.{MembersOf};
 ghost use Rattle.gd_events.specs.Events.{event_view};
 ghost use Rattle.gd_runs.specs.Core as core;
-ghost use Rattle.gd_runs.specs.Core.{Event as EventOf};
-ghost use Rattle.gd_runs.specs.Core.{BeginStep, SliceStep, LearnStep, WriteStep, ReopenStep};
-ghost use Rattle.gd_runs.specs.Core.{entered};
+ghost use Rattle.gd_runs.specs.Core.{BeginStep, SliceStep, LearnStep, WriteStep, entered};
 ghost use Rattle.gd_runs.specs.Side.{IsFresh};
-ghost use Rattle.gd_mql.specs.Requests.{read_view, write_view};
+ghost use Rattle.gd_mql.specs.Requests.{read_set_view, write_view};
 ghost use Rattle.gd_reply.specs.Replies.{reply_text};
 ghost use Rattle.gd_writer.specs.Parts.{Tells};
 ghost use Rattle.gd_writer.specs.Side.{KeepsAll, GoesOn, Begins};
 ghost use Rattle.gd_writer.specs.Opened.{Opens};
 ghost use Rattle.gd_sessions.specs.Opened.{IsNew};
-ghost use Rattle.gd_replay_laws.specs.Built.{Takes, IsUnbuilt};
+ghost use Rattle.gd_replay_laws.specs.Built.{Takes, ReopenBuilt};
 ghost use Rattle.gd_replay_laws.specs.Faults.{IsCounted};
 ghost use Rattle.gd_sessions.specs.Held.{session_view, sessions_of};
 ghost use Rattle.gd_sessions.specs.Running.{core_state, StandsForState, Answers, MayTake, GoesBy};
 ghost use Rattle.gd_sessions.specs.Running.{IsSliced, SlicesBy};
 
 use crate::held::Held;
-use crate::lines::{said, unbuilt_line};
+use crate::lines::{said, unthawed_line};
 use crate::writing;
 use gd_base::memory::Memory;
 use gd_base::steps::Steps;
 use gd_disk::disk::Disk;
 use gd_events::event::Event;
 use gd_journal::fault::JournalFault;
-use gd_mql::request::{ReadRequest, WriteRequest};
+use gd_mql::request::{ReadSet, WriteRequest};
 use gd_outside::clock::Clock;
 use gd_reply::reply::Reply;
 use gd_writer::side::WriteSide;
@@ -180,10 +178,9 @@ impl<D: Disk, C: Clock> Running<D, C> {
         line: u64,
     ) -> Result<(Running<D, C>, Result<Reply, Memory>), (JournalFault, D, C)>
         requires { line < 2 ^ 63 }
-        ensures takes { IfOk result (λ both. Tells (D.content self.side.log.disk)
-            → (members : MembersOf) (may : ℕ → Bool) (bytes : ℕ)
-            → Answers (λ reply. Takes members may (core_state self) line bytes core.reopen reply
-            (core_state both.0)) both.1) }
+        ensures takes { IfOk result (λ both. (members : MembersOf) (may : ℕ → Bool) (bytes : ℕ)
+            → Answers (λ reply. Takes (is_some (D.content self.side.log.disk)) members may
+            (core_state self) line bytes core.reopen reply (core_state both.0)) both.1) }
         ensures clock { IfOk result (λ both. C.may both.0.side.clock ≡ C.may self.side.clock) }
 
         // Its state is that of a store that was just opened, or nothing was done.
@@ -219,9 +216,9 @@ impl<D: Disk, C: Clock> Running<D, C> {
         requires line { line < 2 ^ 63 }
         requires many { length held.items ≡ 64 }
         requires new { AllByRecursion IsNew held.items }
-        ensures step { IfOk result (λ both. Tells (D.content self.side.log.disk)
-            → Answers (λ reply. ReopenStep (core_state self) line reply (core_state both.0))
-            both.1) }
+        ensures step { IfOk result (λ both. Answers
+            (λ reply. ReopenBuilt (is_some (D.content self.side.log.disk)) (core_state self) line
+            reply (core_state both.0)) both.1) }
         ensures clock { IfOk result (λ both. C.may both.0.side.clock ≡ C.may self.side.clock) }
         ensures anew { IfOk result (λ both. core_state both.0
             ≡ core.opened both.0.side.history.loaded) }
@@ -265,13 +262,13 @@ impl<D: Disk, C: Clock> Running<D, C> {
         alloc: Global,
         line: u64,
         sid: u32,
-        request: ReadRequest,
+        request: ReadSet,
         steps: &mut Steps<L>,
     ) -> Result<Vec<u8>, Memory>
         requires line { line < 2 ^ 63 }
         requires sid { sid < SESSIONS }
         ensures step { IfOk result (λ reply. BeginStep (core_state self.old) line sid
-            (read_view request) reply.items (core_state self.new)) }
+            (read_set_view request) reply.items (core_state self.new)) }
         ensures err { OnErr result (core_state self.new ≡ core_state self.old) }
         ensures side { self.new.side ≡ self.old.side }
         ensures later { steps.old ≤ steps.new }
@@ -360,14 +357,14 @@ impl<D: Disk, C: Clock> Running<D, C> {
         alloc: Global,
         line: u64,
         sid: u32,
-        request: ReadRequest,
+        request: ReadSet,
         steps: &mut Steps<L>,
     ) -> Reply
         requires line { line < 2 ^ 63 }
         requires sid { sid < SESSIONS }
-        ensures takes { (members : MembersOf) (may : ℕ → Bool) (bytes : ℕ)
-            → Takes members may (core_state self.old) line bytes
-            (core.begin sid (read_view request)) (reply_text result) (core_state self.new) }
+        ensures takes { (told : Bool) (members : MembersOf) (may : ℕ → Bool) (bytes : ℕ)
+            → Takes told members may (core_state self.old) line bytes
+            (core.begin sid (read_set_view request)) (reply_text result) (core_state self.new) }
         ensures side { self.new.side ≡ self.old.side }
         ensures later { steps.old ≤ steps.new }
     {
@@ -387,8 +384,8 @@ impl<D: Disk, C: Clock> Running<D, C> {
         requires line { line < 2 ^ 63 }
         requires sid { sid < SESSIONS }
         requires budget { 0 < budget }
-        ensures takes { (members : MembersOf) (may : ℕ → Bool) (bytes : ℕ)
-            → Takes members may (core_state self.old) line bytes (core.slice sid budget)
+        ensures takes { (told : Bool) (members : MembersOf) (may : ℕ → Bool) (bytes : ℕ)
+            → Takes told members may (core_state self.old) line bytes (core.slice sid budget)
             (reply_text result) (core_state self.new) }
         ensures side { self.new.side ≡ self.old.side }
         ensures sliced { IsSliced sid budget self.old self.new steps.old steps.new }
@@ -402,8 +399,8 @@ impl<D: Disk, C: Clock> Running<D, C> {
     fn learn(&mut self, alloc: Global, line: u64, sid: u32, dateline: u32) -> Reply
         requires line { line < 2 ^ 63 }
         requires sid { sid < SESSIONS }
-        ensures takes { (members : MembersOf) (may : ℕ → Bool) (bytes : ℕ)
-            → Takes members may (core_state self.old) line bytes (core.learn sid dateline)
+        ensures takes { (told : Bool) (members : MembersOf) (may : ℕ → Bool) (bytes : ℕ)
+            → Takes told members may (core_state self.old) line bytes (core.learn sid dateline)
             (reply_text result) (core_state self.new) }
         ensures side { self.new.side ≡ self.old.side }
     {
@@ -411,15 +408,27 @@ impl<D: Disk, C: Clock> Running<D, C> {
         Reply::made(line, reply)
     }
 
-    /// The refusal of an event that is not built.
-    fn refuse(&self, alloc: Global, line: u64) -> Reply
+    /// The refusal of a session that asks for the text of its reading.
+    fn freeze(&self, alloc: Global, line: u64, sid: u32) -> Reply
         requires line { line < 2 ^ 63 }
-        ensures { (members : MembersOf) (may : ℕ → Bool) (bytes : ℕ) (event : EventOf)
-            → IsUnbuilt event
-            → Takes members may (core_state self.now) line bytes event (reply_text result)
+        requires sid { sid < SESSIONS }
+        ensures { (told : Bool) (members : MembersOf) (may : ℕ → Bool) (bytes : ℕ)
+            → Takes told members may (core_state self.now) line bytes (core.freeze sid)
+            (reply_text result) (core_state self.now) }
+    {
+        let reply = self.held[sid as usize].freeze(alloc, line);
+        Reply::made(line, reply)
+    }
+
+    /// The refusal of a session that begins a read from the text of a reading.
+    fn thaw(&self, alloc: Global, line: u64, request: &ReadSet) -> Reply
+        requires line { line < 2 ^ 63 }
+        ensures { (told : Bool) (members : MembersOf) (may : ℕ → Bool) (bytes sid : ℕ)
+            (text : List ℕ) → Takes told members may (core_state self.now) line bytes
+            (core.thaw sid (read_set_view request.now) text) (reply_text result)
             (core_state self.now) }
     {
-        Reply::made(line, unbuilt_line(alloc, line))
+        Reply::made(line, unthawed_line(alloc, line, request))
     }
 
     /// Carries an event out and gives its reply; `line` and `bytes` are the number and the length
@@ -441,8 +450,8 @@ impl<D: Disk, C: Clock> Running<D, C> {
 
         // The reply and the new state are what the event comes to, and the reply tells a failure of
         // the disk only where the disk's count rose.
-        ensures takes { (members : MembersOf)
-            → Takes members (C.may self.old.side.clock) (core_state self.old) line bytes
+        ensures takes { (told : Bool) (members : MembersOf)
+            → Takes told members (C.may self.old.side.clock) (core_state self.old) line bytes
             (event_view event) (reply_text result) (core_state self.new) }
         ensures counted { IsCounted line (reply_text result) (D.faults self.old.side.log.disk)
             (D.faults self.new.side.log.disk) }
@@ -464,8 +473,8 @@ impl<D: Disk, C: Clock> Running<D, C> {
             Event::Slice { sid, budget } => self.slice(alloc, line, sid, budget, steps),
             Event::Write { sid, request } => self.write(rt, alloc, line, bytes, sid, &request),
             Event::Learn { sid, dateline } => self.learn(alloc, line, sid, dateline),
-            Event::Freeze { .. } => self.refuse(alloc, line),
-            Event::Thaw { .. } => self.refuse(alloc, line),
+            Event::Freeze { sid } => self.freeze(alloc, line, sid),
+            Event::Thaw { request, .. } => self.thaw(alloc, line, &request),
             Event::Reopen => unreachable!(),
         }
     }

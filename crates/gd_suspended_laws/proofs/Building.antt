@@ -1,5 +1,5 @@
--- A reading that builds the trees of its rows, and then prints them, owes the line that it owed when its scan ended.
-use Rattle.std.proofs.Common.{◌≡◌, inl, inr, ℕ, ◌+◌, List, [], ◌∷◌, ◌++◌, Bool, true, false, ◌&&◌, ◌||◌, not, Option, None, Some, Ok, length, take, drop, map, refl, ap, sym, subst, ◌∙◌, arith}
+-- A reading that builds the trees of its rows, and then prints them, owes the answer that it owed when its scan ended.
+use Rattle.std.proofs.Common.{◌≡◌, inl, inr, ℕ, ◌+◌, List, [], ◌∷◌, ◌++◌, Bool, true, false, ◌&&◌, ◌||◌, not, Option, None, Some, Ok, length, take, drop, map, refl, ap, sym, subst, ◌∙◌, arith, Err}
 use Rattle.std.specs.Prelude.{filter, nat_lt, option_map, if◌then◌else◌, codes}
 use Rattle.std.specs.List.{list_any, cons_option, enumerate_from}
 use Rattle.std.proofs.lemmas.Bool.{lt-ltb, ltb-true}
@@ -7,16 +7,16 @@ use Rattle.std.proofs.lemmas.List.{append-nil}
 use Rattle.gd_prim.specs.declared.Primitive.{Primitive}
 use Rattle.gd_tree.specs.Trees.{Tree, Trees, no_trees, append, trees_of, list_of, place_of}
 use Rattle.gd_defs.specs.Asked.{Asked}
-use Rattle.gd_defs.specs.Lines.{too_wide, refused_at, err_line, count_json}
+use Rattle.gd_defs.specs.Lines.{too_wide, refused_at, count_json}
 use Rattle.gd_defs.specs.Plan.{template_of}
-use Rattle.gd_defs.specs.Reply.{Mark, mark_row, row_mark, page_cursor, result_line, is_ambiguous, max_candidate_weight, max_page_weight}
+use Rattle.gd_defs.specs.Reply.{Mark, mark_row, row_mark, page_cursor, is_ambiguous, max_candidate_weight, max_page_weight, Answer, page_answer}
 use Rattle.gd_defs.specs.Rows.{row_of}
 use Rattle.gd_defs.specs.Rows as defs
 use Rattle.gd_defs.specs.Template.{Template, is_answer, passes_template, tree_of}
 use Rattle.gd_bytes.specs.Frozen.{Scan, scanning, building, printing}
 use Rattle.gd_runs.specs.Owed.{ScanOrder, Candidate, candidate, tried, owed_by, weighs_too_much}
 use Rattle.gd_runs.specs.Shape.{page_shape}
-use Rattle.gd_runs.specs.Thawed.{window, answering, built_trees, built_weight, page_line, row_candidates, row_tried, body_line}
+use Rattle.gd_runs.specs.Thawed.{window, answering, built_trees, built_weight, page_of_rows, row_candidates, row_tried, body_answer}
 use Rattle.gd_order_laws.specs.Window.{In}
 use Rattle.gd_order_laws.proofs.Rows.{In-map}
 use Rattle.gd_order_laws.proofs.Sorted.{Each-from_members, In-filter}
@@ -122,36 +122,36 @@ module _ (prims : List Primitive) (q : Asked) (after : Option Mark) where
           subst (λ x. weighs_too_much (candidate prims (template_of q) x) ≡ false) (ap (λ (r : defs.Row). r.object) from.2 ∙ row.2) (row_light order s w has from.0 from.1)
 
   -- the page of the rows that are kept is that of their marks
-  page_again : (dateline k : ℕ) (with_cursor : Bool) (w : Kept) → IsKept prims q after w → page_rows w ≡ kept_page prims q dateline k with_cursor after (marks_of w)
-  page_again dateline k with_cursor w keeps = ap (λ (v : Kept). take v.limit (rows_of w)) keeps.is ∙ ap (take q.limit) (sym keeps.again)
+  page_again : (dateline : ℕ) (with_cursor : Bool) (w : Kept) → IsKept prims q after w → page_rows w ≡ kept_page prims q dateline with_cursor after (marks_of w)
+  page_again dateline with_cursor w keeps = ap (λ (v : Kept). take v.limit (rows_of w)) keeps.is ∙ ap (take q.limit) (sym keeps.again)
 
   owes_nothing : (order : ScanOrder) (s : Scan) → AtEnd prims order (template_of q) s → owed_by prims (template_of q) order s ≡ []
   owes_nothing order s end =
       ap (λ fs. tried prims (template_of q) s.weight fs ++ map (λ c. candidate prims (template_of q) c.1) (order_from prims (template_of q) order s.iter.place)) end.frames
       ∙ ap (map (λ c. candidate prims (template_of q) c.1)) end.places
 
-  module _ (order : ScanOrder) (dateline k : ℕ) (with_cursor : Bool) where
-    -- the line of a reading that builds trees, by what is still to be built
-    abbrev build_line : List Mark → ℕ → List Tree → List Candidate → List ℕ
-    build_line kept w ts built = if list_any weighs_too_much built then err_line dateline k (too_wide (max_candidate_weight + 1))
-        else page_line prims q dateline k with_cursor (length (window prims q after (map (mark_row prims q.sort) kept))) (kept_page prims q dateline k with_cursor after kept) (w + built_weight built) (ts ++ built_trees built) []
+  module _ (order : ScanOrder) (dateline : ℕ) (with_cursor : Bool) where
+    -- the answer of a reading that builds trees, by what is still to be built
+    abbrev build_answer : List Mark → ℕ → List Tree → List Candidate → Answer
+    build_answer kept w ts built = if list_any weighs_too_much built then Err (too_wide (max_candidate_weight + 1))
+        else page_of_rows prims q dateline with_cursor (length (window prims q after (map (mark_row prims q.sort) kept))) (kept_page prims q dateline with_cursor after kept) (w + built_weight built) (ts ++ built_trees built) []
 
-    abbrev seen_line : List Candidate → List defs.Row → List ℕ
-    seen_line owed rows =
-        if list_any weighs_too_much (owed ++ row_candidates prims q 0 (take q.limit rows)) then err_line dateline k (too_wide (max_candidate_weight + 1))
-        else page_line prims q dateline k with_cursor (length rows) (take q.limit rows) (built_weight (row_candidates prims q 0 (take q.limit rows))) (built_trees (row_candidates prims q 0 (take q.limit rows))) []
+    abbrev seen_answer : List Candidate → List defs.Row → Answer
+    seen_answer owed rows =
+        if list_any weighs_too_much (owed ++ row_candidates prims q 0 (take q.limit rows)) then Err (too_wide (max_candidate_weight + 1))
+        else page_of_rows prims q dateline with_cursor (length rows) (take q.limit rows) (built_weight (row_candidates prims q 0 (take q.limit rows))) (built_trees (row_candidates prims q 0 (take q.limit rows))) []
 
     -- LAW: where no candidate is left, the trees of the rows that are kept are built
     pub builds_then : (kept : List Mark) (s : Scan) → AtEnd prims order (template_of q) s
-        → body_line prims q order dateline k with_cursor after kept (scanning s) ≡ body_line prims q order dateline k with_cursor after kept (building 0 no_trees start)
+        → body_answer prims q order dateline with_cursor after kept (scanning s) ≡ body_answer prims q order dateline with_cursor after kept (building 0 no_trees start)
     builds_then kept s end =
-        ap (λ owed. seen_line owed (window prims q after (map (mark_row prims q.sort) kept ++ map (row_of prims q.sort 0) (answering owed)))) (owes_nothing order s end)
-        ∙ ap (λ l. seen_line [] (window prims q after l)) (append-nil (map (mark_row prims q.sort) kept))
-        ∙ ap (λ n. if list_any weighs_too_much rows then err_line dateline k (too_wide (max_candidate_weight + 1)) else page_line prims q dateline k with_cursor (length (window prims q after (map (mark_row prims q.sort) kept))) (kept_page prims q dateline k with_cursor after kept) n (built_trees rows) []) (from-none (built_weight rows))
-        ∙ ap (build_line kept 0 []) (by q.count)
+        ap (λ owed. seen_answer owed (window prims q after (map (mark_row prims q.sort) kept ++ map (row_of prims q.sort 0) (answering owed)))) (owes_nothing order s end)
+        ∙ ap (λ l. seen_answer [] (window prims q after l)) (append-nil (map (mark_row prims q.sort) kept))
+        ∙ ap (λ n. if list_any weighs_too_much rows then Err (too_wide (max_candidate_weight + 1)) else page_of_rows prims q dateline with_cursor (length (window prims q after (map (mark_row prims q.sort) kept))) (kept_page prims q dateline with_cursor after kept) n (built_trees rows) []) (from-none (built_weight rows))
+        ∙ ap (build_answer kept 0 []) (by q.count)
       where
         rows : List Candidate
-        rows = row_candidates prims q 0 (kept_page prims q dateline k with_cursor after kept)
+        rows = row_candidates prims q 0 (kept_page prims q dateline with_cursor after kept)
 
         from-none : (n : ℕ) → n ≡ 0 + n
         from-none n = omega arith
@@ -162,37 +162,37 @@ module _ (prims : List Primitive) (q : Asked) (after : Option Mark) where
 
     module _ (w : Kept) (keeps : IsKept prims q after w) where
       -- what is still to be built
-      left_is : q.count ≡ false → (s : Scan) → row_tried prims q s ++ row_candidates prims q s.iter.place (kept_page prims q dateline k with_cursor after (marks_of w)) ≡ owed_by prims (template_of q) (rows_order (page_rows w)) s
-      left_is listed s = rows-owed prims q s (kept_page prims q dateline k with_cursor after (marks_of w)) listed ∙ ap (λ page. owed_by prims (template_of q) (rows_order page) s) (sym (page_again dateline k with_cursor w keeps))
+      left_is : q.count ≡ false → (s : Scan) → row_tried prims q s ++ row_candidates prims q s.iter.place (kept_page prims q dateline with_cursor after (marks_of w)) ≡ owed_by prims (template_of q) (rows_order (page_rows w)) s
+      left_is listed s = rows-owed prims q s (kept_page prims q dateline with_cursor after (marks_of w)) listed ∙ ap (λ page. owed_by prims (template_of q) (rows_order page) s) (sym (page_again dateline with_cursor w keeps))
 
-      -- LAW: moves of a reading that builds trees leave its line
+      -- LAW: moves of a reading that builds trees leave its answer
       pub builds_go : q.count ≡ false → (weight : ℕ) (ts : Trees) (s m : Scan) (cs : List Candidate)
           → Runs prims (rows_order (page_rows w)) (template_of q) s cs m → list_any weighs_too_much cs ≡ false
-          → body_line prims q order dateline k with_cursor after (marks_of w) (building weight ts s)
-          ≡ body_line prims q order dateline k with_cursor after (marks_of w) (building (weight + built_weight cs) (append ts (trees_of (built_trees cs))) m)
+          → body_answer prims q order dateline with_cursor after (marks_of w) (building weight ts s)
+          ≡ body_answer prims q order dateline with_cursor after (marks_of w) (building (weight + built_weight cs) (append ts (trees_of (built_trees cs))) m)
       builds_go listed weight ts s m cs run light =
-          building-goes prims q dateline k with_cursor after (marks_of w) weight ts s m cs listed
-          (subst (λ page. Runs prims (rows_order page) (template_of q) s cs m) (page_again dateline k with_cursor w keeps) run) light
+          building-goes prims q dateline with_cursor after (marks_of w) weight ts s m cs listed
+          (subst (λ page. Runs prims (rows_order page) (template_of q) s cs m) (page_again dateline with_cursor w keeps) run) light
 
-      -- LAW: where a row that is left weighs too much, the line says so
+      -- LAW: where a row that is left weighs too much, the answer says so
       pub heavy_builds : q.count ≡ false → (weight : ℕ) (ts : Trees) (s : Scan) → list_any weighs_too_much (owed_by prims (template_of q) (rows_order (page_rows w)) s) ≡ true
-          → body_line prims q order dateline k with_cursor after (marks_of w) (building weight ts s) ≡ err_line dateline k (too_wide (max_candidate_weight + 1))
+          → body_answer prims q order dateline with_cursor after (marks_of w) (building weight ts s) ≡ Err (too_wide (max_candidate_weight + 1))
       heavy_builds listed weight ts s heavy =
-          ap (build_line (marks_of w) weight (list_of ts)) (left_is listed s)
-          ∙ ap (λ b. if b then err_line dateline k (too_wide (max_candidate_weight + 1))
-          else page_line prims q dateline k with_cursor (length (window prims q after (map (mark_row prims q.sort) (marks_of w)))) (kept_page prims q dateline k with_cursor after (marks_of w)) (weight + built_weight left) (list_of ts ++ built_trees left) []) heavy
+          ap (build_answer (marks_of w) weight (list_of ts)) (left_is listed s)
+          ∙ ap (λ b. if b then Err (too_wide (max_candidate_weight + 1))
+          else page_of_rows prims q dateline with_cursor (length (window prims q after (map (mark_row prims q.sort) (marks_of w)))) (kept_page prims q dateline with_cursor after (marks_of w)) (weight + built_weight left) (list_of ts ++ built_trees left) []) heavy
         where
           left : List Candidate
           left = owed_by prims (template_of q) (rows_order (page_rows w)) s
 
-      -- LAW: where those that were built weigh too much together, the line says so
+      -- LAW: where those that were built weigh too much together, the answer says so
       pub heavy_page : q.count ≡ false → (weight : ℕ) (ts : Trees) (s : Scan) → list_any weighs_too_much (owed_by prims (template_of q) (rows_order (page_rows w)) s) ≡ false → nat_lt max_page_weight weight ≡ true
-          → body_line prims q order dateline k with_cursor after (marks_of w) (building weight ts s) ≡ err_line dateline k (too_wide (max_page_weight + 1))
+          → body_answer prims q order dateline with_cursor after (marks_of w) (building weight ts s) ≡ Err (too_wide (max_page_weight + 1))
       heavy_page listed weight ts s light heavy =
-          ap (build_line (marks_of w) weight (list_of ts)) (left_is listed s)
-          ∙ ap (λ b. if b then err_line dateline k (too_wide (max_candidate_weight + 1))
-          else page_line prims q dateline k with_cursor found (kept_page prims q dateline k with_cursor after (marks_of w)) (weight + built_weight left) (list_of ts ++ built_trees left) []) light
-          ∙ ap (λ b. if b then err_line dateline k (too_wide (max_page_weight + 1)) else printed)
+          ap (build_answer (marks_of w) weight (list_of ts)) (left_is listed s)
+          ∙ ap (λ b. if b then Err (too_wide (max_candidate_weight + 1))
+          else page_of_rows prims q dateline with_cursor found (kept_page prims q dateline with_cursor after (marks_of w)) (weight + built_weight left) (list_of ts ++ built_trees left) []) light
+          ∙ ap (λ b. if b then Err (too_wide (max_page_weight + 1)) else printed)
           (ap (λ c. not c && nat_lt max_page_weight (weight + built_weight left)) listed ∙ more (built_weight left))
         where
           left : List Candidate
@@ -204,63 +204,63 @@ module _ (prims : List Primitive) (q : Asked) (after : Option Mark) where
           more : (n : ℕ) → nat_lt max_page_weight (weight + n) ≡ true
           more n = lt-ltb max_page_weight (weight + n) (let over = ltb-true max_page_weight weight heavy in omega (arith, over))
 
-          printed : List ℕ
-          printed = if q.single && nat_lt 1 found then err_line dateline k (refused_at (codes "NotUnique") [])
-              else result_line dateline k (if with_cursor then Some (page_cursor dateline (kept_page prims q dateline k with_cursor after (marks_of w)) (nat_lt q.limit found)) else None)
-              (if q.count then Ok (count_json (length (kept_page prims q dateline k with_cursor after (marks_of w)))) else page_shape prims q (list_of ts ++ built_trees left) [])
+          printed : Answer
+          printed = if q.single && nat_lt 1 found then Err (refused_at (codes "NotUnique") [])
+              else page_answer (if with_cursor then Some (page_cursor dateline (kept_page prims q dateline with_cursor after (marks_of w)) (nat_lt q.limit found)) else None)
+              (if q.count then Ok (count_json (length (kept_page prims q dateline with_cursor after (marks_of w)))) else page_shape prims q (list_of ts ++ built_trees left) [])
 
       -- LAW: where no row is left, and the page does not weigh too much, its trees are printed
       pub prints_then : q.count ≡ false → (weight : ℕ) (ts : Trees) (s : Scan) → AtEnd prims (rows_order (page_rows w)) (template_of q) s → nat_lt max_page_weight weight ≡ false
-          → body_line prims q order dateline k with_cursor after (marks_of w) (building weight ts s) ≡ body_line prims q order dateline k with_cursor after (marks_of w) (printing 0 ts [])
+          → body_answer prims q order dateline with_cursor after (marks_of w) (building weight ts s) ≡ body_answer prims q order dateline with_cursor after (marks_of w) (printing 0 ts [])
       prints_then listed weight ts s end light =
-          then-prints prims q dateline k with_cursor after (marks_of w) weight 0 ts s (left_is listed s ∙ owes_nothing (rows_order (page_rows w)) s end)
+          then-prints prims q dateline with_cursor after (marks_of w) weight 0 ts s (left_is listed s ∙ owes_nothing (rows_order (page_rows w)) s end)
           (ap (λ c. not c && nat_lt max_page_weight weight) listed ∙ light)
 
-      -- ---- the line of a reading that prints, by the rows that it keeps
+      -- ---- the answer of a reading that prints, by the rows that it keeps
 
-      abbrev print_line : List Tree → Bool → List defs.Row → List ℕ
-      print_line ts heavy rows = if heavy then err_line dateline k (too_wide (max_page_weight + 1))
-          else if q.single && nat_lt 1 (length rows) then err_line dateline k (refused_at (codes "NotUnique") [])
-          else result_line dateline k (if with_cursor then Some (page_cursor dateline (take q.limit rows) (nat_lt q.limit (length rows))) else None)
+      abbrev print_answer : List Tree → Bool → List defs.Row → Answer
+      print_answer ts heavy rows = if heavy then Err (too_wide (max_page_weight + 1))
+          else if q.single && nat_lt 1 (length rows) then Err (refused_at (codes "NotUnique") [])
+          else page_answer (if with_cursor then Some (page_cursor dateline (take q.limit rows) (nat_lt q.limit (length rows))) else None)
           (if q.count then Ok (count_json (length (take q.limit rows))) else page_shape prims q ts [])
 
-      prints_line : (ts : Trees) → body_line prims q order dateline k with_cursor after (marks_of w) (printing 0 ts []) ≡ print_line (list_of ts) false (rows_of w)
-      prints_line ts =
-          ap (λ b. print_line (list_of ts) b (window prims q after (map (mark_row prims q.sort) (marks_of w)))) (by q.count)
-          ∙ ap (print_line (list_of ts) false) keeps.again
+      prints_answer : (ts : Trees) → body_answer prims q order dateline with_cursor after (marks_of w) (printing 0 ts []) ≡ print_answer (list_of ts) false (rows_of w)
+      prints_answer ts =
+          ap (λ b. print_answer (list_of ts) b (window prims q after (map (mark_row prims q.sort) (marks_of w)))) (by q.count)
+          ∙ ap (print_answer (list_of ts) false) keeps.again
         where
           by : (c : Bool) → (not c && nat_lt max_page_weight 0) ≡ false
           by true = refl
           by false = refl
 
-      -- LAW: where more than one row was found and one is asked, the line says so
+      -- LAW: where more than one row was found and one is asked, the answer says so
       pub many_refuse : (ts : Trees) → is_ambiguous q.single (length (rows_of w)) ≡ true
-          → body_line prims q order dateline k with_cursor after (marks_of w) (printing 0 ts []) ≡ err_line dateline k (refused_at (codes "NotUnique") [])
+          → body_answer prims q order dateline with_cursor after (marks_of w) (printing 0 ts []) ≡ Err (refused_at (codes "NotUnique") [])
       many_refuse ts many =
-          prints_line ts
-          ∙ ap (λ b. if b then err_line dateline k (refused_at (codes "NotUnique") [])
-          else result_line dateline k (if with_cursor then Some (page_cursor dateline (take q.limit (rows_of w)) (nat_lt q.limit (length (rows_of w)))) else None)
+          prints_answer ts
+          ∙ ap (λ b. if b then Err (refused_at (codes "NotUnique") [])
+          else page_answer (if with_cursor then Some (page_cursor dateline (take q.limit (rows_of w)) (nat_lt q.limit (length (rows_of w)))) else None)
           (if q.count then Ok (count_json (length (take q.limit (rows_of w)))) else page_shape prims q (list_of ts) [])) many
 
-      -- LAW: else the line is that of the page
+      -- LAW: else the answer is that of the page
       pub prints_owe : (ts : Trees) → is_ambiguous q.single (length (rows_of w)) ≡ false
-          → body_line prims q order dateline k with_cursor after (marks_of w) (printing 0 ts [])
-          ≡ result_line dateline k (if with_cursor then Some (page_cursor dateline (page_rows w) (nat_lt w.limit (length (rows_of w)))) else None)
+          → body_answer prims q order dateline with_cursor after (marks_of w) (printing 0 ts [])
+          ≡ page_answer (if with_cursor then Some (page_cursor dateline (page_rows w) (nat_lt w.limit (length (rows_of w)))) else None)
           (if q.count then Ok (count_json (length (page_rows w))) else page_shape prims q (list_of ts) [])
       prints_owe ts one =
-          prints_line ts
-          ∙ ap (λ b. if b then err_line dateline k (refused_at (codes "NotUnique") []) else by_limit q.limit) one
+          prints_answer ts
+          ∙ ap (λ b. if b then Err (refused_at (codes "NotUnique") []) else by_limit q.limit) one
           ∙ ap by_limit (ap (λ (v : Kept). v.limit) (sym keeps.is))
         where
-          by_limit : ℕ → List ℕ
-          by_limit n = result_line dateline k (if with_cursor then Some (page_cursor dateline (take n (rows_of w)) (nat_lt n (length (rows_of w)))) else None)
+          by_limit : ℕ → Answer
+          by_limit n = page_answer (if with_cursor then Some (page_cursor dateline (take n (rows_of w)) (nat_lt n (length (rows_of w)))) else None)
               (if q.count then Ok (count_json (length (take n (rows_of w)))) else page_shape prims q (list_of ts) [])
 
     -- LAW: of a count no tree is built
     pub counts_then : (kept : List Mark) → q.count ≡ true
-        → body_line prims q order dateline k with_cursor after kept (building 0 no_trees start) ≡ body_line prims q order dateline k with_cursor after kept (printing 0 no_trees [])
+        → body_answer prims q order dateline with_cursor after kept (building 0 no_trees start) ≡ body_answer prims q order dateline with_cursor after kept (printing 0 no_trees [])
     counts_then kept counts =
-        then-prints prims q dateline k with_cursor after kept 0 0 no_trees start nothing-built (ap (λ c. not c && nat_lt max_page_weight 0) counts)
+        then-prints prims q dateline with_cursor after kept 0 0 no_trees start nothing-built (ap (λ c. not c && nat_lt max_page_weight 0) counts)
       where
-        nothing-built : row_tried prims q start ++ row_candidates prims q 0 (kept_page prims q dateline k with_cursor after kept) ≡ []
-        nothing-built = ap (λ b. (if b then [] else tried prims (template_of q) 0 []) ++ (if b then [] else map (candidate prims (template_of q)) (filter (passes_template prims (template_of q)) (map (λ (r : defs.Row). r.object) (drop 0 (kept_page prims q dateline k with_cursor after kept)))))) counts
+        nothing-built : row_tried prims q start ++ row_candidates prims q 0 (kept_page prims q dateline with_cursor after kept) ≡ []
+        nothing-built = ap (λ b. (if b then [] else tried prims (template_of q) 0 []) ++ (if b then [] else map (candidate prims (template_of q)) (filter (passes_template prims (template_of q)) (map (λ (r : defs.Row). r.object) (drop 0 (kept_page prims q dateline with_cursor after kept)))))) counts

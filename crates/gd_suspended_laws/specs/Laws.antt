@@ -1,5 +1,5 @@
 -- The laws of readings that are suspended.
-use Rattle.std.specs.Prelude.{◌≡◌, ◌<◌, ◌≤◌, ℕ, ◌+◌, List, [], map, filter, length, Bool, true, false, nat_lt, Option, Some, None, Ok, if◌then◌else◌, codes}
+use Rattle.std.specs.Prelude.{◌≡◌, ◌<◌, ◌≤◌, ℕ, ◌+◌, List, [], map, filter, length, Bool, true, false, nat_lt, Option, Some, None, Ok, if◌then◌else◌, codes, Err}
 use Rattle.std.specs.List.{list_any}
 use Rattle.std.specs.Ordering.{nat_cmp}
 use Rattle.gd_prim.specs.declared.Primitive.{Primitive}
@@ -7,9 +7,9 @@ use Rattle.gd_prim.specs.Live.{objects}
 use Rattle.gd_tree.specs.Trees.{Trees, no_trees, append, trees_of, list_of, lists_of}
 use Rattle.gd_defs.specs.Query.{Query}
 use Rattle.gd_defs.specs.Asked.{Asked, Asking, Members, asked_query}
-use Rattle.gd_defs.specs.Lines.{too_wide, refused_at, err_line, count_json}
+use Rattle.gd_defs.specs.Lines.{too_wide, refused_at, count_json}
 use Rattle.gd_defs.specs.Plan.{asked_end, template_of}
-use Rattle.gd_defs.specs.Reply.{Mark, reply, page_cursor, result_line, is_ambiguous, max_candidate_weight, max_page_weight}
+use Rattle.gd_defs.specs.Reply.{Mark, page_cursor, is_ambiguous, max_candidate_weight, max_page_weight, page_answer, answer}
 use Rattle.gd_defs.specs.Rows.{key_place, meets_given, met}
 use Rattle.gd_defs.specs.Template.{Template, tree_of, passes_template}
 use Rattle.gd_bytes.specs.Frozen.{Scan, scanning, building, printing}
@@ -18,7 +18,7 @@ use Rattle.gd_runs.specs.RootSets.{everything, links_of, named_places}
 use Rattle.gd_runs.specs.Scanned.{scan_order, set_order}
 use Rattle.gd_runs.specs.Shape.{page_shape}
 use Rattle.gd_runs.specs.Shape.Answers.{key_places, sort_lists}
-use Rattle.gd_runs.specs.Thawed.{built_trees, built_weight, body_line}
+use Rattle.gd_runs.specs.Thawed.{built_trees, built_weight, body_answer}
 use Rattle.gd_template_laws.specs.Laws.{AreHeld}
 use Rattle.gd_order_laws.specs.Window.{In, Apart, Rising}
 use Rattle.gd_scan_laws.specs.Ordered.{start}
@@ -66,20 +66,20 @@ FewerAre = (prims : List Primitive) (written : Query) (q : Asked) (ms : Members)
 
 -- ---- scanning
 
--- A reading that has given nothing owes the reply to its query, in whichever order it scans.
+-- A reading that has given nothing owes the answer to its query, in whichever order it scans.
 abbrev pub StartsOwe : Type 0
-StartsOwe = (prims : List Primitive) (written : Query) (q : Asked) (order : ScanOrder) → AreHeld prims → asked_query prims written ≡ Ok q → IsOrderOf prims q order → (dateline k : ℕ) (with_cursor : Bool) (after : Option Mark)
-    → body_line prims q order dateline k with_cursor after [] (scanning start) ≡ reply prims dateline k with_cursor after written
+StartsOwe = (prims : List Primitive) (written : Query) (q : Asked) (order : ScanOrder) → AreHeld prims → asked_query prims written ≡ Ok q → IsOrderOf prims q order → (dateline : ℕ) (with_cursor : Bool) (after : Option Mark)
+    → body_answer prims q order dateline with_cursor after [] (scanning start) ≡ answer prims dateline with_cursor after written
 
 -- Wherever a scan stands that came from its start, the reading owes what it did there.
 abbrev pub ScansOwe : Type 0
-ScansOwe = RowsBehindAreAsDefined → (prims : List Primitive) (q : Asked) (order : ScanOrder) (after : Option Mark) (s : Scan) (w : Kept) → 0 < q.limit → IsOrderOf prims q order → HasScanned prims q after order s w → (dateline k : ℕ) (with_cursor : Bool)
-    → body_line prims q order dateline k with_cursor after (marks_of w) (scanning s) ≡ body_line prims q order dateline k with_cursor after [] (scanning start)
+ScansOwe = RowsBehindAreAsDefined → (prims : List Primitive) (q : Asked) (order : ScanOrder) (after : Option Mark) (s : Scan) (w : Kept) → 0 < q.limit → IsOrderOf prims q order → HasScanned prims q after order s w → (dateline : ℕ) (with_cursor : Bool)
+    → body_answer prims q order dateline with_cursor after (marks_of w) (scanning s) ≡ body_answer prims q order dateline with_cursor after [] (scanning start)
 
 -- Where a candidate that is owed weighs too much, the reading owes the refusal that says so.
 abbrev pub HeavyScansRefuse : Type 0
-HeavyScansRefuse = (prims : List Primitive) (q : Asked) (order : ScanOrder) (dateline k : ℕ) (with_cursor : Bool) (after : Option Mark) (kept : List Mark) (s : Scan) → list_any weighs_too_much (owed_by prims (template_of q) order s) ≡ true
-    → body_line prims q order dateline k with_cursor after kept (scanning s) ≡ err_line dateline k (too_wide (max_candidate_weight + 1))
+HeavyScansRefuse = (prims : List Primitive) (q : Asked) (order : ScanOrder) (dateline : ℕ) (with_cursor : Bool) (after : Option Mark) (kept : List Mark) (s : Scan) → list_any weighs_too_much (owed_by prims (template_of q) order s) ≡ true
+    → body_answer prims q order dateline with_cursor after kept (scanning s) ≡ Err (too_wide (max_candidate_weight + 1))
 
 -- Where the places of an order are listed, and each of the list behind the last tree that was given would change nothing, the scan may go to its end with the window that it has.
 abbrev pub ScansEndEarly : Type 0
@@ -100,56 +100,56 @@ ScansKeep = RowsBehindAreAsDefined → (prims : List Primitive) (q : Asked) (ord
 
 -- Where no candidate is left, the trees of the rows that are kept are built.
 abbrev pub ThenBuilds : Type 0
-ThenBuilds = (prims : List Primitive) (q : Asked) (order : ScanOrder) (dateline k : ℕ) (with_cursor : Bool) (after : Option Mark) (kept : List Mark) (s : Scan) → AtEnd prims order (template_of q) s
-    → body_line prims q order dateline k with_cursor after kept (scanning s) ≡ body_line prims q order dateline k with_cursor after kept (building 0 no_trees start)
+ThenBuilds = (prims : List Primitive) (q : Asked) (order : ScanOrder) (dateline : ℕ) (with_cursor : Bool) (after : Option Mark) (kept : List Mark) (s : Scan) → AtEnd prims order (template_of q) s
+    → body_answer prims q order dateline with_cursor after kept (scanning s) ≡ body_answer prims q order dateline with_cursor after kept (building 0 no_trees start)
 
 -- A reading that builds trees goes on by a run over its rows, none of which weighs too much.
 abbrev pub BuildsGo : Type 0
-BuildsGo = (prims : List Primitive) (q : Asked) (order : ScanOrder) (dateline k : ℕ) (with_cursor : Bool) (after : Option Mark) (w : Kept) → IsKept prims q after w → q.count ≡ false → (weight : ℕ) (ts : Trees) (s m : Scan) (cs : List Candidate)
+BuildsGo = (prims : List Primitive) (q : Asked) (order : ScanOrder) (dateline : ℕ) (with_cursor : Bool) (after : Option Mark) (w : Kept) → IsKept prims q after w → q.count ≡ false → (weight : ℕ) (ts : Trees) (s m : Scan) (cs : List Candidate)
     → Runs prims (rows_order (page_rows w)) (template_of q) s cs m → list_any weighs_too_much cs ≡ false
-    → body_line prims q order dateline k with_cursor after (marks_of w) (building weight ts s)
-    ≡ body_line prims q order dateline k with_cursor after (marks_of w) (building (weight + built_weight cs) (append ts (trees_of (built_trees cs))) m)
+    → body_answer prims q order dateline with_cursor after (marks_of w) (building weight ts s)
+    ≡ body_answer prims q order dateline with_cursor after (marks_of w) (building (weight + built_weight cs) (append ts (trees_of (built_trees cs))) m)
 
 -- The trees of the rows of a page that answer may be printed at once, where these do not weigh too much together.
 abbrev pub PagesPrint : Type 0
-PagesPrint = (prims : List Primitive) (q : Asked) (order : ScanOrder) (dateline k : ℕ) (with_cursor : Bool) (after : Option Mark) (w : Kept) → IsKept prims q after w → q.count ≡ false
+PagesPrint = (prims : List Primitive) (q : Asked) (order : ScanOrder) (dateline : ℕ) (with_cursor : Bool) (after : Option Mark) (w : Kept) → IsKept prims q after w → q.count ≡ false
     → weight_among prims q (page_objects w) ≤ max_page_weight
-    → body_line prims q order dateline k with_cursor after (marks_of w) (building 0 no_trees start)
-    ≡ body_line prims q order dateline k with_cursor after (marks_of w) (printing 0 (trees_of (trees_among prims q (page_objects w))) [])
+    → body_answer prims q order dateline with_cursor after (marks_of w) (building 0 no_trees start)
+    ≡ body_answer prims q order dateline with_cursor after (marks_of w) (printing 0 (trees_of (trees_among prims q (page_objects w))) [])
 
 -- Where a row that is still to be built weighs too much, the reading owes the refusal that says so.
 abbrev pub HeavyBuildsRefuse : Type 0
-HeavyBuildsRefuse = (prims : List Primitive) (q : Asked) (order : ScanOrder) (dateline k : ℕ) (with_cursor : Bool) (after : Option Mark) (w : Kept) → IsKept prims q after w → q.count ≡ false → (weight : ℕ) (ts : Trees) (s : Scan)
+HeavyBuildsRefuse = (prims : List Primitive) (q : Asked) (order : ScanOrder) (dateline : ℕ) (with_cursor : Bool) (after : Option Mark) (w : Kept) → IsKept prims q after w → q.count ≡ false → (weight : ℕ) (ts : Trees) (s : Scan)
     → list_any weighs_too_much (owed_by prims (template_of q) (rows_order (page_rows w)) s) ≡ true
-    → body_line prims q order dateline k with_cursor after (marks_of w) (building weight ts s) ≡ err_line dateline k (too_wide (max_candidate_weight + 1))
+    → body_answer prims q order dateline with_cursor after (marks_of w) (building weight ts s) ≡ Err (too_wide (max_candidate_weight + 1))
 
 -- Where the rows that were built weigh too much together, and of those that are left none does by itself, the reading owes the refusal that says so.
 abbrev pub HeavyPagesRefuse : Type 0
-HeavyPagesRefuse = (prims : List Primitive) (q : Asked) (order : ScanOrder) (dateline k : ℕ) (with_cursor : Bool) (after : Option Mark) (w : Kept) → IsKept prims q after w → q.count ≡ false → (weight : ℕ) (ts : Trees) (s : Scan)
+HeavyPagesRefuse = (prims : List Primitive) (q : Asked) (order : ScanOrder) (dateline : ℕ) (with_cursor : Bool) (after : Option Mark) (w : Kept) → IsKept prims q after w → q.count ≡ false → (weight : ℕ) (ts : Trees) (s : Scan)
     → list_any weighs_too_much (owed_by prims (template_of q) (rows_order (page_rows w)) s) ≡ false → nat_lt max_page_weight weight ≡ true
-    → body_line prims q order dateline k with_cursor after (marks_of w) (building weight ts s) ≡ err_line dateline k (too_wide (max_page_weight + 1))
+    → body_answer prims q order dateline with_cursor after (marks_of w) (building weight ts s) ≡ Err (too_wide (max_page_weight + 1))
 
 -- ---- printing
 
 -- Where no row is left and the page does not weigh too much, its trees are printed.
 abbrev pub ThenPrints : Type 0
-ThenPrints = (prims : List Primitive) (q : Asked) (order : ScanOrder) (dateline k : ℕ) (with_cursor : Bool) (after : Option Mark) (w : Kept) → IsKept prims q after w → q.count ≡ false → (weight : ℕ) (ts : Trees) (s : Scan)
+ThenPrints = (prims : List Primitive) (q : Asked) (order : ScanOrder) (dateline : ℕ) (with_cursor : Bool) (after : Option Mark) (w : Kept) → IsKept prims q after w → q.count ≡ false → (weight : ℕ) (ts : Trees) (s : Scan)
     → AtEnd prims (rows_order (page_rows w)) (template_of q) s → nat_lt max_page_weight weight ≡ false
-    → body_line prims q order dateline k with_cursor after (marks_of w) (building weight ts s) ≡ body_line prims q order dateline k with_cursor after (marks_of w) (printing 0 ts [])
+    → body_answer prims q order dateline with_cursor after (marks_of w) (building weight ts s) ≡ body_answer prims q order dateline with_cursor after (marks_of w) (printing 0 ts [])
 
 -- Of a count no tree is built.
 abbrev pub ThenCounts : Type 0
-ThenCounts = (prims : List Primitive) (q : Asked) (order : ScanOrder) (dateline k : ℕ) (with_cursor : Bool) (after : Option Mark) (kept : List Mark) → q.count ≡ true
-    → body_line prims q order dateline k with_cursor after kept (building 0 no_trees start) ≡ body_line prims q order dateline k with_cursor after kept (printing 0 no_trees [])
+ThenCounts = (prims : List Primitive) (q : Asked) (order : ScanOrder) (dateline : ℕ) (with_cursor : Bool) (after : Option Mark) (kept : List Mark) → q.count ≡ true
+    → body_answer prims q order dateline with_cursor after kept (building 0 no_trees start) ≡ body_answer prims q order dateline with_cursor after kept (printing 0 no_trees [])
 
 -- A reading that prints, of which more than one row was found where one is asked, owes the refusal that says so.
 abbrev pub ManyRefuse : Type 0
-ManyRefuse = (prims : List Primitive) (q : Asked) (order : ScanOrder) (dateline k : ℕ) (with_cursor : Bool) (after : Option Mark) (w : Kept) → IsKept prims q after w → (ts : Trees) → is_ambiguous q.single (length (rows_of w)) ≡ true
-    → body_line prims q order dateline k with_cursor after (marks_of w) (printing 0 ts []) ≡ err_line dateline k (refused_at (codes "NotUnique") [])
+ManyRefuse = (prims : List Primitive) (q : Asked) (order : ScanOrder) (dateline : ℕ) (with_cursor : Bool) (after : Option Mark) (w : Kept) → IsKept prims q after w → (ts : Trees) → is_ambiguous q.single (length (rows_of w)) ≡ true
+    → body_answer prims q order dateline with_cursor after (marks_of w) (printing 0 ts []) ≡ Err (refused_at (codes "NotUnique") [])
 
--- Else it owes the line of its page: the count, or what its trees print, with the cursor where one is asked.
+-- Else it owes the answer of its page: the count, or what its trees print, with the cursor where one is asked.
 abbrev pub PrintsOwe : Type 0
-PrintsOwe = (prims : List Primitive) (q : Asked) (order : ScanOrder) (dateline k : ℕ) (with_cursor : Bool) (after : Option Mark) (w : Kept) → IsKept prims q after w → (ts : Trees) → is_ambiguous q.single (length (rows_of w)) ≡ false
-    → body_line prims q order dateline k with_cursor after (marks_of w) (printing 0 ts [])
-    ≡ result_line dateline k (if with_cursor then Some (page_cursor dateline (page_rows w) (nat_lt w.limit (length (rows_of w)))) else None)
+PrintsOwe = (prims : List Primitive) (q : Asked) (order : ScanOrder) (dateline : ℕ) (with_cursor : Bool) (after : Option Mark) (w : Kept) → IsKept prims q after w → (ts : Trees) → is_ambiguous q.single (length (rows_of w)) ≡ false
+    → body_answer prims q order dateline with_cursor after (marks_of w) (printing 0 ts [])
+    ≡ page_answer (if with_cursor then Some (page_cursor dateline (page_rows w) (nat_lt w.limit (length (rows_of w)))) else None)
     (if q.count then Ok (count_json (length (page_rows w))) else page_shape prims q (list_of ts) [])

@@ -1,6 +1,6 @@
-//! Readings that are suspended: from scanning to building to printing they owe the same line. Each
-//! law is the contract of a function that does nothing: whoever calls it may use the law, and code
-//! above cites its statement from `specs/Laws.antt`.
+//! Readings that are suspended: from scanning to building to printing they owe the same answer.
+//! Each law is the contract of a function that does nothing: whoever calls it may use the law, and
+//! code above cites its statement from `specs/Laws.antt`.
 #![tactic(auto)]
 
 ghost use Rattle.gd_suspended_laws.specs.Laws.{BuildsGo, EverythingIs, FewerAre, FullAre};
@@ -48,7 +48,7 @@ pub fn fewer_are()
     ensures { FewerAre }
 {}
 
-/// A reading that has given nothing owes the reply to its query, in whichever order it scans.
+/// A reading that has given nothing owes the answer to its query, in whichever order it scans.
 pub fn starts_owe()
     ensures { StartsOwe }
 {}
@@ -122,7 +122,7 @@ pub fn many_refuse()
     ensures { ManyRefuse }
 {}
 
-/// Else a reading that prints owes the line of its page.
+/// Else a reading that prints owes the answer of its page.
 pub fn prints_owe()
     ensures { PrintsOwe }
 {}

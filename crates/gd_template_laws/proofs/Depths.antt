@@ -1,5 +1,5 @@
 -- How deep the templates of a query lie one within the other.
-use Rattle.std.proofs.Common.{◌≡◌, ◌≤◌, ℕ, ◌+◌, ◌*◌, List, [], ◌∷◌, ◌++◌, Bool, true, false, Option, Some, None, Result, Ok, codes, refl, ap, subst, arith}
+use Rattle.std.proofs.Common.{◌≡◌, ◌≤◌, ℕ, ◌+◌, ◌*◌, List, [], ◌∷◌, ◌++◌, Bool, true, false, Option, Some, None, Result, Ok, refl, ap, subst, arith}
 use Rattle.std.specs.Prelude.{max, if◌then◌else◌}
 use Rattle.std.specs.Option.{option_map_or}
 use Rattle.gd_prim.specs.declared.Primitive.{Primitive}
@@ -9,6 +9,7 @@ use Rattle.gd_defs.specs.Data.{Kind, of_text, Test}
 use Rattle.gd_defs.specs.Query as query
 use Rattle.gd_defs.specs.Query.{Name, Form, Directives, required, Query, is_word, is_link}
 use Rattle.gd_defs.specs.Property.{Property, Expects, a_value, a_key, an_object_of_system, a_plain_object, expects_of, holds_values}
+use Rattle.gd_defs.proofs.Directives.{sort_name}
 use Rattle.gd_defs.specs.Asked.{Own, its_id, its_guid, its_timestamp, its_link, its_value, its_namespace, its_lang, Key, by_guid, by_timestamp, by_property, SortKey, Asking, Members, no_members, own, asks, Clause, Unknown, Asked, asked, asked_form, asked_query, own_of, own_member, own_test, value_members, member_property, below_property, context_of, type_text, sort_keys}
 use Rattle.gd_defs.specs.Asked.Tests.{checked_test}
 use Rattle.gd_defs.specs.Asked.Forms.{ask_form, own_clause, operand_form, clause_form, name_test, asks_single}
@@ -174,7 +175,7 @@ mutual
   clause-deep : (prims : List Primitive) (context : Option ℕ) (path : List (List ℕ)) (ms : query.Members) (c : Clause) → asked prims context path ms ≡ Ok c → height c.0 ≤ 2 * forms_below ms + 4
   clause-deep prims context path query.no_members c is = subst (λ (c : Clause). height c.0 ≤ 4) (ok_same (no_members, []) c is) (omega arith)
   clause-deep prims context path (query.sort_by ws ms) c is =
-      let one = steps (sort_keys prims context (path ++ codes "sort" ∷ []) ws) (λ ks. asked prims context path ms >>= λ c. Ok (c.0, ks)) c is in
+      let one = steps (sort_keys prims context (path ++ sort_name ∷ []) ws) (λ ks. asked prims context path ms >>= λ c. Ok (c.0, ks)) c is in
       let more = steps (asked prims context path ms) (λ c. Ok (c.0, one.value)) c one.then_gave in
       subst (λ (c : Clause). height c.0 ≤ 2 * forms_below ms + 4) (ok_same (more.value.0, one.value) c more.then_gave) (clause-deep prims context path ms more.value more.gave)
   clause-deep prims context path (query.member n f ms) c is =

@@ -1,12 +1,13 @@
 -- The forms of a query lie no deeper one within the other than the values that spell them.
-use Rattle.std.proofs.Common.{◌≡◌, ◌≤◌, ℕ, ◌+◌, List, Bool, true, false, not, ◌&&◌, ◌||◌, Some, None, Result, Ok, codes, refl, ap, subst, arith}
-use Rattle.std.specs.Prelude.{if◌then◌else◌, bytes_eq, max}
+use Rattle.std.proofs.Common.{◌≡◌, ◌≤◌, ℕ, ◌+◌, List, Bool, true, false, not, ◌&&◌, ◌||◌, Some, None, Result, Ok, refl, ap, subst, arith}
+use Rattle.std.specs.Prelude.{if◌then◌else◌, max}
 use Rattle.gd_prim.specs.declared.Primitive.{Primitive}
 use Rattle.gd_grammar.specs.Chain.{◌>>=◌}
 use Rattle.gd_tree.specs.Json.{Json, null, boolean, number, text, list, object, no_items, item, Members as JsonMembers, no_members as no_json_members, member as json_member}
 use Rattle.gd_tree.specs.Look.{is_null}
 use Rattle.gd_defs.specs.Query as query
 use Rattle.gd_defs.specs.Query.{Fault, Name, Form, Members, Clause, Query, no_directives, optional, bad_directive, bad_operand, or_fault, fault, within, has_operator, is_computed, is_link, operand_fits, is_directive, mode_of, limit_of, sort_of, is_count, default_members, clause_or_default, with_member, member_name, with_directive, as_one, as_many, is_other_list, form_or_operand, clause_of, form_of, root_query, query_of}
+use Rattle.gd_defs.proofs.Directives.{each_effect}
 use Rattle.gd_defs.specs.Asked.{Asked, asked_query}
 use Rattle.gd_defs.specs.Plan.{template_of}
 use Rattle.gd_defs.specs.Template.{depth}
@@ -31,7 +32,12 @@ behind-name n j r f depth form is = by (has_operator n) (operand_fits n j) (not 
     by false false false is = absurd (cc)
 
 behind-directive : (root : Bool) (k : List ℕ) (j : Json) (rest : Result Clause Fault) (c : Clause) (depth : ℕ) → ((d : Clause) → rest ≡ Ok d → forms_below d.1 ≤ depth) → with_directive root k j rest ≡ Ok c → forms_below c.1 ≤ depth
-behind-directive root k j rest c depth more is = by (bytes_eq k (codes "optional")) (bytes_eq k (codes "limit")) (bytes_eq k (codes "sort")) (root && is_count j) is
+behind-directive root k j rest c depth more is =
+    each_effect (λ (f : Result Clause Fault → Result Clause Fault). f rest ≡ Ok c → forms_below c.1 ≤ depth) root k j
+    (with_value (or_fault bad_directive k (if root then None else mode_of j)) (λ m c. (record c.0 { mode = Some m }, c.1)) (λ x d. refl))
+    (with_value (or_fault bad_directive k (limit_of j)) (λ n c. (record c.0 { limit = Some n }, c.1)) (λ x d. refl))
+    (with_value (or_fault bad_directive k (sort_of j)) (λ ws c. (c.0, query.sort_by ws c.1)) (λ x d. refl))
+    (counted (root && is_count j)) is
   where
     changed : (change : Clause → Clause) → ((d : Clause) → forms_below (change d).1 ≡ forms_below d.1) → (rest >>= λ c. Ok (change c)) ≡ Ok c → forms_below c.1 ≤ depth
     changed change keeps is =
@@ -45,17 +51,9 @@ behind-directive root k j rest c depth more is = by (bytes_eq k (codes "optional
         let step = steps v (λ x. rest >>= λ c. Ok (change x c)) c is in
         changed (change step.value) (keeps step.value) step.then_gave
 
-    by : (b1 b2 b3 b4 : Bool)
-        → (if b1 then (or_fault bad_directive k (if root then None else mode_of j) >>= λ m. rest >>= λ (c : Clause). Ok (record c.0 { mode = Some m }, c.1))
-        else if b2 then (or_fault bad_directive k (limit_of j) >>= λ n. rest >>= λ (c : Clause). Ok (record c.0 { limit = Some n }, c.1))
-        else if b3 then (or_fault bad_directive k (sort_of j) >>= λ ws. rest >>= λ c. Ok (c.0, query.sort_by ws c.1))
-        else if b4 then (rest >>= λ (c : Clause). Ok (record c.0 { count = true }, c.1)) else fault bad_directive k) ≡ Ok c
-        → forms_below c.1 ≤ depth
-    by true b2 b3 b4 is = with_value (or_fault bad_directive k (if root then None else mode_of j)) (λ m c. (record c.0 { mode = Some m }, c.1)) (λ x d. refl) is
-    by false true b3 b4 is = with_value (or_fault bad_directive k (limit_of j)) (λ n c. (record c.0 { limit = Some n }, c.1)) (λ x d. refl) is
-    by false false true b4 is = with_value (or_fault bad_directive k (sort_of j)) (λ ws c. (c.0, query.sort_by ws c.1)) (λ x d. refl) is
-    by false false false true is = changed (λ c. (record c.0 { count = true }, c.1)) (λ d. refl) is
-    by false false false false is = absurd (cc)
+    counted : (b : Bool) → (if b then (rest >>= λ (c : Clause). Ok (record c.0 { count = true }, c.1)) else fault bad_directive k) ≡ Ok c → forms_below c.1 ≤ depth
+    counted true is = changed (λ c. (record c.0 { count = true }, c.1)) (λ d. refl) is
+    counted false is = absurd (cc)
 
 or-default : (ms : JsonMembers) (r : Result Clause Fault) (c : Clause) (depth : ℕ) → ((d : Clause) → r ≡ Ok d → forms_below d.1 ≤ depth) → clause_or_default ms r ≡ Ok c → forms_below c.1 ≤ depth
 or-default no_json_members r c depth more is = subst (λ (c : Clause). forms_below c.1 ≤ depth) (ok_same (record no_directives { mode = Some optional }, default_members) c is) (omega arith)

@@ -119,11 +119,11 @@ module _ (prims : List Primitive) (q : Asked) (after : Option Mark) (kept : List
 -- ---- LAWS
 
 pub thawed_scans_owe : ThawedScansOwe
-thawed_scans_owe prims members q order dateline k with_cursor after kept s m cs some fits run light =
-    scan_goes prims q order dateline k with_cursor after kept (best_since prims q after kept cs) s m cs run light some
+thawed_scans_owe prims members q order dateline with_cursor after kept s m cs some fits run light =
+    scan_goes prims q order dateline with_cursor after kept (best_since prims q after kept cs) s m cs run light some
     (best_stand prims q after kept cs (given_inside prims members (template_of q) order s m cs fits run) (owed_by prims (template_of q) order m))
 
 pub kept_stand : KeptStand
-kept_stand prims q order dateline k with_cursor after kept s some =
-    scan_goes prims q order dateline k with_cursor after kept (best_since prims q after kept []) s s [] (stays s) refl some
+kept_stand prims q order dateline with_cursor after kept s some =
+    scan_goes prims q order dateline with_cursor after kept (best_since prims q after kept []) s s [] (stays s) refl some
     (best_stand prims q after kept [] (λ o none. absurd none) (owed_by prims (template_of q) order s))

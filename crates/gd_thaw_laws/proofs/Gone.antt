@@ -1,20 +1,20 @@
 -- Readings that go on with kept rows from a position.
-use Rattle.std.proofs.Common.{◌≡◌, ◌∙◌, refl, sym, ap, subst, arith, add-one, ℕ, suc, ◌+◌, ◌<◌, ◌≤◌, List, [], ◌∷◌, ◌++◌, Bool, ◌&&◌, not, Option, None, Some, Ok, length, take, map, append_assoc}
+use Rattle.std.proofs.Common.{◌≡◌, ◌∙◌, refl, sym, ap, subst, arith, add-one, ℕ, suc, ◌+◌, ◌<◌, ◌≤◌, List, [], ◌∷◌, ◌++◌, Bool, ◌&&◌, not, Option, None, Some, Ok, length, take, map, append_assoc, Err}
 use Rattle.std.specs.Prelude.{option_map, nat_lt, if◌then◌else◌, codes}
 use Rattle.std.specs.List.{list_any}
 use Rattle.std.proofs.lemmas.List.{append-nil, take_all}
 use Rattle.gd_prim.specs.declared.Primitive.{Primitive}
 use Rattle.gd_tree.specs.Trees.{Tree, list_of}
 use Rattle.gd_defs.specs.Asked.{Asked}
-use Rattle.gd_defs.specs.Lines.{too_wide, refused_at, err_line, count_json}
+use Rattle.gd_defs.specs.Lines.{too_wide, refused_at, count_json}
 use Rattle.gd_defs.specs.Plan.{template_of}
-use Rattle.gd_defs.specs.Reply.{Mark, mark_row, row_mark, page_cursor, result_line, max_candidate_weight, max_page_weight}
+use Rattle.gd_defs.specs.Reply.{Mark, mark_row, row_mark, page_cursor, max_candidate_weight, max_page_weight, Answer, page_answer}
 use Rattle.gd_defs.specs.Rows.{row_of, row_cmp, sorted_onto}
 use Rattle.gd_defs.specs.Rows as defs
 use Rattle.gd_bytes.specs.Frozen.{Scan, Walk, scanning, building, printing}
 use Rattle.gd_runs.specs.Owed.{Candidate, weighs_too_much}
 use Rattle.gd_runs.specs.Shape.{page_shape}
-use Rattle.gd_runs.specs.Thawed.{window, answering, built_trees, built_weight, row_candidates, row_tried, body_line}
+use Rattle.gd_runs.specs.Thawed.{window, answering, built_trees, built_weight, row_candidates, row_tried, body_answer}
 use Rattle.gd_order_laws.specs.Window.{Each}
 use Rattle.gd_match_laws.specs.Moves.{stays}
 use Rattle.gd_match_laws.proofs.Bodies.{filter_map-append, map-append}
@@ -112,9 +112,9 @@ pub gone_keeps : GoneKeeps
 gone_keeps law prims q after order kept from s w has = ap (map row_mark) (keeps_rows law prims q after kept has.given w has.is has.seen)
 
 pub gone_owes : GoneOwes
-gone_owes law prims members q after order kept from s w some fits has dateline k with_cursor =
-    thawed_scans_owe prims members q order dateline k with_cursor after kept from s has.given some fits has.runs has.light
-    ∙ ap (λ l. body_line prims q order dateline k with_cursor after l (scanning s)) (sym (gone_keeps law prims q after order kept from s w has))
+gone_owes law prims members q after order kept from s w some fits has dateline with_cursor =
+    thawed_scans_owe prims members q order dateline with_cursor after kept from s has.given some fits has.runs has.light
+    ∙ ap (λ l. body_answer prims q order dateline with_cursor after l (scanning s)) (sym (gone_keeps law prims q after order kept from s w has))
 
 -- ---- rows again
 
@@ -140,27 +140,27 @@ gone_reads law prims members q after order kept from s w fits has =
 
 -- ---- the best of the rows stand for them, whatever a reading does
 
-module _ (prims : List Primitive) (q : Asked) (dateline k : ℕ) (with_cursor : Bool) where
-  -- a line by the page, and by whether there are two rows and whether more follow
-  abbrev page_by : ℕ → List Tree → List Walk → List defs.Row → Bool → Bool → List ℕ
+module _ (prims : List Primitive) (q : Asked) (dateline : ℕ) (with_cursor : Bool) where
+  -- an answer by the page, and by whether there are two rows and whether more follow
+  abbrev page_by : ℕ → List Tree → List Walk → List defs.Row → Bool → Bool → Answer
   page_by weight trees walks page two more =
-      if not q.count && nat_lt max_page_weight weight then err_line dateline k (too_wide (max_page_weight + 1))
-      else if q.single && two then err_line dateline k (refused_at (codes "NotUnique") [])
-      else result_line dateline k (if with_cursor then Some (page_cursor dateline page more) else None)
+      if not q.count && nat_lt max_page_weight weight then Err (too_wide (max_page_weight + 1))
+      else if q.single && two then Err (refused_at (codes "NotUnique") [])
+      else page_answer (if with_cursor then Some (page_cursor dateline page more) else None)
       (if q.count then Ok (count_json (length page)) else page_shape prims q trees walks)
 
-  abbrev build_by : ℕ → List Tree → Scan → List defs.Row → Bool → Bool → List ℕ
+  abbrev build_by : ℕ → List Tree → Scan → List defs.Row → Bool → Bool → Answer
   build_by w ts s page two more =
-      if list_any weighs_too_much (row_tried prims q s ++ row_candidates prims q s.iter.place page) then err_line dateline k (too_wide (max_candidate_weight + 1))
+      if list_any weighs_too_much (row_tried prims q s ++ row_candidates prims q s.iter.place page) then Err (too_wide (max_candidate_weight + 1))
       else page_by (w + built_weight (row_tried prims q s ++ row_candidates prims q s.iter.place page)) (ts ++ built_trees (row_tried prims q s ++ row_candidates prims q s.iter.place page)) [] page two more
 
   -- what hangs on the page and on whether there are two rows and more hangs on the first rows alone
-  by_first : 0 < q.limit → (line : List defs.Row → Bool → Bool → List ℕ) (rows : List defs.Row) → line (take q.limit rows) (nat_lt 1 (length rows)) (nat_lt q.limit (length rows))
-      ≡ line (take q.limit (take (suc q.limit) rows)) (nat_lt 1 (length (take (suc q.limit) rows))) (nat_lt q.limit (length (take (suc q.limit) rows)))
-  by_first some line rows =
-      ap (λ page. line page (nat_lt 1 (length rows)) (nat_lt q.limit (length rows))) (sym (take_longer q.limit rows))
-      ∙ (ap (λ two. line (take q.limit (take (suc q.limit) rows)) two (nat_lt q.limit (length rows))) (sym (more_than 1 (suc q.limit) rows (omega (arith, some))))
-      ∙ ap (line (take q.limit (take (suc q.limit) rows)) (nat_lt 1 (length (take (suc q.limit) rows)))) (sym (more_than q.limit (suc q.limit) rows (omega arith))))
+  by_first : 0 < q.limit → (paged : List defs.Row → Bool → Bool → Answer) (rows : List defs.Row) → paged (take q.limit rows) (nat_lt 1 (length rows)) (nat_lt q.limit (length rows))
+      ≡ paged (take q.limit (take (suc q.limit) rows)) (nat_lt 1 (length (take (suc q.limit) rows))) (nat_lt q.limit (length (take (suc q.limit) rows)))
+  by_first some paged rows =
+      ap (λ page. paged page (nat_lt 1 (length rows)) (nat_lt q.limit (length rows))) (sym (take_longer q.limit rows))
+      ∙ (ap (λ two. paged (take q.limit (take (suc q.limit) rows)) two (nat_lt q.limit (length rows))) (sym (more_than 1 (suc q.limit) rows (omega (arith, some))))
+      ∙ ap (paged (take q.limit (take (suc q.limit) rows)) (nat_lt 1 (length (take (suc q.limit) rows)))) (sym (more_than q.limit (suc q.limit) rows (omega arith))))
 
   module _ (after : Option Mark) (kept : List Mark) where
     abbrev rows : List defs.Row
@@ -172,11 +172,11 @@ module _ (prims : List Primitive) (q : Asked) (dateline k : ℕ) (with_cursor : 
         ∙ first_again prims q after (suc q.limit) (offered_since prims q kept [])
         ∙ ap (λ l. take (suc q.limit) (window prims q after l)) (append-nil (map (mark_row prims q.sort) kept))
 
-    best_line : 0 < q.limit → (line : List defs.Row → Bool → Bool → List ℕ) → line (take q.limit rows) (nat_lt 1 (length rows)) (nat_lt q.limit (length rows))
-        ≡ (let best = window prims q after (map (mark_row prims q.sort) (best_since prims q after kept [])) in line (take q.limit best) (nat_lt 1 (length best)) (nat_lt q.limit (length best)))
-    best_line some line = by_first some line rows ∙ ap (λ l. line (take q.limit l) (nat_lt 1 (length l)) (nat_lt q.limit (length l))) (sym first_kept)
+    best_answer : 0 < q.limit → (paged : List defs.Row → Bool → Bool → Answer) → paged (take q.limit rows) (nat_lt 1 (length rows)) (nat_lt q.limit (length rows))
+        ≡ (let best = window prims q after (map (mark_row prims q.sort) (best_since prims q after kept [])) in paged (take q.limit best) (nat_lt 1 (length best)) (nat_lt q.limit (length best)))
+    best_answer some paged = by_first some paged rows ∙ ap (λ l. paged (take q.limit l) (nat_lt 1 (length l)) (nat_lt q.limit (length l))) (sym first_kept)
 
 pub best_owe : BestOwe
-best_owe prims q order dateline k with_cursor after kept (scanning s) some = kept_stand prims q order dateline k with_cursor after kept s some
-best_owe prims q order dateline k with_cursor after kept (building w ts s) some = best_line prims q dateline k with_cursor after kept some (build_by prims q dateline k with_cursor w (list_of ts) s)
-best_owe prims q order dateline k with_cursor after kept (printing n ts walks) some = best_line prims q dateline k with_cursor after kept some (page_by prims q dateline k with_cursor 0 (list_of ts) walks)
+best_owe prims q order dateline with_cursor after kept (scanning s) some = kept_stand prims q order dateline with_cursor after kept s some
+best_owe prims q order dateline with_cursor after kept (building w ts s) some = best_answer prims q dateline with_cursor after kept some (build_by prims q dateline with_cursor w (list_of ts) s)
+best_owe prims q order dateline with_cursor after kept (printing n ts walks) some = best_answer prims q dateline with_cursor after kept some (page_by prims q dateline with_cursor 0 (list_of ts) walks)

@@ -9,7 +9,7 @@ use Rattle.gd_defs.specs.Reply.{Mark, mark_row}
 use Rattle.gd_defs.specs.Template.{passes_template, weight}
 use Rattle.gd_bytes.specs.Frozen.{Scan, Body, scanning}
 use Rattle.gd_runs.specs.Owed.{ScanOrder, Candidate, MembersOf, scan_fits, weighs_too_much}
-use Rattle.gd_runs.specs.Thawed.{window, answering, body_line}
+use Rattle.gd_runs.specs.Thawed.{window, answering, body_answer}
 use Rattle.gd_order_laws.specs.Window.{Rising}
 use Rattle.gd_scan_laws.specs.Ordered.{start}
 use Rattle.gd_match_laws.specs.Moves.{Runs}
@@ -72,8 +72,8 @@ GoneKeeps = RowsTold → (prims : List Primitive) (q : Asked) (after : Option Ma
 -- Wherever it stands, it owes what it did where it went from.
 abbrev pub GoneOwes : Type 0
 GoneOwes = RowsTold → (prims : List Primitive) (members : MembersOf) (q : Asked) (after : Option Mark) (order : ScanOrder) (kept : List Mark) (from s : Scan) (w : Kept) → 0 < q.limit → scan_fits prims members (template_of q) from ≡ true
-    → HasGone prims q after order kept from s w → (dateline k : ℕ) (with_cursor : Bool)
-    → body_line prims q order dateline k with_cursor after kept (scanning from) ≡ body_line prims q order dateline k with_cursor after (marks_of w) (scanning s)
+    → HasGone prims q after order kept from s w → (dateline : ℕ) (with_cursor : Bool)
+    → body_answer prims q order dateline with_cursor after kept (scanning from) ≡ body_answer prims q order dateline with_cursor after (marks_of w) (scanning s)
 
 -- The rows that its window keeps are read again from their marks.
 abbrev pub GoneReads : Type 0
@@ -82,5 +82,5 @@ GoneReads = RowsTold → (prims : List Primitive) (members : MembersOf) (q : Ask
 
 -- Whatever a reading does with kept rows, it owes the same with the best of them.
 abbrev pub BestOwe : Type 0
-BestOwe = (prims : List Primitive) (q : Asked) (order : ScanOrder) (dateline k : ℕ) (with_cursor : Bool) (after : Option Mark) (kept : List Mark) (body : Body) → 0 < q.limit
-    → body_line prims q order dateline k with_cursor after kept body ≡ body_line prims q order dateline k with_cursor after (best_since prims q after kept []) body
+BestOwe = (prims : List Primitive) (q : Asked) (order : ScanOrder) (dateline : ℕ) (with_cursor : Bool) (after : Option Mark) (kept : List Mark) (body : Body) → 0 < q.limit
+    → body_answer prims q order dateline with_cursor after kept body ≡ body_answer prims q order dateline with_cursor after (best_since prims q after kept []) body

@@ -1,18 +1,18 @@
 -- Readings that go on from a frozen position: where they stand, and their laws.
-use Rattle.std.specs.Prelude.{◌≡◌, ◌<◌, ◌≤◌, ℕ, ◌+◌, suc, List, [], ◌++◌, map, filter, take, Bool, true, false, ◌&&◌, nat_lt, nat_le, Option, None}
+use Rattle.std.specs.Prelude.{◌≡◌, ◌<◌, ◌≤◌, ℕ, ◌+◌, suc, List, [], ◌++◌, map, filter, take, Bool, true, false, ◌&&◌, nat_lt, nat_le, Option, None, Err}
 use Rattle.std.specs.List.{list_any}
 use Rattle.std.specs.Ordering.{nat_cmp}
 use Rattle.gd_prim.specs.declared.Primitive.{Primitive}
 use Rattle.gd_tree.specs.Trees.{Trees}
 use Rattle.gd_defs.specs.Asked.{Asked}
-use Rattle.gd_defs.specs.Lines.{too_wide, err_line}
+use Rattle.gd_defs.specs.Lines.{too_wide}
 use Rattle.gd_defs.specs.Plan.{template_of}
 use Rattle.gd_defs.specs.Reply.{Mark, mark_row, row_mark, max_page_weight}
 use Rattle.gd_defs.specs.Rows.{Row, row_of}
 use Rattle.gd_defs.specs.Template.{Template, passes_template}
 use Rattle.gd_bytes.specs.Frozen.{Scan, scanning, building}
 use Rattle.gd_runs.specs.Owed.{ScanOrder, Candidate, candidate, MembersOf, scan_fits, weighs_too_much}
-use Rattle.gd_runs.specs.Thawed.{window, answering, body_line}
+use Rattle.gd_runs.specs.Thawed.{window, answering, body_answer}
 use Rattle.gd_order_laws.specs.Window.{Rising}
 use Rattle.gd_match_laws.specs.Laws.{AtEnd}
 use Rattle.gd_match_laws.specs.Moves.{Runs}
@@ -53,23 +53,23 @@ VisitsScan = (prims : List Primitive) (q : Asked) (after : Option Mark) (order :
 
 -- A reading that goes on scanning from a position that fits, with whatever rows, owes what it owed there, if it keeps the best of these and of the rows that it found since.
 abbrev pub ThawedScansOwe : Type 0
-ThawedScansOwe = (prims : List Primitive) (members : MembersOf) (q : Asked) (order : ScanOrder) (dateline k : ℕ) (with_cursor : Bool) (after : Option Mark) (kept : List Mark) (s m : Scan) (cs : List Candidate) → 0 < q.limit → scan_fits prims members (template_of q) s ≡ true
+ThawedScansOwe = (prims : List Primitive) (members : MembersOf) (q : Asked) (order : ScanOrder) (dateline : ℕ) (with_cursor : Bool) (after : Option Mark) (kept : List Mark) (s m : Scan) (cs : List Candidate) → 0 < q.limit → scan_fits prims members (template_of q) s ≡ true
     → Runs prims order (template_of q) s cs m → list_any weighs_too_much cs ≡ false
-    → body_line prims q order dateline k with_cursor after kept (scanning s) ≡ body_line prims q order dateline k with_cursor after (best_since prims q after kept cs) (scanning m)
+    → body_answer prims q order dateline with_cursor after kept (scanning s) ≡ body_answer prims q order dateline with_cursor after (best_since prims q after kept cs) (scanning m)
 
 -- The rows that are read are as good as the best of them: a window may be filled with them anew.
 abbrev pub KeptStand : Type 0
-KeptStand = (prims : List Primitive) (q : Asked) (order : ScanOrder) (dateline k : ℕ) (with_cursor : Bool) (after : Option Mark) (kept : List Mark) (s : Scan) → 0 < q.limit
-    → body_line prims q order dateline k with_cursor after kept (scanning s) ≡ body_line prims q order dateline k with_cursor after (best_since prims q after kept []) (scanning s)
+KeptStand = (prims : List Primitive) (q : Asked) (order : ScanOrder) (dateline : ℕ) (with_cursor : Bool) (after : Option Mark) (kept : List Mark) (s : Scan) → 0 < q.limit
+    → body_answer prims q order dateline with_cursor after kept (scanning s) ≡ body_answer prims q order dateline with_cursor after (best_since prims q after kept []) (scanning s)
 
 -- Where no row is left to be built and the page weighs too much, the reading owes the refusal that says so, whatever its trees.
 abbrev pub HeavyPagesEnd : Type 0
-HeavyPagesEnd = (prims : List Primitive) (q : Asked) (order : ScanOrder) (dateline k : ℕ) (with_cursor : Bool) (after : Option Mark) (kept : List Mark) (w : ℕ) (ts : Trees) (s : Scan) → q.count ≡ false
+HeavyPagesEnd = (prims : List Primitive) (q : Asked) (order : ScanOrder) (dateline : ℕ) (with_cursor : Bool) (after : Option Mark) (kept : List Mark) (w : ℕ) (ts : Trees) (s : Scan) → q.count ≡ false
     → AtEnd prims (rows_order (page_of prims q after kept)) (template_of q) s → nat_lt max_page_weight w ≡ true
-    → body_line prims q order dateline k with_cursor after kept (building w ts s) ≡ err_line dateline k (too_wide (max_page_weight + 1))
+    → body_answer prims q order dateline with_cursor after kept (building w ts s) ≡ Err (too_wide (max_page_weight + 1))
 
 -- Once the rows that were built weigh too much together, neither their weight nor their trees matter.
 abbrev pub HeavyPagesAlike : Type 0
-HeavyPagesAlike = (prims : List Primitive) (q : Asked) (order : ScanOrder) (dateline k : ℕ) (with_cursor : Bool) (after : Option Mark) (kept : List Mark) (w v : ℕ) (ts us : Trees) (s : Scan) → q.count ≡ false
+HeavyPagesAlike = (prims : List Primitive) (q : Asked) (order : ScanOrder) (dateline : ℕ) (with_cursor : Bool) (after : Option Mark) (kept : List Mark) (w v : ℕ) (ts us : Trees) (s : Scan) → q.count ≡ false
     → nat_lt max_page_weight w ≡ true → nat_lt max_page_weight v ≡ true
-    → body_line prims q order dateline k with_cursor after kept (building w ts s) ≡ body_line prims q order dateline k with_cursor after kept (building v us s)
+    → body_answer prims q order dateline with_cursor after kept (building w ts s) ≡ body_answer prims q order dateline with_cursor after kept (building v us s)

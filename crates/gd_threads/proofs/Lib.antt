@@ -1,4 +1,5 @@
 pub mod Between
+pub mod Fronts
 pub mod Loaded
 pub mod Opened
 pub mod Passed

@@ -13,6 +13,7 @@ use Rattle.gd_round_lines.proofs.Read.{count_is}
 use Rattle.gd_threads.specs.Served.{RoundsValue}
 use Rattle.gd_threads.specs.Rounds.{Serves, StandsForRound, AnswersRound}
 use Rattle.gd_threads.specs.Working.{KeepsNow}
+use Rattle.gd_threads.proofs.Fronts.{fronts_none}
 use Rattle.gd_threads.proofs.Served.{texts_in, all_of, no_sessions}
 use Rattle.gd_threads.proofs.Stopped.{stands_before}
 
@@ -46,6 +47,7 @@ module _ {D C : Type 0} (content : D → Option (List ℕ)) (moment : D → ℕ)
           now = λ c now. stands_passed first lines old c (keeps.keeps.holds c (tells, now));
           each = λ c since. stands_passed first lines old c (keeps.keeps.holds c (tells, keeps.only c since));
         };
+        fronts = fronts_none content moment images images_since faults may first (first + n) old (no_memory first n) keeps;
         clock = refl;
         later = omega arith;
         rose = omega (arith, none_told);

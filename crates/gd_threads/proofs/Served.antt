@@ -1,5 +1,5 @@
 -- The lines of a round were answered: what that comes to for a run that is served.
-use Rattle.std.proofs.Common.{◌≡◌, refl, ℕ, zero, suc, ◌+◌, ◌≤◌, ⊎_elim, min, Bool, IsTrue, List, [], ◌∷◌, length, map, Option, None, sym, subst, ap, ◌∙◌, arith}
+use Rattle.std.proofs.Common.{◌≡◌, refl, ℕ, zero, suc, ◌+◌, ◌≤◌, ◌⊎◌, inl, inr, ⊎_elim, min, Bool, IsTrue, List, [], ◌∷◌, length, map, Option, None, sym, subst, ap, ◌∙◌, arith}
 use Rattle.std.specs.List.{AllByRecursion}
 use Rattle.gd_prim.specs.declared.Batch.{Batch}
 use Rattle.gd_input.specs.declared.line.RoundLine.{RoundLine}
@@ -28,8 +28,9 @@ use Rattle.gd_round_lines.proofs.Some.{some_all}
 use Rattle.gd_caller.proofs.JoinedRounds.{outcomes_of_writes, round_fresh, round_rose, round_joined}
 use Rattle.gd_crew.specs.Joined.{begun_by}
 use Rattle.gd_threads.specs.Served.{RoundsValue}
-use Rattle.gd_threads.specs.Rounds.{Serves, StandsForRound, AnswersRound}
+use Rattle.gd_threads.specs.Rounds.{Serves, StandsForRound, StandsForRoundFront, AnswersRound}
 use Rattle.gd_threads.specs.Working.{ShowsMore, RunsWrites}
+use Rattle.gd_threads.proofs.Fronts.{fronts_run, round_front}
 use Rattle.gd_threads.proofs.Loaded.{callers_loaded}
 use Rattle.gd_threads.proofs.Sides.{locked_for, stands_for}
 use Rattle.gd_threads.proofs.Stopped.{stopped}
@@ -96,15 +97,16 @@ module _ {D C : Type 0} (content : D → Option (List ℕ)) (moment : D → ℕ)
   abbrev over : SideValue D C → List Batch → SideValue D C
   over old list = record old { shown = list }
 
-  round_is_served : (old : SideValue D C) (list : List Batch) (late : SideValue D C) → old.outcomes ≡ [] → IsFreshFrom first old.history old.doubt → length old.shown ≤ length list → length list ≤ size old.history → begun ≡ length list
+  round_is_served : (old : SideValue D C) (list : List Batch) (late : SideValue D C) → old.outcomes ≡ [] → IsFreshFrom first old.history old.doubt → length old.shown ≤ length list → length list ≤ size old.history → (length list ≡ size old.history) ⊎ (length list ≡ length old.shown) → begun ≡ length list
       → Runs (over old list) late → AnswersJoined first begun works late replies → Serves may lines (record { side = old; lines = first }) (after late) replies
-  round_is_served old list late none fresh above below shown runs answers loaded before output earlier round texts len kept stands =
+  round_is_served old list late none fresh above below shows shown runs answers loaded before output earlier round texts len kept stands =
       let given = in_round round texts in
       let joined = runs.joined in
       let read = read_in round texts kept in
       let locked = locked_for content moment images images_since faults may first given works (over old list) joined read fresh none runs.joins in
       let may_be = runs.joins.locked.clock in
       round_joined loaded (may old.clock) before output (state_of old no_sessions) earlier round given begun (faults old.log.disk) stands (all_of round texts) (omega (arith, above, shown)) (omega (arith, below, shown))
+      (⊎_elim (λ all. inl (shown ∙ all)) (λ same. inr (shown ∙ same)) shows)
       (state_of joined no_sessions) (min (faults joined.log.disk) most) most joined.outcomes locked.entries
       (subst (λ (m : ℕ → Bool). side.KeepsHistory m joined.history joined.doubt joined.outcomes) may_be runs.history)
       (subst (λ (n : ℕ). KeepsRound (begun_at old.history begun old.doubt (faults old.log.disk) n given) joined.history (length joined.shown) joined.doubt (min (faults joined.log.disk) most) most joined.outcomes locked.entries) (sym len)
@@ -116,7 +118,7 @@ module _ {D C : Type 0} (content : D → Option (List ℕ)) (moment : D → ℕ)
 
   -- what a stop left while the writes were run stands for a state to which the round is served
   module _ (old : SideValue D C) (list : List Batch) (late : SideValue D C) (none : old.outcomes ≡ []) (fresh : IsFreshFrom first old.history old.doubt) (above : length old.shown ≤ length list) (below : length list ≤ size old.history)
-      (runs : Runs (over old list) late) where
+      (shows : (length list ≡ size old.history) ⊎ (length list ≡ length old.shown)) (runs : Runs (over old list) late) where
     abbrev Stands : List ℕ → Type 0
     Stands = StandsForRound may lines (record { side = old; lines = first })
 
@@ -128,7 +130,7 @@ module _ {D C : Type 0} (content : D → Option (List ℕ)) (moment : D → ℕ)
         let i = stands_for content moment images images_since faults may first given works (over old list) runs.joined (read_in round texts kept) fresh none runs.joins tells file since in
         let t : State = record { history = i.history; shown = i.shown; doubt = i.doubt; sessions = no_sessions } in
         let ls = write_lines k given in
-        stopped loaded (may old.clock) before output (state_of old no_sessions) earlier round given (length list) (faults old.log.disk) stands (all_of round texts) above below
+        stopped loaded (may old.clock) before output (state_of old no_sessions) earlier round given (length list) (faults old.log.disk) stands (all_of round texts) above below shows
         t i.faults most i.outcomes i.new i.keeps
         (subst (λ (n : ℕ). KeepsRound (begun_at old.history (length list) old.doubt (faults old.log.disk) n given) i.history i.shown i.doubt i.faults most i.outcomes i.new) (sym len) i.lock) i.within
         ls (some_all ls) t i.outcomes (callers_pass (may old.clock) ls t i.outcomes) file i.stands
@@ -142,7 +144,7 @@ module _ {D C : Type 0} (content : D → Option (List ℕ)) (moment : D → ℕ)
         let locked = locked_for content moment images images_since faults may first given works (over old list) joined read fresh none runs.joins in
         let may_be = runs.joins.locked.clock in
         let reached = was no_sessions in
-        stopped loaded (may old.clock) before output (state_of old no_sessions) earlier round given (length list) (faults old.log.disk) stands (all_of round texts) above below
+        stopped loaded (may old.clock) before output (state_of old no_sessions) earlier round given (length list) (faults old.log.disk) stands (all_of round texts) above below shows
         (state_of joined no_sessions) (min (faults joined.log.disk) most) most joined.outcomes locked.entries
         (subst (λ (m : ℕ → Bool). side.KeepsHistory m joined.history joined.doubt joined.outcomes) may_be runs.history)
         (subst (λ (n : ℕ). KeepsRound (begun_at old.history (length list) old.doubt (faults old.log.disk) n given) joined.history (length joined.shown) joined.doubt (min (faults joined.log.disk) most) most joined.outcomes locked.entries) (sym len) locked.lock)
@@ -161,22 +163,32 @@ module _ {D C : Type 0} (content : D → Option (List ℕ)) (moment : D → ℕ)
           each = λ c since. ⊎_elim (by_lock tells c) (by_caller c) (left.before (moment old.log.disk) c first_later since);
         }
 
+  -- and for a front of the history with which the round ends
+  front_in_round : (old : SideValue D C) (list : List Batch) (late : SideValue D C) → Runs (over old list) late → AnswersJoined first begun works late replies → Tells (content old.log.disk)
+      → LeavesSince moment images images_since (moment old.log.disk) late.log.disk (StandsForRoundFront (record { side = old; lines = first }) (after late) replies)
+  front_in_round old list late runs answers tells =
+      let left = fronts_run content moment images images_since faults may works (over old list) late runs tells in
+      let of = kept_of_writes content moment images images_since faults may first (first + length lines) works within (over old list) late runs in
+      let front = round_front first begun lines works within replies late of answers old (after late) refl in
+      record { later = left.later; now = λ c now. front c (left.now c now); each = λ c since. front c (left.each c since) }
+
   -- LAW: the lines of a round that were read and answered
-  answered_over : (old : SideValue D C) (list : List Batch) (late : SideValue D C) → old.outcomes ≡ [] → IsFreshFrom first old.history old.doubt → length old.shown ≤ length list → length list ≤ size old.history → begun ≡ length list
+  answered_over : (old : SideValue D C) (list : List Batch) (late : SideValue D C) → old.outcomes ≡ [] → IsFreshFrom first old.history old.doubt → length old.shown ≤ length list → length list ≤ size old.history → (length list ≡ size old.history) ⊎ (length list ≡ length old.shown) → begun ≡ length list
       → Runs (over old list) late → AnswersJoined first begun works late replies → AnswersRound content moment images images_since faults may lines (record { side = old; lines = first }) (after late) replies
-  answered_over old list late none fresh above below shown runs answers =
+  answered_over old list late none fresh above below shows shown runs answers =
       let mid = over old list in
       let had = within.replies in
       let many = answers.many in
       let later = runs.joins.locked.later in
       let left_later = runs.left.later in
       record {
-        served = round_is_served old list late none fresh above below shown runs answers;
+        served = round_is_served old list late none fresh above below shows shown runs answers;
         many = omega (arith, many, had);
         next = refl;
         loaded = loaded_stay content moment images images_since faults may first (first + length lines) works within mid late runs;
         told = runs.left.told ∙ runs.joins.locked.told;
-        moments = left_in_round old list late none fresh above below runs;
+        moments = left_in_round old list late none fresh above below shows runs;
+        fronts = λ tells. front_in_round old list late runs answers tells;
         clock = runs.left.clock ∙ runs.joins.locked.clock;
         later = omega (arith, later, left_later);
         rose = round_rose first begun some_given works (reads some_given some_kept) late replies answers (faults old.log.disk) (faults late.log.disk)
@@ -187,4 +199,4 @@ module _ {D C : Type 0} (content : D → Option (List ℕ)) (moment : D → ℕ)
       → new ≡ record late { outcomes = [] } → AnswersRound content moment images images_since faults may lines (record { side = old; lines = first }) (record { side = new; lines = first + length lines }) replies
   answered old mid late new none fresh shows shown runs answers is =
       subst (λ (s : SideValue D C). AnswersRound content moment images images_since faults may lines (record { side = old; lines = first }) (record { side = s; lines = first + length lines }) replies) (sym is)
-      (answered_over old shows.list late none fresh shows.above shows.below (shown ∙ ap (λ (s : SideValue D C). length s.shown) shows.is) (subst (λ (s : SideValue D C). Runs s late) shows.is runs) answers)
+      (answered_over old shows.list late none fresh shows.above shows.below shows.all (shown ∙ ap (λ (s : SideValue D C). length s.shown) shows.is) (subst (λ (s : SideValue D C). Runs s late) shows.is runs) answers)

@@ -8,9 +8,11 @@ use Rattle.gd_runs.specs.Explained.{Numbered}
 use Rattle.gd_runs.specs.Side as side
 use Rattle.gd_runs.specs.Side.{Told, Begun, KeepsRound}
 use Rattle.gd_runs.proofs.Rounds.{length_batches}
+use Rattle.gd_core_laws.specs.Fronts.{GrowsTold}
 use Rattle.gd_core_laws.specs.Round.{begun_at}
 use Rattle.gd_core_laws.specs.Writes.{AreNew}
 use Rattle.gd_core_laws.proofs.WriteLines.{line_there}
+use Rattle.gd_core_laws.proofs.Fronts.{grows_none, between_last}
 use Rattle.gd_core_laws.proofs.LockRun.{lock_starts}
 use Rattle.gd_writer.specs.Parts.{Tells}
 use Rattle.gd_writer.specs.Side.{SideValue, KeepsAll, StandsForSide}
@@ -47,8 +49,8 @@ module _ {D C : Type 0} (content : D → Option (List ℕ)) (images : D → List
   shows_more old new (Ok done) keeps all none =
       let within = shown_most old keeps in
       let many = length_batches old.history in
-      record { list = batches old.history; is = all; above = omega (arith, within, many); below = omega (arith, many) }
-  shows_more old new (Err e) keeps all none = record { list = old.shown; is = none; above = omega arith; below = shown_most old keeps }
+      record { list = batches old.history; is = all; above = omega (arith, within, many); below = omega (arith, many); all = inl (omega (arith, many)) }
+  shows_more old new (Err e) keeps all none = record { list = old.shown; is = none; above = omega arith; below = shown_most old keeps; all = inr refl }
 
 module _ {D C : Type 0} where
   -- a side of which more is shown is as it was
@@ -107,6 +109,9 @@ module _ {D C : Type 0} (content : D → Option (List ℕ)) (moment : D → ℕ)
       let count = min (faults old.log.disk) most in
       let lock : KeepsRound l old.history (length old.shown) old.doubt count most old.outcomes [] =
       subst (λ (o : List Told). KeepsRound l old.history (length old.shown) old.doubt count most o []) (sym none) (lock_starts l count most (counted (faults old.log.disk)) (lines_new first end works old within fresh)) in
+      let grows : GrowsTold old.history old.doubt [] old.history old.doubt old.outcomes =
+      subst (λ (o : List Told). GrowsTold old.history old.doubt [] old.history old.doubt o) (sym none) (grows_none old.history old.doubt []) in
+      let front = between_last old.history old.doubt [] old.history old.doubt old.outcomes grows in
       record {
         keeps = keeps;
         locked = record {
@@ -117,6 +122,12 @@ module _ {D C : Type 0} (content : D → Option (List ℕ)) (moment : D → ℕ)
             later = omega arith;
             now = λ c now. stands_first l old keeps.keeps lock c (keeps.keeps.holds c (tells, now));
             each = λ c since. stands_first l old keeps.keeps lock c (keeps.keeps.holds c (tells, keeps.only c since));
+          };
+          grows = grows;
+          fronts = λ tells. record {
+            later = omega arith;
+            now = λ c now. front c (keeps.keeps.holds c (tells, now));
+            each = λ c since. front c (keeps.keeps.holds c (tells, keeps.only c since));
           };
           later = omega arith;
           entries = [];

@@ -1,5 +1,5 @@
 -- A round in which a stop comes: it is served as far as its writes came, and its other lines are told that there was no memory.
-use Rattle.std.proofs.Common.{◌≡◌, refl, ℕ, zero, suc, ◌+◌, ◌≤◌, inl, inr, ⊎_elim, Bool, List, [], ◌∷◌, length, Some, slice_get, subst, ap, ◌∙◌, arith}
+use Rattle.std.proofs.Common.{◌≡◌, refl, ℕ, zero, suc, ◌+◌, ◌≤◌, ◌⊎◌, inl, inr, ⊎_elim, Bool, List, [], ◌∷◌, length, Some, slice_get, subst, ap, ◌∙◌, arith}
 use Rattle.gd_prim.specs.declared.Batch.{Batch}
 use Rattle.gd_runs.specs.Legal.{Entry, size}
 use Rattle.gd_runs.specs.Explained.{Numbered, Run, memory_line}
@@ -42,7 +42,7 @@ told_at outcomes k (l ∷ ls) (suc j) x at = ap (told_reply outcomes) (omega ari
 -- ---- the round
 
 module _ (loaded : List Batch) (may : ℕ → Bool) (before : List Numbered) (output : List ℕ) (s : State) (runs : List Run) (round : ℕ) (given : List Numbered) (begun faults : ℕ)
-    (st : StandsAt loaded may before output s.history s.shown s.doubt runs) (here : AreOf round given) (above : s.shown ≤ begun) (below : begun ≤ size s.history)
+    (st : StandsAt loaded may before output s.history s.shown s.doubt runs) (here : AreOf round given) (above : s.shown ≤ begun) (below : begun ≤ size s.history) (shows : (begun ≡ size s.history) ⊎ (begun ≡ s.shown))
     (joined : State) (joined_faults most : ℕ) (at_join : List Told) (new : List Entry) (history : KeepsHistory may joined.history joined.doubt at_join)
     (lock : KeepsRound (begun_at s.history begun s.doubt faults (length runs) given) joined.history joined.shown joined.doubt joined_faults most at_join new) (within : joined.shown ≤ size joined.history) where
   -- LAW: where what a stop leaves stands for a state to which the lock and its caller's writes come, it stands for one to which the round is served
@@ -56,14 +56,15 @@ module _ (loaded : List Batch) (may : ℕ → Bool) (before : List Numbered) (ou
       (λ was. let (x, a, at_a, line, is) = lock.outcomes_of i u was in (x, a, at_a, line))
       (λ by_caller. by_caller)
       (callers_among may ls joined t at_join outcomes i u all at) in
-      let (more, served) = joined_round_served loaded may before output s runs round given begun faults st here above below joined joined_faults most at_join new history lock within
+      let (more, served) = joined_round_served loaded may before output s runs round given begun faults st here above below shows joined joined_faults most at_join new history lock within
       ls (some_all ls) t outcomes all of (λ i session n. Unit {0})
       (told_replies outcomes k given) (told_many outcomes k given)
-      (λ order j l reply at at_reply.
+      (λ order low j l reply at at_reply.
       let f = first_line t.history t.shown k given ls (some_all ls) outcomes of j l (memory_line (k + j)) at (inr refl) in (
         f.outcome,
         record {
           told = λ session d is told. (d, tt, omega arith);
+          low = λ m read. absurd (f.no_read m read);
           came = inl (subst (λ (y : List ℕ). CameAs t.history t.shown ls outcomes (k + j) l.bytes y f.outcome) (told_at outcomes k given j reply at_reply) f.came);
         },
       )) in
@@ -81,7 +82,7 @@ pub stands_before : (loaded : List Batch) (may : ℕ → Bool) (before : List Nu
 stands_before loaded may before output s runs round given st here file stands =
     let k = length runs in
     let ls = write_lines k given in
-    stopped loaded may before output s runs round given s.shown 0 st here (omega arith) st.most
+    stopped loaded may before output s runs round given s.shown 0 st here (omega arith) st.most (inr refl)
     s 0 0 [] [] (history_begins loaded may before output s.history s.shown s.doubt runs st)
     (lock_begins s.history s.shown s.doubt 0 0 k given (are_new loaded may before output s.history s.shown s.doubt runs 0 given st)) st.most
     ls (some_all ls) s [] (callers_pass may ls s []) file stands

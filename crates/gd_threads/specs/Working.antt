@@ -9,12 +9,13 @@ use Rattle.gd_round_lines.specs.Works.{write_of}
 use Rattle.gd_caller.specs.Writes.{WritesLeft}
 use Rattle.gd_crew.specs.Joined.{IsJoined}
 
--- more of the history may be shown, and nothing else changed
+-- all of the history is shown, or, where there was no memory for that, what was shown before, and nothing else changed
 pub record ShowsMore {D C : Type 0} (old new : SideValue D C) : Type 0 where
   pub list : List Batch
   pub is : new ≡ record old { shown = list }
   pub above : length old.shown ≤ length list
   pub below : length list ≤ size old.history
+  pub all : (length list ≡ size old.history) ⊎ (length list ≡ length old.shown)
 
 -- a side keeps what it keeps, and since now its disk left nothing but what it leaves now
 pub record KeepsNow {D C : Type 0} (content : D → Option (List ℕ)) (moment : D → ℕ) (images : D → List ℕ → Type 0) (images_since : D → ℕ → List ℕ → Type 0) (may : C → ℕ → Bool) (side : SideValue D C) : Type 0 where

@@ -1,5 +1,5 @@
 -- What a verb prints over a disk, said of the store that its command names.
-use Rattle.std.proofs.Common.{◌≡◌, ℕ, List, [], Bool, true, Option, Some, None, IsTrue, refl, sym, subst, inl, inr, ⊎_elim}
+use Rattle.std.proofs.Common.{◌≡◌, ℕ, List, [], Bool, true, Option, Some, None, IsTrue, refl, sym, ap, subst, inl, ⊎_elim}
 use Rattle.std.specs.Option.{is_some}
 use Rattle.gd_base.specs.Counts.{RoseBy}
 use Rattle.gd_prim.specs.declared.Batch.{Batch}
@@ -14,7 +14,7 @@ use Rattle.gd_replay.specs.Stops.{Leaves as LeavesEvents}
 use Rattle.gd_top.specs.declared.status.Status.{Status}
 use Rattle.gd_top.specs.declared.status.Status.TheVariants as status
 use Rattle.gd_top.specs.Held.{Loads, Leaves, BeginsWith, EndsWith}
-use Rattle.gd_top.specs.Replays.{LeavesAt}
+use Rattle.gd_top.specs.Replays.{is_told_at, LeavesAt, PrintsEvents}
 use Rattle.gd_top.specs.Serves.{PrintsLines}
 use Rattle.gd_top.specs.Stops.{status_of_shelf, status_of_store}
 use Rattle.gd_top.specs.Verbs.{PrintsOver, PrintsAt}
@@ -28,11 +28,11 @@ module _ (s : Status) (may : ℕ → Bool) (idle idle' : Type 0) (still : idle �
   printed_weaker serves told kept images fewer rises further same to rose p =
       prints_weaker may (Loads told) (Loads kept) (Leaves may told images) (Leaves may kept fewer) rises further
       (loads_same kept told same) (leaves_same may kept told images fewer same to) rose s idle idle' left now old new still p
-  printed_weaker replays told kept images fewer rises further same to rose p = λ sure members.
+  printed_weaker replays told kept images fewer rises further same to rose p = λ members.
       let before : IsTrue (is_some kept) → IsTrue (is_some told) = λ tells. subst (λ (t : Option (List ℕ)). IsTrue (is_some t)) (sym same) tells in
-      events_weaker members may (Loads told) (Loads kept) (λ t. IsTrue (is_some told) → LeavesEvents images t) (λ t. IsTrue (is_some kept) → LeavesEvents fewer t) rises further
-      (loads_same kept told same) (λ t leaves tells file is. leaves (before tells) file (to file is)) rose s idle idle' left old new still
-      (p (⊎_elim (λ tells. inl (before tells)) (λ never. inr never) sure) members)
+      subst (λ (b : Bool). PrintsEvents s b members may (Loads kept) (λ t. IsTrue (is_some kept) → LeavesEvents fewer t) further idle' left old new) (ap (λ (t : Option (List ℕ)). is_some t) same)
+      (events_weaker (is_some told) members may (Loads told) (Loads kept) (λ t. IsTrue (is_some told) → LeavesEvents images t) (λ t. IsTrue (is_some kept) → LeavesEvents fewer t) rises further
+      (loads_same kept told same) (λ t leaves tells file is. leaves (before tells) file (to file is)) rose s idle idle' left old new still (p members))
 
   -- the disk of a path
   pub printed_at : (v : Verb) (content : List ℕ → Option (List ℕ)) (images : List ℕ → List ℕ → Type 0) (path : List ℕ) (rises : ℕ → Type 0)
@@ -41,14 +41,14 @@ module _ (s : Status) (may : ℕ → Bool) (idle idle' : Type 0) (still : idle �
   printed_at replays content images path rises p = p
 
   -- a disk in memory, of which nothing is left
-  pub printed_in_memory : (v : Verb) (content : List ℕ → Option (List ℕ)) (images : List ℕ → List ℕ → Type 0) (faults : ℕ)
-      → PrintsOver v s may (Some []) (λ c. ⊥) (RoseBy 0 0) idle left now old new → PrintsAt v s may content images None (RoseBy faults faults) idle' left now old new
-  printed_in_memory serves content images faults p =
-      prints_weaker may (Loads (Some [])) (BeginsWith content None) (Leaves may (Some []) (λ c. ⊥)) (EndsWith may content images None) (RoseBy 0 0) (RoseBy faults faults)
-      (empty_loads (Some []) refl) (λ h runs stands. tt) (λ n. rose_nowhere n faults) s idle idle' left now old new still p
-  printed_in_memory replays content images faults p = λ sure members.
-      events_weaker members may (Loads (Some [])) (BeginsWith content None) (λ t. IsTrue true → LeavesEvents (λ c. ⊥) t) (LeavesAt content images None) (RoseBy 0 0) (RoseBy faults faults)
-      (empty_loads (Some []) refl) (λ t leaves. tt) (λ n. rose_nowhere n faults) s idle idle' left old new still (p (inl refl) members)
+  pub printed_in_memory : (v : Verb) (content : List ℕ → Option (List ℕ)) (images : List ℕ → List ℕ → Type 0)
+      → PrintsOver v s may (Some []) (λ c. ⊥) (RoseBy 0 0) idle left now old new → PrintsAt v s may content images None (λ n. n ≡ 0) idle' left now old new
+  printed_in_memory serves content images p =
+      prints_weaker may (Loads (Some [])) (BeginsWith content None) (Leaves may (Some []) (λ c. ⊥)) (EndsWith may content images None) (RoseBy 0 0) (λ n. n ≡ 0)
+      (empty_loads (Some []) refl) (λ h runs stands. tt) rose_nowhere s idle idle' left now old new still p
+  printed_in_memory replays content images p = λ members.
+      events_weaker true members may (Loads (Some [])) (BeginsWith content None) (λ t. IsTrue true → LeavesEvents (λ c. ⊥) t) (LeavesAt content images None) (RoseBy 0 0) (λ n. n ≡ 0)
+      (empty_loads (Some []) refl) (λ t leaves. tt) rose_nowhere s idle idle' left old new still (p members)
 
 -- ---- a store that was not opened
 
@@ -67,7 +67,7 @@ module _ (may : ℕ → Bool) (rises : ℕ → Type 0) (idle : Type 0) (left now
   -- the shelf did not open it
   pub printed_refused : (v : Verb) (f : ShelfFault) (told : Option (List ℕ)) (images : List ℕ → Type 0) → idle → PrintsOver v (status_of_shelf f) may told images rises idle left now old new
   printed_refused serves f told images i = shelf_lines (Loads told) (Leaves may told images) f i
-  printed_refused replays f told images i = λ sure members. shelf_prints members may (Loads told) (λ t. IsTrue (is_some told) → LeavesEvents images t) rises idle left old new f i
+  printed_refused replays f told images i = λ members. shelf_prints (is_some told) members may (Loads told) (λ t. IsTrue (is_some told) → LeavesEvents images t) rises idle left old new f i
 
   -- there was no memory for it
   pub printed_nothing : (v : Verb) (told : Option (List ℕ)) (images : List ℕ → Type 0) → idle → PrintsOver v status.Memory may told images rises idle left now old new
@@ -76,4 +76,4 @@ module _ (may : ℕ → Bool) (rises : ℕ → Type 0) (idle : Type 0) (left now
   -- nor for the words
   pub printed_no_words : (v : Verb) (content : List ℕ → Option (List ℕ)) (images : List ℕ → List ℕ → Type 0) (path : Option (List ℕ)) → idle → PrintsAt v status.Memory may content images path rises idle left now old new
   printed_no_words serves content images path i = shelf_lines (BeginsWith content path) (EndsWith may content images path) shelf.Memory i
-  printed_no_words replays content images path i = λ sure members. shelf_prints members may (BeginsWith content path) (LeavesAt content images path) rises idle left old new shelf.Memory i
+  printed_no_words replays content images path i = λ members. shelf_prints (is_told_at content path) members may (BeginsWith content path) (LeavesAt content images path) rises idle left old new shelf.Memory i

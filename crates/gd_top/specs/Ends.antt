@@ -1,5 +1,6 @@
 -- How a run ends, and why.
-use Rattle.std.specs.Prelude.{◌≡◌, ◌≢◌, ◌⊎◌, ℕ, Bool, true, false}
+use Rattle.std.specs.Prelude.{◌≡◌, ◌≢◌, ◌⊎◌, ℕ, List, Bool, true, false, Option, None, Some}
+use Rattle.gd_base.specs.Counts.{RoseBy}
 use Rattle.gd_bytes.specs.File.{Meaning, not_store, damaged}
 use Rattle.gd_top.specs.declared.status.Status.{Status}
 use Rattle.gd_top.specs.declared.status.Status.TheVariants as status
@@ -22,6 +23,11 @@ is_stopped _ = false
 -- the disk failed, or there was no memory
 abbrev pub IsHindered : Status → Type 0
 IsHindered s = (s ≡ status.DiskFault) ⊎ (s ≡ status.Memory)
+
+-- over a run on the file that the words name the shelf's count of faults rose by so many, or stands at its type's end; without a file there were none
+abbrev pub RisesAt : Option (List ℕ) → ℕ → ℕ → ℕ → Type 0
+RisesAt None before now = λ n. n ≡ 0
+RisesAt (Some path) before now = RoseBy before now
 
 -- nothing was taken of the source, and nothing given to the sink
 pub record IsIdle {S K : Type 0} (source_old source_new : S) (sink_old sink_new : K) : Type 0 where

@@ -12,10 +12,10 @@ use Rattle.gd_top.specs.declared.status.Status.{Status}
 use Rattle.gd_top.specs.declared.status.Status.TheVariants as status
 use Rattle.gd_top.specs.Ends.{is_refused}
 
--- the store is in memory, or the shelf tells its file
-abbrev pub IsToldAt : (List ℕ → Option (List ℕ)) → Option (List ℕ) → Type 0
-IsToldAt content None = Unit {0}
-IsToldAt content (Some path) = IsTrue (is_some (content path))
+-- whether the store is in memory, or the shelf tells its file
+abbrev pub is_told_at : (List ℕ → Option (List ℕ)) → Option (List ℕ) → Bool
+is_told_at content None = true
+is_told_at content (Some path) = is_some (content path)
 
 -- where there is a file that was told, all that a stop leaves of it stands for the history of a state of the core, with all or none of the group in doubt
 abbrev pub LeavesAt : (List ℕ → Option (List ℕ)) → (List ℕ → List ℕ → Type 0) → Option (List ℕ) → State → Type 0
@@ -27,10 +27,10 @@ abbrev pub status_faults : Status → ℕ
 status_faults status.DiskFault = 1
 status_faults _ = 0
 
--- What a run of events with this status printed: the replies of the core to all lines of the input, or to those before which it stopped, or a front of those up to a line at which it stopped; and the count of faults rose by the lines that tell one. Without memory, and with a status of a store that is not opened, it did not begin, or it stopped between two lines; where the store was not opened again for a failure of the disk, the count rose by one more.
-pub record PrintsEvents (s : Status) (members : MembersOf) (may : ℕ → Bool) (begins : List Batch → Type 0) (leaves : State → Type 0) (rises : ℕ → Type 0) (unbegun : Type 0) (left held_old held_new : Option (List ℕ)) : Type 0 where
-  pub done : s ≡ status.Done → IfSome left (Replays members may begins leaves rises held_old held_new)
-  pub between : (s ≡ status.ReadFault) ⊎ (s ≡ status.TooMuch) → IfSome left (ReplaysTaken members may begins leaves rises held_old held_new)
-  pub within : s ≡ status.SinkFault → IfSome left (ReplaysFront members may begins leaves rises held_old held_new)
-  pub memory : s ≡ status.Memory → unbegun ⊎ IfSome left (ReplaysTaken members may begins leaves rises held_old held_new)
-  pub closed : is_refused s ≡ true → unbegun ⊎ IfSome left (ReplaysTaken members may begins leaves (λ n. rises (n + status_faults s)) held_old held_new)
+-- What a run of events with this status printed, over a file that is told or not: the replies of the core to all lines of the input, or to those before which it stopped, or a front of those up to a line at which it stopped; and the count of faults rose by the lines that tell one. Without memory, and with a status of a store that is not opened, it did not begin, or it stopped between two lines; where the store was not opened again for a failure of the disk, the count rose by one more.
+pub record PrintsEvents (s : Status) (told : Bool) (members : MembersOf) (may : ℕ → Bool) (begins : List Batch → Type 0) (leaves : State → Type 0) (rises : ℕ → Type 0) (unbegun : Type 0) (left held_old held_new : Option (List ℕ)) : Type 0 where
+  pub done : s ≡ status.Done → IfSome left (Replays told members may begins leaves rises held_old held_new)
+  pub between : (s ≡ status.ReadFault) ⊎ (s ≡ status.TooMuch) → IfSome left (ReplaysTaken told members may begins leaves rises held_old held_new)
+  pub within : s ≡ status.SinkFault → IfSome left (ReplaysFront told members may begins leaves rises held_old held_new)
+  pub memory : s ≡ status.Memory → unbegun ⊎ IfSome left (ReplaysTaken told members may begins leaves rises held_old held_new)
+  pub closed : is_refused s ≡ true → unbegun ⊎ IfSome left (ReplaysTaken told members may begins leaves (λ n. rises (n + status_faults s)) held_old held_new)

@@ -6,7 +6,7 @@ ghost use Rattle.gd_base.specs.Counts.{Rose, RoseBy};
 ghost use Rattle.gd_bytes.specs.Disk.{HoldsSame};
 ghost use Rattle.gd_input.specs.Taken.{TakesAtLeast};
 ghost use Rattle.gd_words.specs.Verbs.{serves, verb_in, file_of};
-ghost use Rattle.gd_top.specs.Ends.{IsIdle, Causes, SendsRounds};
+ghost use Rattle.gd_top.specs.Ends.{IsIdle, Causes, SendsRounds, RisesAt};
 ghost use Rattle.gd_top.specs.Held.{MayMean, MayMeanAt, DoesMean, told_at};
 ghost use Rattle.gd_top.specs.Kept.{Keeps, StaysAt, StaysTold};
 ghost use Rattle.gd_top.specs.Verbs.{PrintsOver, PrintsAt};
@@ -183,7 +183,7 @@ pub fn run<R: Threads + Wait + Sync, S: Source, K: Sink, F: Shelf, C: Clock + Se
     // What the verb prints, as its clause of the top call has it.
     ensures prints { PrintsAt (verb_in command.now) result (C.may clock)
         (F.content shelf.old) (F.images shelf.new) (file_of command.now)
-        (RoseBy (F.faults shelf.old) (F.faults shelf.new))
+        (RisesAt (file_of command.now) (F.faults shelf.old) (F.faults shelf.new))
         (IsIdle source.old source.new sink.old sink.new
         × StaysAt (F.content shelf.old) (F.content shelf.new) (F.images shelf.old)
         (F.images shelf.new) (file_of command.now))
@@ -201,6 +201,7 @@ pub fn run<R: Threads + Wait + Sync, S: Source, K: Sink, F: Shelf, C: Clock + Se
         (S.given source.new))
         (MayMeanAt (F.content shelf.old) (file_of command.now))
         (DoesMean (told_at (F.content shelf.old) (file_of command.now))) }
+    ensures disk_steady { file_of command.now ≡ None → result ≢ Status.DiskFault }
     ensures used { result ≢ Status.Usage }
 
     // The file keeps what it stood for, and the shelf every other path.

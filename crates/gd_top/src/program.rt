@@ -2,7 +2,7 @@
 ghost use Rattle.std.specs.Prelude.{◌≡◌, ◌≢◌, ◌<◌, ◌⊎◌, ◌^◌, ℕ, List, length, true, false, None};
 ghost use Rattle.std.specs.Prelude.{Some, IsSomeAnd};
 ghost use Rattle.std.specs.Io.KnownBytes.{IsAtEnd};
-ghost use Rattle.gd_base.specs.Counts.{Rose, RoseBy};
+ghost use Rattle.gd_base.specs.Counts.{Rose};
 ghost use Rattle.gd_bytes.specs.Disk.{HoldsSame};
 ghost use Rattle.gd_bytes.specs.File.{not_store, damaged};
 ghost use Rattle.gd_input.specs.Taken.{TakesAtLeast};
@@ -10,11 +10,10 @@ ghost use Rattle.gd_runs.specs.Owed.{MembersOf};
 ghost use Rattle.gd_words.specs.Verbs as verb;
 ghost use Rattle.gd_words.specs.Verbs.{verb_of, path_of};
 ghost use Rattle.gd_words.specs.Words.{command_of};
-ghost use Rattle.gd_replay.specs.Sure.{IsSure};
-ghost use Rattle.gd_top.specs.Ends.{IsHindered, IsIdle, SendsRounds};
+ghost use Rattle.gd_top.specs.Ends.{IsHindered, IsIdle, SendsRounds, RisesAt};
 ghost use Rattle.gd_top.specs.Held.{BeginsWith, EndsWith, MayMeanAt, DoesMean, IsSoundAt, told_at};
 ghost use Rattle.gd_top.specs.Kept.{Keeps, StaysAt};
-ghost use Rattle.gd_top.specs.Replays.{IsToldAt, LeavesAt, PrintsEvents};
+ghost use Rattle.gd_top.specs.Replays.{is_told_at, LeavesAt, PrintsEvents};
 ghost use Rattle.gd_top.specs.Serves.{PrintsLines};
 
 use crate::opening::run;
@@ -71,31 +70,33 @@ pub fn graphd<
     // Words that serve. Where the input was read to its end, one legal history explains the whole
     // output for it (`done`). It begins with what the file stood for; the file is left so that it
     // stands for this history, with or without the write that is in doubt; and the shelf counted at
-    // least as many faults as lines tell. Where the input could not be read further, the lines of
-    // all rounds that lie wholly in what was taken of it were answered so, and no other (`rounds`).
-    // At any stop what was printed is a front of an output that is explained so (`front`); without
-    // memory the run may also not have begun (`memory`). Where the run did not begin, nothing was
-    // read and nothing printed, and the file stands for the same batches as before (`nothing`).
+    // least as many faults as lines tell, of which there is none without a file. Where the input
+    // could not be read further, the lines of all rounds that lie wholly in what was taken of it
+    // were answered so, and no other (`rounds`). At any stop what was printed is a front of an
+    // output that is explained so (`front`); without memory the run may also not have begun
+    // (`memory`). Where the run did not begin, nothing was read and nothing printed, and the file
+    // stands for the same batches as before (`nothing`).
     ensures serves { verb_of words.now ≡ Some verb.serves → PrintsLines result (C.may clock)
         (BeginsWith (F.content shelf.old) (path_of words.now))
         (EndsWith (C.may clock) (F.content shelf.old) (F.images shelf.new) (path_of words.now))
-        (RoseBy (F.faults shelf.old) (F.faults shelf.new))
+        (RisesAt (path_of words.now) (F.faults shelf.old) (F.faults shelf.new))
         (IsIdle source.old source.new sink.old sink.new
         × StaysAt (F.content shelf.old) (F.content shelf.new) (F.images shelf.old)
         (F.images shelf.new) (path_of words.now))
         (S.left source.old) (S.left source.new) (K.held sink.old) (K.held sink.new) }
 
-    // Words that replay. Over a file that the shelf tells or without one, and over any file where
-    // no line of the input opens the store again, what was printed is what the definitions' core
-    // replies to the lines, from some batches on; and the shelf counted at least as many faults as
-    // lines and the status tell. A file that is told stood for these batches, and is left so that
-    // it stands for the state that they make, with or without the write that is in doubt.
+    // Words that replay. What was printed is what the definitions' core replies to the lines, as
+    // far as events are built, from some batches on. Over a file that the shelf does not tell, a
+    // line that opens the store again gives a store of some batches, whose number its reply tells.
+    // The shelf counted at least as many faults as lines and the status tell, of which there is
+    // none without a file. A file that is told stood for these batches, and is left so that it
+    // stands for the state that they make, with or without the write that is in doubt.
     ensures events { verb_of words.now ≡ Some verb.replays
-        → IsSure (IsToldAt (F.content shelf.old) (path_of words.now)) (S.left source.old)
-        → (members : MembersOf) → PrintsEvents result members (C.may clock)
+        → (members : MembersOf) → PrintsEvents result
+        (is_told_at (F.content shelf.old) (path_of words.now)) members (C.may clock)
         (BeginsWith (F.content shelf.old) (path_of words.now))
         (LeavesAt (F.content shelf.old) (F.images shelf.new) (path_of words.now))
-        (RoseBy (F.faults shelf.old) (F.faults shelf.new))
+        (RisesAt (path_of words.now) (F.faults shelf.old) (F.faults shelf.new))
         (IsIdle source.old source.new sink.old sink.new
         × StaysAt (F.content shelf.old) (F.content shelf.new) (F.images shelf.old)
         (F.images shelf.new) (path_of words.now))
@@ -110,12 +111,13 @@ pub fn graphd<
     ensures rounds_sent { verb_of words.now ≡ Some verb.serves
         → SendsRounds result K.sent sink.old sink.new }
 
-    // Each fault has its cause.
+    // Each fault has its cause; without a file the status tells no failure of the disk.
     ensures read_fault { result ≡ Status.ReadFault
         → Rose (S.faults source.old) (S.faults source.new) }
     ensures sink_fault { result ≡ Status.SinkFault → Rose (K.faults sink.old) (K.faults sink.new) }
     ensures disk_fault { result ≡ Status.DiskFault
         → Rose (F.faults shelf.old) (F.faults shelf.new) }
+    ensures disk_steady { path_of words.now ≡ None → result ≢ Status.DiskFault }
     ensures too_much { result ≡ Status.TooMuch
         → TakesAtLeast (2 ^ 40) (S.left source.old) (S.left source.new) (S.given source.old)
         (S.given source.new) }

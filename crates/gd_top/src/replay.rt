@@ -1,12 +1,12 @@
 //! The verb `replay`: a run of events over the store of a disk.
 ghost use Rattle.std.specs.Prelude.{◌≡◌, ◌≢◌, ◌^◌, true};
 ghost use Rattle.std.specs.Io.KnownBytes.{IsAtEnd};
+ghost use Rattle.std.specs.Option.{is_some};
 ghost use Rattle.gd_base.specs.Counts.{Rose, RoseBy};
 ghost use Rattle.gd_runs.specs.Owed.{MembersOf};
 ghost use Rattle.gd_input.specs.Taken.{TakesAtLeast};
 ghost use Rattle.gd_writer.specs.Parts.{Tells};
 ghost use Rattle.gd_replay.specs.Stops.{Leaves};
-ghost use Rattle.gd_replay.specs.Sure.{IsSure};
 ghost use Rattle.gd_top.specs.Ends.{IsIdle, Causes};
 ghost use Rattle.gd_top.specs.Held.{Loads, MayMean, DoesMean};
 ghost use Rattle.gd_top.specs.Kept.{Keeps, StaysTold};
@@ -48,8 +48,8 @@ pub(crate) fn replay_over<R: Wait, D: Disk, S: Source, K: Sink, C: Clock + Drop>
     sink: &mut K,
     clock: C,
 ) -> (Status, D)
-    ensures prints { IsSure (Tells (D.content disk)) (S.left source.old) → (members : MembersOf)
-        → PrintsEvents result.0 members (C.may clock) (Loads (D.content disk))
+    ensures prints { (members : MembersOf) → PrintsEvents result.0 (is_some (D.content disk))
+        members (C.may clock) (Loads (D.content disk))
         (λ s. Tells (D.content disk) → Leaves (D.images result.1) s)
         (RoseBy (D.faults disk) (D.faults result.1))
         (IsIdle source.old source.new sink.old sink.new

@@ -10,6 +10,7 @@ use Rattle.gd_defs.specs.Data.{Test, anything}
 use Rattle.gd_defs.specs.Query as query
 use Rattle.gd_defs.specs.Query.{Name, Operator, Form, Directives, object_form, is_link, Mode, required, optional, Query}
 use Rattle.gd_defs.specs.Property.{Property, Expects, a_value, a_key, an_object_of_system, a_plain_object, expects_of, holds_values}
+use Rattle.gd_defs.proofs.Directives.{sort_name}
 use Rattle.gd_defs.specs.Asked.{Own, Members, no_members, Clause, Unknown, bad, its_link, its_value, its_namespace, its_lang, value_member, has_namespace, has_lang, Asked, asked, asked_form, asked_query, own_of, own_member, own_test, value_members, member_property, below_property, context_of, type_text, sort_keys, name_property}
 use Rattle.gd_defs.specs.Asked.Tests.{checked_test}
 use Rattle.gd_defs.specs.Asked.Forms.{name_test, style_of, own_clause, ask_form, operand_form, clause_form, asks_single}
@@ -155,7 +156,7 @@ mutual
   clause-formed : (prims : List Primitive) (context : Option ℕ) (path : List (List ℕ)) (ms : query.Members) (c : Clause) → asked prims context path ms ≡ Ok c → AreFormed c.0
   clause-formed prims context path query.no_members c is = subst (λ (c : Clause). AreFormed c.0) (ok_same (no_members, []) c is) tt
   clause-formed prims context path (query.sort_by ws ms) c is =
-      let one = steps (sort_keys prims context (path ++ codes "sort" ∷ []) ws) (λ ks. asked prims context path ms >>= λ c. Ok (c.0, ks)) c is in
+      let one = steps (sort_keys prims context (path ++ sort_name ∷ []) ws) (λ ks. asked prims context path ms >>= λ c. Ok (c.0, ks)) c is in
       let more = steps (asked prims context path ms) (λ c. Ok (c.0, one.value)) c one.then_gave in
       subst (λ (c : Clause). AreFormed c.0) (ok_same (more.value.0, one.value) c more.then_gave) (clause-formed prims context path ms more.value more.gave)
   clause-formed prims context path (query.member n f ms) c is =

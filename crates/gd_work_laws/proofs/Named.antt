@@ -1,5 +1,5 @@
 -- The places that a query names are places of the list.
-use Rattle.std.proofs.Common.{◌≡◌, ℕ, ◌<◌, List, [], ◌∷◌, ◌++◌, Bool, true, false, ◌&&◌, Option, Some, None, Result, Ok, codes, inl, inr, refl, subst, ◌∙◌, length}
+use Rattle.std.proofs.Common.{◌≡◌, ℕ, ◌<◌, List, [], ◌∷◌, ◌++◌, Bool, true, false, ◌&&◌, Option, Some, None, Result, Ok, inl, inr, refl, subst, ◌∙◌, length}
 use Rattle.std.specs.Prelude.{if◌then◌else◌, unwrap_or, slice_get, is_none, option_map}
 use Rattle.std.specs.Option.{option_map_or, option_or, option_to_list, ok_or}
 use Rattle.std.proofs.lemmas.Bool.{false≢true}
@@ -18,6 +18,7 @@ use Rattle.gd_defs.specs.Query as query
 use Rattle.gd_defs.specs.Query.{Name, Operator, Form, Directives, Query}
 use Rattle.gd_defs.specs.Property.{Property, Expects, a_value, a_key, an_object_of_system, a_plain_object, expects_of}
 use Rattle.gd_defs.specs.Plan.{places_of}
+use Rattle.gd_defs.proofs.Directives.{sort_name}
 use Rattle.gd_defs.specs.Asked.{Own, its_id, its_guid, its_timestamp, its_link, its_value, its_namespace, its_lang, Members, no_members, own, asks, Clause, Unknown, Asked, asked, asked_form, asked_query, own_of, own_member, own_test, takes, member_property, below_property, context_of, type_text, sort_keys, place_named, operand_datum, test_of, bad, no_such_id}
 use Rattle.gd_defs.specs.Asked.Tests.{checked_test, operand_data}
 use Rattle.gd_defs.specs.Asked.Forms.{ask_form, operand_form, clause_form, asks_single}
@@ -233,7 +234,7 @@ module _ (prims : List Primitive) (root : root_place < length prims) where
   clause-inside : (context : Option ℕ) (path : List (List ℕ)) (ms : query.Members) (c : Clause) → asked prims context path ms ≡ Ok c → NamesInside c.0
   clause-inside context path query.no_members c is = subst (λ (c : Clause). NamesInside c.0) (ok_same (no_members, []) c is) tt
   clause-inside context path (query.sort_by ws ms) c is =
-      let one = steps (sort_keys prims context (path ++ codes "sort" ∷ []) ws) (λ ks. asked prims context path ms >>= λ c. Ok (c.0, ks)) c is in
+      let one = steps (sort_keys prims context (path ++ sort_name ∷ []) ws) (λ ks. asked prims context path ms >>= λ c. Ok (c.0, ks)) c is in
       let more = steps (asked prims context path ms) (λ c. Ok (c.0, one.value)) c one.then_gave in
       subst (λ (c : Clause). NamesInside c.0) (ok_same (more.value.0, one.value) c more.then_gave) (clause-inside context path ms more.value more.gave)
   clause-inside context path (query.member n f ms) c is =

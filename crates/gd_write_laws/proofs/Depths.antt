@@ -12,7 +12,8 @@ use Rattle.gd_defs.specs.Property.{Property, expects_of, holds_values}
 use Rattle.gd_defs.specs.Asked.{place_named, context_of, member_property}
 use Rattle.gd_defs.specs.Change.{Change, Setting, create_word, connect_word, guid_member, target_in, setting_of, write_name, create_in, is_connect_form, is_fact_form, is_form, by_name, members_of, item_of, items_of, object_item, list_item, change_of}
 use Rattle.gd_defs.specs.Change as spelled
-use Rattle.gd_defs.specs.Write.{WriteRequest, unknown, scope_of, resolved_root, root_subject, carried_root, fitting, exec}
+use Rattle.gd_defs.specs.Write.{WriteSet, one_change, changes, WriteRequest, numbered, changes_of, unknown, scope_of, resolved_root, Resolved, resolved_all, root_subject, carried_root, carried_all, result_of, fitting, exec}
+use Rattle.gd_write_laws.specs.Laws.{SpellEach, SpellsSet}
 use Rattle.gd_defs.specs.Write.Parts.{to_object, Item, as_spelled, its_id, its_guid, fact, connect, nested, several, ManyItems, no_more, and_then, Members, no_members, member, created, literal_target, new_target, target_of, in_language_of, has_fact, type_text, fact_item, identity_item, resolved, resolved_item, resolved_items}
 use Rattle.gd_defs.specs.Write.Links.{Stamp, inserted, connected}
 use Rattle.gd_defs.specs.Write.Carried.{answered, Made, Subject, subject_of, created_text, carried, carried_item, carried_items}
@@ -274,41 +275,91 @@ mutual
 
 -- ---- a write
 
-root-depth : (prims : List Primitive) (c : Change) (r : Option ℕ × Members) → resolved_root prims c ≡ Ok r → printed_depth r.1 ≤ change_depth c.members
-root-depth prims c r is = by c.root refl
+root-depth : (prims : List Primitive) (path : List (List ℕ)) (c : Change) (r : Option ℕ × Members) → resolved_root prims path c ≡ Ok r → printed_depth r.1 ≤ change_depth c.members
+root-depth prims path c r is = by c.root refl
   where
     by : (root : spelled.Root) → c.root ≡ root → printed_depth r.1 ≤ change_depth c.members
     by (spelled.to_create w) root = let given = rw root at is in
-        let t = steps (context_of prims None (type_text c.members)) (λ t. resolved prims None t [] c.members >>= λ ms. Ok (None, ms)) r given in
-        let ms = steps (resolved prims None t.value [] c.members) (λ ms. Ok (None, ms)) r t.then_gave in
-        omega (arith, ap (λ (r : Option ℕ × Members). printed_depth r.1) (ok_same (None, ms.value) r ms.then_gave), resolved-depth prims None t.value [] c.members ms.value ms.gave)
+        let t = steps (context_of prims None (type_text c.members)) (λ t. resolved prims None t path c.members >>= λ ms. Ok (None, ms)) r given in
+        let ms = steps (resolved prims None t.value path c.members) (λ ms. Ok (None, ms)) r t.then_gave in
+        omega (arith, ap (λ (r : Option ℕ × Members). printed_depth r.1) (ok_same (None, ms.value) r ms.then_gave), resolved-depth prims None t.value path c.members ms.value ms.gave)
     by (spelled.existing_object id) root = let given = rw root at is in
-        let o = steps (place_named prims id) (λ o. context_of prims None (type_text c.members) >>= λ x. resolved prims (Some o) x [] c.members >>= λ ms. Ok (Some o, ms)) r given in
-        let x = steps (context_of prims None (type_text c.members)) (λ x. resolved prims (Some o.value) x [] c.members >>= λ ms. Ok (Some o.value, ms)) r o.then_gave in
-        let ms = steps (resolved prims (Some o.value) x.value [] c.members) (λ ms. Ok (Some o.value, ms)) r x.then_gave in
-        omega (arith, ap (λ (r : Option ℕ × Members). printed_depth r.1) (ok_same (Some o.value, ms.value) r ms.then_gave), resolved-depth prims (Some o.value) x.value [] c.members ms.value ms.gave)
+        let o = steps (place_named prims id) (λ o. context_of prims None (type_text c.members) >>= λ x. resolved prims (Some o) x path c.members >>= λ ms. Ok (Some o, ms)) r given in
+        let x = steps (context_of prims None (type_text c.members)) (λ x. resolved prims (Some o.value) x path c.members >>= λ ms. Ok (Some o.value, ms)) r o.then_gave in
+        let ms = steps (resolved prims (Some o.value) x.value path c.members) (λ ms. Ok (Some o.value, ms)) r x.then_gave in
+        omega (arith, ap (λ (r : Option ℕ × Members). printed_depth r.1) (ok_same (Some o.value, ms.value) r ms.then_gave), resolved-depth prims (Some o.value) x.value path c.members ms.value ms.gave)
 
-exec-depth : (prims : List Primitive) (requests : ℕ) (w : WriteRequest) (moment : ℕ) (b : Batch) (j : Json) → exec prims requests w moment ≡ Ok (b, j) → json_depth j ≤ 1 + change_depth w.change.members
-exec-depth prims requests w moment b j is =
-    let scope = steps (map_err unknown (scope_of prims w.scope)) (λ scope. map_err unknown (resolved_root prims w.change) >>= λ r.
-    carried_root (record { scope = scope; moment = moment }) prims w.change.root r >>= λ m.
-    fitting prims requests (record { moment = moment; prims = drop (length prims) m.0 }) (object (m.1 m.0))) (b, j) is in
-    let r = steps (map_err unknown (resolved_root prims w.change)) (λ r.
-    carried_root (record { scope = scope.value; moment = moment }) prims w.change.root r >>= λ m.
-    fitting prims requests (record { moment = moment; prims = drop (length prims) m.0 }) (object (m.1 m.0))) (b, j) scope.then_gave in
-    let m = steps (carried_root (record { scope = scope.value; moment = moment }) prims w.change.root r.value) (λ m.
-    fitting prims requests (record { moment = moment; prims = drop (length prims) m.0 }) (object (m.1 m.0))) (b, j) r.then_gave in
-    let fits = fitted prims requests (record { moment = moment; prims = drop (length prims) m.value.0 }) (object (m.value.1 m.value.0)) b j m.then_gave in
-    let o = steps (root_subject (record { scope = scope.value; moment = moment }) prims w.change.root r.value.0 r.value.1) (λ o. carried (record { scope = scope.value; moment = moment }) [] o.prims o r.value.1) m.value m.gave in
+-- how deep changes are at most
+abbrev changes_depth : List (List (List ℕ) × Change) → ℕ
+changes_depth [] = 0
+changes_depth (c ∷ cs) = max (1 + change_depth c.1.members) (changes_depth cs)
+
+-- how deep what they print is at most
+abbrev roots_depth : List Resolved → ℕ
+roots_depth [] = 0
+roots_depth (r ∷ rs) = max (1 + printed_depth r.members) (roots_depth rs)
+
+all-depth : (prims : List Primitive) (cs : List (List (List ℕ) × Change)) (rs : List Resolved) → resolved_all prims cs ≡ Ok rs → roots_depth rs ≤ changes_depth cs
+all-depth prims [] rs is = omega (arith, ap roots_depth (ok_same [] rs is))
+all-depth prims (c ∷ cs) rs is =
+    let r = steps (resolved_root prims c.0 c.1) (λ r. resolved_all prims cs >>= λ rs. Ok (record { path = c.0; root = c.1.root; on = r.0; members = r.1 } ∷ rs)) rs is in
+    let more = steps (resolved_all prims cs) (λ rs. Ok (record { path = c.0; root = c.1.root; on = r.value.0; members = r.value.1 } ∷ rs)) rs r.then_gave in
+    omega (arith, ap roots_depth (ok_same (record { path = c.0; root = c.1.root; on = r.value.0; members = r.value.1 } ∷ more.value) rs more.then_gave), root-depth prims c.0 c.1 r.value r.gave, all-depth prims cs more.value more.gave)
+
+made-depth : (s : Stamp) (prims : List Primitive) (rs : List Resolved) (m : Made Items) → carried_all s prims rs ≡ Ok m → (final : List Primitive) → items_depth (m.1 final) ≤ roots_depth rs
+made-depth s prims [] m is final = omega (arith, ap (λ (m : Made Items). items_depth (m.1 final)) (ok_same (prims, λ final. no_items) m is))
+made-depth s prims (r ∷ rs) m is final =
+    let one = steps (carried_root s prims r) (λ m. carried_all s m.0 rs >>= λ ms. Ok (ms.0, λ final. item (object (m.1 final)) (ms.1 final))) m is in
+    let rest = steps (carried_all s one.value.0 rs) (λ ms. Ok (ms.0, λ final. item (object (one.value.1 final)) (ms.1 final))) m one.then_gave in
+    let o = steps (root_subject s r.path prims r.root r.on r.members) (λ o. carried s r.path o.prims o r.members) one.value one.gave in
     omega (
       arith,
-      ap json_depth fits.result,
-      carried-depth (record { scope = scope.value; moment = moment }) [] o.value.prims o.value r.value.1 m.value o.then_gave m.value.0,
-      root-depth prims w.change r.value (mapped_ok unknown (resolved_root prims w.change) r.value r.gave),
+      ap (λ (m : Made Items). items_depth (m.1 final)) (ok_same (rest.value.0, λ final. item (object (one.value.1 final)) (rest.value.1 final)) m rest.then_gave),
+      carried-depth s r.path o.value.prims o.value r.members one.value o.then_gave final,
+      made-depth s one.value.0 rs rest.value rest.gave final,
     )
 
-pub result-depth : (prims : List Primitive) (requests : ℕ) (query : Json) (w : WriteRequest) (moment : ℕ) (b : Batch) (j : Json) → change_of query ≡ Ok w.change → exec prims requests w moment ≡ Ok (b, j)
+-- how deep the result is at most
+abbrev result_depth : WriteSet → ℕ → ℕ
+result_depth (one_change c) n = max 1 n
+result_depth (changes cs) n = 1 + n
+
+result_of-depth : (a : WriteSet) (js : Items) (n : ℕ) → items_depth js ≤ n → json_depth (result_of a js) ≤ result_depth a n
+result_of-depth (one_change c) no_items n deep = omega arith
+result_of-depth (one_change c) (item j js) n deep = omega arith
+result_of-depth (changes cs) js n deep = omega arith
+
+exec-depth : (prims : List Primitive) (requests : ℕ) (w : WriteRequest) (moment : ℕ) (b : Batch) (j : Json) → exec prims requests w moment ≡ Ok (b, j) → json_depth j ≤ result_depth w.asks (changes_depth (changes_of w.asks))
+exec-depth prims requests w moment b j is =
+    let scope = steps (map_err unknown (scope_of prims w.scope)) (λ scope. map_err unknown (resolved_all prims (changes_of w.asks)) >>= λ rs.
+    carried_all (record { scope = scope; moment = moment }) prims rs >>= λ m.
+    fitting prims requests (record { moment = moment; prims = drop (length prims) m.0 }) (result_of w.asks (m.1 m.0))) (b, j) is in
+    let r = steps (map_err unknown (resolved_all prims (changes_of w.asks))) (λ rs.
+    carried_all (record { scope = scope.value; moment = moment }) prims rs >>= λ m.
+    fitting prims requests (record { moment = moment; prims = drop (length prims) m.0 }) (result_of w.asks (m.1 m.0))) (b, j) scope.then_gave in
+    let m = steps (carried_all (record { scope = scope.value; moment = moment }) prims r.value) (λ m.
+    fitting prims requests (record { moment = moment; prims = drop (length prims) m.0 }) (result_of w.asks (m.1 m.0))) (b, j) r.then_gave in
+    let fits = fitted prims requests (record { moment = moment; prims = drop (length prims) m.value.0 }) (result_of w.asks (m.value.1 m.value.0)) b j m.then_gave in
+    let roots = all-depth prims (changes_of w.asks) r.value (mapped_ok unknown (resolved_all prims (changes_of w.asks)) r.value r.gave) in
+    let made = made-depth (record { scope = scope.value; moment = moment }) prims r.value m.value m.gave m.value.0 in
+    subst (λ j. json_depth j ≤ result_depth w.asks (changes_depth (changes_of w.asks))) fits.result
+    (result_of-depth w.asks (m.value.1 m.value.0) (changes_depth (changes_of w.asks)) (omega arith))
+
+-- a change is no deeper than the value that spells it
+change-depth : (query : Json) (c : Change) → change_of query ≡ Ok c → 1 + change_depth c.members ≤ json_depth query
+change-depth (object ms) c spells = omega (arith, spelled-depth (setting_of true ms) ms c.members (change_spelled ms c spells).members)
+change-depth _ c spells = not_ok _ c spells
+
+each-depth : (n : ℕ) (js : Items) (cs : List Change) → SpellEach js cs → changes_depth (numbered n cs) ≤ items_depth js
+each-depth n no_items [] spells = omega arith
+each-depth n (item j js) (c ∷ cs) spells = omega (arith, change-depth j c spells.0, each-depth (n + 1) js cs spells.1)
+each-depth n no_items (c ∷ cs) spells = absurd spells
+each-depth n (item j js) [] spells = absurd spells
+
+set-depth : (query : Json) (a : WriteSet) → SpellsSet query a → result_depth a (changes_depth (changes_of a)) ≤ json_depth query
+set-depth query (one_change c) spells = omega (arith, change-depth query c spells)
+set-depth query (changes cs) spells = omega (arith, ap json_depth spells.1, each-depth 0 spells.0 cs spells.2)
+
+pub result-depth : (prims : List Primitive) (requests : ℕ) (query : Json) (w : WriteRequest) (moment : ℕ) (b : Batch) (j : Json) → SpellsSet query w.asks → exec prims requests w moment ≡ Ok (b, j)
     → json_depth j ≤ json_depth query
-result-depth prims requests (object ms) w moment b j spells is =
-    omega (arith, spelled-depth (setting_of true ms) ms w.change.members (change_spelled ms w.change spells).members, exec-depth prims requests w moment b j is)
-result-depth prims requests _ w moment b j spells is = not_ok _ w.change spells
+result-depth prims requests query w moment b j spells is = omega (arith, exec-depth prims requests w moment b j is, set-depth query w.asks spells)

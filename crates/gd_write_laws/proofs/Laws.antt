@@ -10,6 +10,7 @@ use Rattle.gd_prim.specs.declared.Primitive.{Primitive}
 use Rattle.gd_prim.specs.Live.{refers, passes_at, is_current, is_object}
 use Rattle.gd_prim.specs.History.{prims_of}
 use Rattle.gd_defs.specs.Property.{Property, is_of, in_language, near_of, answers, expects_of, holds_expected, leads_to_object}
+use Rattle.gd_defs.specs.Write.{changes_of}
 use Rattle.gd_write_laws.specs.Sound.{Below, IsSound, EndsLink, ArePlaced}
 use Rattle.gd_write_laws.specs.Values.{MayHold, IsTyped}
 use Rattle.gd_write_laws.specs.Laws.{WritesFollow, HistoriesAreSound, HistoriesHaveFronts, HistoriesGrow, ListsStayTyped, PlainIsTyped, BatchesAreTyped, ObjectsStay, ResultsAreFlat, IsAnswer, AnswersStandAbove, LinksStandAbove, NewAnswersAreNew}
@@ -17,13 +18,13 @@ use Rattle.gd_write_laws.proofs.Places.{LiveAt, Rising, at_place, passes_kept}
 use Rattle.gd_write_laws.proofs.Grows.{Sound-grown}
 use Rattle.gd_write_laws.proofs.Links.{answer_test, answers-rising, still_current}
 use Rattle.gd_write_laws.proofs.Follows.{executed, executed-follows}
-use Rattle.gd_write_laws.proofs.Spelled.{held_by_all, typed_by_plain}
+use Rattle.gd_write_laws.proofs.Spelled.{held_by_all, set_typed_by_plain}
 use Rattle.gd_write_laws.proofs.Histories.{history-sound, history-front, history-more, history-some}
 use Rattle.gd_write_laws.proofs.Depths.{result-depth}
 
 pub writes_follow : WritesFollow
 writes_follow prims requests w moment b j sound some early is =
-    executed-follows prims requests moment b early (executed MayHold prims requests w moment b j sound refl some (held_by_all w.change.members) is)
+    executed-follows prims requests moment b early (executed MayHold prims requests w moment b j sound refl some (held_by_all (changes_of w.asks)) is)
 
 pub histories_are_sound : HistoriesAreSound
 histories_are_sound batches history = history-sound batches history
@@ -47,7 +48,7 @@ all_placed V moment before (p ∷ ps) placed =
     (All-cons (λ p. V p.value) p ps placed.0.value rest.0, All-cons (λ (p : Primitive). p.name ≡ None) p ps placed.0.unnamed rest.1)
 
 pub plain_is_typed : PlainIsTyped
-plain_is_typed T query c plain is = typed_by_plain T query c plain is
+plain_is_typed T query a plain is = set_typed_by_plain T query a plain is
 
 pub batches_are_typed : BatchesAreTyped
 batches_are_typed T prims requests w moment b j sound some spells is =
@@ -86,7 +87,7 @@ object_stays V moment before (p ∷ ps) k placed object =
 
 pub objects_stay : ObjectsStay
 objects_stay prims requests w moment b j sound some is k object =
-    object_stays MayHold moment prims b.prims k (executed MayHold prims requests w moment b j sound refl some (held_by_all w.change.members) is).placed object
+    object_stays MayHold moment prims b.prims k (executed MayHold prims requests w moment b j sound refl some (held_by_all (changes_of w.asks)) is).placed object
 
 pub results_are_flat : ResultsAreFlat
 results_are_flat prims requests query w moment b j spells is = result-depth prims requests query w moment b j spells is

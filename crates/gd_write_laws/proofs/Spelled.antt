@@ -1,5 +1,5 @@
 -- The change that a JSON value spells has the values of that value alone.
-use Rattle.std.proofs.Common.{◌≡◌, ℕ, List, Bool, true, false, ◌&&◌, ◌||◌, not, Option, Some, None, Result, Ok, Err, codes, refl, ap, subst, ◌∙◌}
+use Rattle.std.proofs.Common.{◌≡◌, ℕ, ◌+◌, List, [], ◌∷◌, Bool, true, false, ◌&&◌, ◌||◌, not, Option, Some, None, Result, Ok, Err, codes, refl, ap, subst, ◌∙◌}
 use Rattle.std.specs.Prelude.{if◌then◌else◌, bytes_eq}
 use Rattle.std.specs.Option.{option_or}
 use Rattle.gd_base.specs.declared.datum.Datum.{Datum}
@@ -9,7 +9,9 @@ use Rattle.gd_tree.specs.Json.{Json, null, boolean, number, text, list, object, 
 use Rattle.gd_defs.specs.Query.{Name, Fault, bad_create, bad_connect, within, or_fault, is_identity, is_word, is_literal, is_id_text, all_items}
 use Rattle.gd_defs.specs.Change as change
 use Rattle.gd_defs.specs.Change.{CreateWord, ConnectWord, Setting, Change, blank, plain, fact, connect, nested, several, no_more, and_then, no_members, member, created, to_id, to_literal, to_text, to_key, create_word, connect_word, text_member, guid_member, first_code, part_code, target_of, target_in, setting_of, write_name, create_in, identity_item, is_connect_form, is_fact_form, object_item, is_form, list_item, by_name, members_of, item_of, items_of, change_of}
-use Rattle.gd_write_laws.specs.Fits.{Spells, TargetSpells, MembersSpell, ItemSpells, ItemsSpell}
+use Rattle.gd_defs.specs.Write.{WriteSet, one_change, changes, numbered, changes_of}
+use Rattle.gd_write_laws.specs.Laws.{SpellEach, SpellsSet}
+use Rattle.gd_write_laws.specs.Fits.{Spells, TargetSpells, MembersSpell, ItemSpells, ItemsSpell, ChangesSpell}
 use Rattle.gd_tree.specs.Bounds.{IsPlain, ArePlain, MembersPlain}
 use Rattle.gd_write_laws.specs.Values.{MayHold, IsTyped}
 use Rattle.gd_grammar.proofs.Steps.{steps, ok_same, not_ok, some_given, some_same, not_some, either}
@@ -42,8 +44,9 @@ mutual
   items-spell V spells (and_then i is) = (item-spells V spells i, items-spell V spells is)
 
 -- a primitive may hold whatever a write spells
-pub held_by_all : (c : change.Members) → MembersSpell MayHold c
-held_by_all c = members-spell MayHold Spells-held c
+pub held_by_all : (cs : List (List (List ℕ) × Change)) → ChangesSpell MayHold cs
+held_by_all [] = tt
+held_by_all (c ∷ cs) = (members-spell MayHold Spells-held c.1.members, held_by_all cs)
 
 -- ---- the values of a JSON value
 
@@ -165,3 +168,13 @@ change_spelled ms c is = by (get (codes "create") ms) (option_or (text_member (c
 pub typed_by_plain : (T : List ℕ → Bool) (j : Json) (c : Change) → IsPlain T j → change_of j ≡ Ok c → MembersSpell (IsTyped T) c.members
 typed_by_plain T (object ms) c are is = members-plain T (setting_of true ms) ms c.members are (change_spelled ms c is).members
 typed_by_plain T _ c are is = not_ok _ c is
+
+each_typed : (T : List ℕ → Bool) (n : ℕ) (js : Items) (cs : List Change) → ArePlain T js → SpellEach js cs → ChangesSpell (IsTyped T) (numbered n cs)
+each_typed T n no_items [] are spells = tt
+each_typed T n (item j js) (c ∷ cs) are spells = (typed_by_plain T j c are.0 spells.0, each_typed T (n + 1) js cs are.1 spells.1)
+each_typed T n no_items (c ∷ cs) are spells = absurd spells
+each_typed T n (item j js) [] are spells = absurd spells
+
+pub set_typed_by_plain : (T : List ℕ → Bool) (j : Json) (a : WriteSet) → IsPlain T j → SpellsSet j a → ChangesSpell (IsTyped T) (changes_of a)
+set_typed_by_plain T j (one_change c) are spells = (typed_by_plain T j c are spells, tt)
+set_typed_by_plain T j (changes cs) are spells = each_typed T 0 spells.0 cs (subst (IsPlain T) spells.1 are) spells.2

@@ -6,12 +6,12 @@ use Rattle.gd_prim.specs.declared.Batch.{Batch}
 use Rattle.gd_prim.specs.Live.{refers, passes_at, is_object}
 use Rattle.gd_prim.specs.History.{prims_of, is_history}
 use Rattle.gd_prim.specs.WellFormed.{max_moment, may_follow}
-use Rattle.gd_tree.specs.Json.{Json}
+use Rattle.gd_tree.specs.Json.{Json, list, Items, no_items, item}
 use Rattle.gd_defs.specs.Change.{Change, change_of}
 use Rattle.gd_defs.specs.Property.{Property, near_of, answers}
-use Rattle.gd_defs.specs.Write.{WriteRequest, exec}
+use Rattle.gd_defs.specs.Write.{WriteSet, one_change, changes, WriteRequest, changes_of, exec}
 use Rattle.gd_write_laws.specs.Sound.{IsSound}
-use Rattle.gd_write_laws.specs.Fits.{MembersSpell}
+use Rattle.gd_write_laws.specs.Fits.{ChangesSpell}
 use Rattle.gd_tree.specs.Bounds.{IsPlain}
 use Rattle.gd_write_laws.specs.Values.{MayHold, IsTyped}
 use Rattle.gd_tree.specs.Bounds.{json_depth}
@@ -37,11 +37,22 @@ HistoriesGrow = (batches : List Batch) (w : WriteRequest) (moment : ℕ) (b : Ba
 -- The types of the code hold a list with the batch of a write, where they hold the list and what each literal of the write spells; T is the test of texts.
 abbrev pub ListsStayTyped : Type 0
 ListsStayTyped = (T : List ℕ → Bool) (prims : List Primitive) (requests : ℕ) (w : WriteRequest) (moment : ℕ) (b : Batch) (j : Json)
-    → IsSound (IsTyped T) prims → 0 < length prims → MembersSpell (IsTyped T) w.change.members → exec prims requests w moment ≡ Ok (b, j) → IsSound (IsTyped T) (prims ++ b.prims)
+    → IsSound (IsTyped T) prims → 0 < length prims → ChangesSpell (IsTyped T) (changes_of w.asks) → exec prims requests w moment ≡ Ok (b, j) → IsSound (IsTyped T) (prims ++ b.prims)
+
+-- the items of a list spell changes, in order
+abbrev pub SpellEach : Items → List Change → Type 0
+SpellEach no_items [] = Unit {0}
+SpellEach (item j js) (c ∷ cs) = (change_of j ≡ Ok c) × SpellEach js cs
+SpellEach _ _ = ⊥
+
+-- a JSON value spells what a write asks: one change, or as a list several
+abbrev pub SpellsSet : Json → WriteSet → Type 0
+SpellsSet query (one_change c) = change_of query ≡ Ok c
+SpellsSet query (changes cs) = (js : Items) × (query ≡ list js) × SpellEach js cs
 
 -- They hold what a JSON value spells whose texts pass the test.
 abbrev pub PlainIsTyped : Type 0
-PlainIsTyped = (T : List ℕ → Bool) (query : Json) (c : Change) → IsPlain T query → change_of query ≡ Ok c → MembersSpell (IsTyped T) c.members
+PlainIsTyped = (T : List ℕ → Bool) (query : Json) (a : WriteSet) → IsPlain T query → SpellsSet query a → ChangesSpell (IsTyped T) (changes_of a)
 
 -- primitives whose values the types of the code hold, without names
 pub record AreTyped (T : List ℕ → Bool) (prims : List Primitive) : Type 0 where
@@ -51,7 +62,7 @@ pub record AreTyped (T : List ℕ → Bool) (prims : List Primitive) : Type 0 wh
 -- The types of the code hold the values of a batch, whose primitives have no names.
 abbrev pub BatchesAreTyped : Type 0
 BatchesAreTyped = (T : List ℕ → Bool) (prims : List Primitive) (requests : ℕ) (w : WriteRequest) (moment : ℕ) (b : Batch) (j : Json)
-    → IsSound (IsTyped T) prims → 0 < length prims → MembersSpell (IsTyped T) w.change.members → exec prims requests w moment ≡ Ok (b, j) → AreTyped T b.prims
+    → IsSound (IsTyped T) prims → 0 < length prims → ChangesSpell (IsTyped T) (changes_of w.asks) → exec prims requests w moment ≡ Ok (b, j) → AreTyped T b.prims
 
 -- A write ends no object.
 abbrev pub ObjectsStay : Type 0
@@ -61,7 +72,7 @@ ObjectsStay = (prims : List Primitive) (requests : ℕ) (w : WriteRequest) (mome
 -- The result of a write is no deeper than what spells it.
 abbrev pub ResultsAreFlat : Type 0
 ResultsAreFlat = (prims : List Primitive) (requests : ℕ) (query : Json) (w : WriteRequest) (moment : ℕ) (b : Batch) (j : Json)
-    → change_of query ≡ Ok w.change → exec prims requests w moment ≡ Ok (b, j) → json_depth j ≤ json_depth query
+    → SpellsSet query w.asks → exec prims requests w moment ≡ Ok (b, j) → json_depth j ≤ json_depth query
 
 -- an answer of a property on an object: a link of the stored property, with the object at its near end, above the object
 pub record IsAnswer (prims : List Primitive) (p : Property) (o k : ℕ) : Type 0 where

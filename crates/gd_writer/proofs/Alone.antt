@@ -7,9 +7,8 @@ use Rattle.gd_prim.specs.declared.Primitive.{Primitive}
 use Rattle.gd_prim.specs.History.{prims_of}
 use Rattle.gd_prim.specs.WellFormed.{bad_place, max_moment}
 use Rattle.gd_prim.specs.Limits.{limits, first_full}
-use Rattle.gd_tree.specs.Json.{Json, object, Members as JsonMembers}
-use Rattle.gd_defs.specs.Write.{WriteRequest, ChangeFault, unknown, scope_of, resolved_root, carried_root, exec, fitting}
-use Rattle.gd_defs.specs.Write.Parts.{Members}
+use Rattle.gd_tree.specs.Json.{Json, Items}
+use Rattle.gd_defs.specs.Write.{WriteSet, WriteRequest, Resolved, ChangeFault, unknown, scope_of, changes_of, resolved_all, carried_all, result_of, exec, fitting}
 use Rattle.gd_defs.specs.Write.Carried.{Made}
 use Rattle.gd_log.specs.Stored.{MayAppend}
 use Rattle.gd_runs.specs.Request.{exec_after}
@@ -28,22 +27,22 @@ fitting_gives prims requests b j done is = by (first_full (limits prims requests
     by (Some passed) o_is = let gave = rw o_is at is in cc
 
 -- the steps of a write, from its last one up
-abbrev finished : List Primitive → ℕ → ℕ → Made JsonMembers → Result (Batch × Json) ChangeFault
-finished prims requests moment m = fitting prims requests (record { moment = moment; prims = drop (length prims) m.0 }) (object (m.1 m.0))
+abbrev finished : List Primitive → ℕ → WriteSet → ℕ → Made Items → Result (Batch × Json) ChangeFault
+finished prims requests asks moment m = fitting prims requests (record { moment = moment; prims = drop (length prims) m.0 }) (result_of asks (m.1 m.0))
 
-abbrev carrying : List Primitive → ℕ → WriteRequest → ℕ → Option ℕ → Option ℕ × Members → Result (Batch × Json) ChangeFault
-carrying prims requests w moment scope r = carried_root (record { scope = scope; moment = moment }) prims w.change.root r >>= λ m. finished prims requests moment m
+abbrev carrying : List Primitive → ℕ → WriteSet → ℕ → Option ℕ → List Resolved → Result (Batch × Json) ChangeFault
+carrying prims requests asks moment scope rs = carried_all (record { scope = scope; moment = moment }) prims rs >>= λ m. finished prims requests asks moment m
 
-abbrev resolving : List Primitive → ℕ → WriteRequest → ℕ → Option ℕ → Result (Batch × Json) ChangeFault
-resolving prims requests w moment scope = map_err unknown (resolved_root prims w.change) >>= λ r. carrying prims requests w moment scope r
+abbrev resolving : List Primitive → ℕ → WriteSet → ℕ → Option ℕ → Result (Batch × Json) ChangeFault
+resolving prims requests asks moment scope = map_err unknown (resolved_all prims (changes_of asks)) >>= λ rs. carrying prims requests asks moment scope rs
 
 -- the batch of a write is of its moment
 exec_moment : (prims : List Primitive) (requests : ℕ) (w : WriteRequest) (moment : ℕ) (done : Batch × Json) → exec prims requests w moment ≡ Ok done → done.0.moment ≡ moment
 exec_moment prims requests w moment done is =
-    let (scope, resolves) = last_gives (map_err unknown (scope_of prims w.scope)) (λ scope. resolving prims requests w moment scope) done is in
-    let (r, carries) = last_gives (map_err unknown (resolved_root prims w.change)) (λ r. carrying prims requests w moment scope r) done resolves in
-    let (m, gives) = last_gives (carried_root (record { scope = scope; moment = moment }) prims w.change.root r) (λ m. finished prims requests moment m) done carries in
-    ap (λ (b : Batch). b.moment) (fitting_gives prims requests (record { moment = moment; prims = drop (length prims) m.0 }) (object (m.1 m.0)) done gives)
+    let (scope, resolves) = last_gives (map_err unknown (scope_of prims w.scope)) (λ scope. resolving prims requests w.asks moment scope) done is in
+    let (rs, carries) = last_gives (map_err unknown (resolved_all prims (changes_of w.asks))) (λ rs. carrying prims requests w.asks moment scope rs) done resolves in
+    let (m, gives) = last_gives (carried_all (record { scope = scope; moment = moment }) prims rs) (λ m. finished prims requests w.asks moment m) done carries in
+    ap (λ (b : Batch). b.moment) (fitting_gives prims requests (record { moment = moment; prims = drop (length prims) m.0 }) (result_of w.asks (m.1 m.0)) done gives)
 
 -- one that is well formed behind these, passes no limit and has a moment of a clock may be appended
 pub may_alone : (bs : List Batch) (b : Batch) → bad_place (prims_of bs) b ≡ None → first_full (limits (prims_of bs) (length bs) b.prims) ≡ None → b.moment ≤ max_moment → MayAppend bs (b ∷ [])

@@ -13,3 +13,4 @@ pub mod Settled
 pub mod Ended
 pub mod Changed
 pub mod Written
+pub mod Fronts

@@ -1,7 +1,8 @@
 -- Why a request is refused by its form or its meaning: a code, and the path of the member.
-use Rattle.std.specs.Prelude.{ℕ, List, [], ◌∷◌, Option, Result, Err}
+use Rattle.std.specs.Prelude.{ℕ, ◌+◌, List, [], ◌∷◌, Option, Result, Ok, Err, decimal}
 use Rattle.std.specs.Option.{ok_or}
-use Rattle.gd_grammar.specs.Chain.{map_err}
+use Rattle.gd_grammar.specs.Chain.{◌>>=◌, map_err}
+use Rattle.gd_tree.specs.Json.{Json, Items, no_items, item}
 
 -- the codes of form, and then those of meaning; `bad_connect` is one of both
 pub data Code : Type 0 where
@@ -17,6 +18,10 @@ pub record Fault : Type 0 where
 abbrev pub root_fault : {A : Type 0} → Code → Result A Fault
 root_fault code = Err (record { code = code; path = [] })
 
+-- the value, or where there is none a fault at the root
+abbrev pub or_root : {A : Type 0} → Code → Option A → Result A Fault
+or_root code x = ok_or x (record { code = code; path = [] })
+
 -- a fault at the member of this name
 abbrev pub fault : {A : Type 0} → Code → List ℕ → Result A Fault
 fault code name = Err (record { code = code; path = name ∷ [] })
@@ -28,3 +33,8 @@ or_fault code name x = ok_or x (record { code = code; path = name ∷ [] })
 -- the outcome of what stands below a member, whose name begins the path of a fault
 abbrev pub within : {A : Type 0} → List ℕ → Result A Fault → Result A Fault
 within name r = map_err (λ f. record { code = f.code; path = name ∷ f.path }) r
+
+-- what the items of a list spell, each by a function; the number of an item, counted from this one on, begins the path of its fault
+abbrev pub each_numbered : {A : Type 0} → (Json → Result A Fault) → ℕ → Items → Result (List A) Fault
+each_numbered f n no_items = Ok []
+each_numbered f n (item j js) = within (decimal n) (f j) >>= λ x. each_numbered f (n + 1) js >>= λ xs. Ok (x ∷ xs)

@@ -5,7 +5,7 @@ use Rattle.gd_tree.specs.Json.{text}
 use Rattle.gd_bytes.specs.Cursor.{Cursor, cursor_of}
 use Rattle.gd_defs.specs.Lines.{refusal, ok_line, err_line, err_line_plain, count_json}
 use Rattle.gd_defs.specs.Write.{WriteRequest, ChangeFault}
-use Rattle.gd_runs.specs.Request.{Line, read, write, ReadRequest, CursorAsk, page_after, reply_of, change_refusal}
+use Rattle.gd_runs.specs.Request.{Line, read, write, ReadSet, one_query, queries, CursorAsk, page_after, reply_of, change_refusal}
 use Rattle.gd_runs.specs.Input.{line_from, InputFault, input_fault_line}
 use Rattle.gd_runs.specs.Legal.{Entry, History, batches, size, upto, exec_line}
 
@@ -59,7 +59,7 @@ Prints h k bytes in_doubt reply = IsWrite bytes × (reply ≡ disk_line k (codes
 Prints h k bytes not_tried reply = IsWrite bytes × (reply ≡ disk_line k (codes "no"))
 Prints h k bytes (refused n) reply = (s : ℕ) × (w : WriteRequest) × (moment : ℕ) × (f : ChangeFault) × (line_from bytes ≡ Ok (write s w))
     × IsWithin h n × (exec_line (upto n h) w moment (length bytes) ≡ Err f) × (reply ≡ err_line n k (change_refusal f))
-Prints h k bytes (answered m) reply = (s : ℕ) × (r : ReadRequest) × (line_from bytes ≡ Ok (read s r)) × (m ≤ size h) × (reply ≡ reply_of (batches h) m k r)
+Prints h k bytes (answered m) reply = (s : ℕ) × (r : ReadSet) × (line_from bytes ≡ Ok (read s r)) × (m ≤ size h) × (reply ≡ reply_of (batches h) m k r)
 
 -- the number of line k, where it came to this: of an entry its place, of a refusal or a read the number of batches over which it was made
 abbrev pub HasNumber : History → ℕ → Outcome → ℕ → Type 0
@@ -100,9 +100,14 @@ abbrev pub ask_dateline : ℕ → CursorAsk → ℕ
 ask_dateline m (page_after t) = cursor_dateline m (cursor_of t)
 ask_dateline m _ = m
 
+-- the dateline that a reply prints by its read: of several queries the snapshot
+abbrev pub read_dateline : ℕ → ReadSet → ℕ
+read_dateline m (one_query r) = ask_dateline m r.cursor
+read_dateline m (queries rs) = m
+
 -- the dateline that a reply prints by its line
 abbrev pub line_dateline : ℕ → Result Line InputFault → ℕ
-line_dateline m (Ok (read s r)) = ask_dateline m r.cursor
+line_dateline m (Ok (read s r)) = read_dateline m r
 line_dateline m _ = m
 
 -- the dateline that the reply to a read at a snapshot prints

@@ -2,7 +2,7 @@ use Rattle.std.proofs.Common.{◌-◌, ℕ, inl, inr, ⊎_elim, map, get_or, ref
 use Rattle.std.proofs.lemmas.List.{map-set}
 use Rattle.std.proofs.lemmas.Option.{slice_get-get_or}
 use Rattle.gd_runs.specs.Request.{reply_of}
-use Rattle.gd_mql.specs.Requests.{read_view}
+use Rattle.gd_mql.specs.Requests.{read_set_view}
 use Rattle.gd_reply.specs.declared.reply.Reply.TheVariants.{Line}
 use Rattle.gd_reply.specs.Replies.{reply_text}
 use Rattle.gd_caller.proofs.reads.answer_read.Goals as goal
@@ -47,6 +47,6 @@ returns-in-None-clause-answers g c outs are =
       above_at = omega (arith, most);
       replies = ⊎_elim
           (λ same. inl same)
-          (λ is. inr (reply_of s.store.now c.least_later-at.result r.line (read_view r.request), is, inl (least, ap (λ (n : ℕ). reply_of s.store.now n r.line (read_view r.request)) least)))
+          (λ is. inr (reply_of s.store.now c.least_later-at.result r.line (read_set_view r.request), is, inl (least, ap (λ (n : ℕ). reply_of s.store.now n r.line (read_set_view r.request)) least)))
           c.answer_at.ensures.replies;
     }

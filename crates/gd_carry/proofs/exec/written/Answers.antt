@@ -3,23 +3,18 @@ use Rattle.std.proofs.lemmas.Result.{err_from_is_err_and}
 use Rattle.gd_prim.specs.declared.Batch.{Batch}
 use Rattle.gd_prim.specs.History.{prims_of}
 use Rattle.gd_tree.specs.Json as tree
-use Rattle.gd_defs.specs.Change.{Change}
 use Rattle.gd_defs.specs.Write.Links.{ChangeFault}
 use Rattle.gd_mql.specs.Requests.{write_view}
 use Rattle.gd_compile.specs.Fault.{unknown_of}
 use Rattle.gd_intent.specs.Seen.{intent_view}
 use Rattle.gd_carry.specs.Outcome.{GivesChange}
-use Rattle.gd_carry.specs.Exec.{carried_out}
 use Rattle.gd_carry.proofs.Whole.{looked_up, unmeant, told, same_told}
 use Rattle.gd_carry.proofs.exec.written.Goals as goal
 
 pub returns : goal.returns
 returns c =
-    let prims = prims_of c.args.view.now in
-    let w = write_view c.args.request.now in
-    let i = intent_view c.in_ok-intent.intent in
-    let same = ap (λ (d : Change). carried_out prims d.root i c.args.moment) c.change.ensures.shown ∙ sym (looked_up prims w c.args.moment i c.in_ok-intent.ensures.intent) in
-    subst (λ (r : Result (Batch × tree.Json) ChangeFault). GivesChange r c.carry_out.result) same c.carry_out.ensures
+    let same = looked_up (prims_of c.args.view.now) (write_view c.args.request.now) c.args.moment (intent_view c.in_ok-intent.intent) c.in_ok-intent.ensures.intent in
+    subst (λ (r : Result (Batch × tree.Json) ChangeFault). GivesChange r c.carry_out.result) (sym same) c.carry_out.ensures
 
 pub returns-in_err-intent : goal.returns-in_err-intent
 returns-in_err-intent c =

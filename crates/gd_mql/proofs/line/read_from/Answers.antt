@@ -1,6 +1,6 @@
 use Rattle.gd_json.specs.View.{view}
 use Rattle.std.proofs.lemmas.Result.{err_from_is_err_and}
-use Rattle.gd_mql.specs.Requests.{read_view}
+use Rattle.gd_mql.specs.Requests.{read_set_view}
 use Rattle.gd_mql.proofs.Envelopes.{read_line_failed, read_line_made}
 use Rattle.gd_mql.proofs.line.read_from.Goals as goal
 
@@ -10,4 +10,4 @@ returns-in_err-request c =
     rw (p.1, p.2) (λ named. read_line_failed c.args.sid (view c.args.envelope) _ (c.in_err-request.ensures named))
 
 pub returns : goal.returns
-returns c = read_line_made c.args.sid (view c.args.envelope) (read_view c.in_ok-request.request) c.in_ok-request.ensures
+returns c = read_line_made c.args.sid (view c.args.envelope) (read_set_view c.in_ok-request.request) c.in_ok-request.ensures

@@ -6,6 +6,7 @@ use Rattle.gd_form_laws.specs.Faults.{clause_fault, form_fault}
 use Rattle.gd_form_laws.proofs.Queries.{operand_or_form, more-fault, empty-fault}
 use Rattle.gd_mql.specs.Names.{name_view}
 use Rattle.gd_mql.specs.FormFault.{Checks, Refuses}
+use Rattle.gd_mql.proofs.Literals.{word-none}
 use Rattle.gd_mql.proofs.Walked.{members-pass, members-stop, members-end, none_view, member-directive, member-named, member-misnamed, object-form, sole_object-form, more_view}
 use Rattle.gd_mql.proofs.query_form.+check_clause.Goals as goal
 
@@ -42,17 +43,17 @@ check_clause-returns t c = c.loop-member.invariant ∙ members-end c.args.root c
 pub check_list-returns-in-empty : goal.check_list-returns-in-empty
 check_list-returns-in-empty t c = let n = name_view c.args.name.now in ap (λ js. form_fault n (list js)) (none_view c.args.items.now c.in-empty.len_below) ∙ empty-fault n
 
-pub check_member-returns-then-is_directive : goal.check_member-returns-then-is_directive
-check_member-returns-then-is_directive t c =
-    member-directive c.args.root c.args.name.now c.as_str-spelled.result.now (view c.args.value.now) c.check_directive.result c.as_str-spelled.ensures c.if-is_directive.ensures c.check_directive.ensures
+pub check_member-returns-in-Some : goal.check_member-returns-in-Some
+check_member-returns-in-Some t c =
+    member-directive c.args.root c.args.name.now c.as_str-spelled.result.now (view c.args.value.now) c.in-Some.word c.check_directive.result c.as_str-spelled.ensures c.in-Some.ensures c.check_directive.ensures
 
 pub check_member-returns-in-Ok : goal.check_member-returns-in-Ok
 check_member-returns-in-Ok t c =
-    member-named c.args.root c.args.name.now c.as_str-spelled.result.now (view c.args.value.now) (name_view c.in-Ok.name) c.check_form.result c.as_str-spelled.ensures c.if-is_directive.ensures c.in-Ok.ensures c.check_form.ensures
+    member-named c.args.root c.args.name.now c.as_str-spelled.result.now (view c.args.value.now) (name_view c.in-Ok.name) c.check_form.result c.as_str-spelled.ensures (word-none c.as_str-spelled.result.now c.in_default.ensures) c.in-Ok.ensures c.check_form.ensures
 
 pub check_member-returns-in-Err : goal.check_member-returns-in-Err
 check_member-returns-in-Err t c =
-    member-misnamed c.args.root c.args.name.now c.as_str-spelled.result.now (view c.args.value.now) _ c.fault_at.result c.as_str-spelled.ensures c.if-is_directive.ensures c.in-Err.ensures c.fault_at.ensures
+    member-misnamed c.args.root c.args.name.now c.as_str-spelled.result.now (view c.args.value.now) _ c.fault_at.result c.as_str-spelled.ensures (word-none c.as_str-spelled.result.now c.in_default.ensures) c.in-Err.ensures c.fault_at.ensures
 
 pub check_sole-returns-in-Object : goal.check_sole-returns-in-Object
 check_sole-returns-in-Object t c = let n = name_view c.args.name.now in

@@ -1,4 +1,5 @@
-use Rattle.std.proofs.Common.{◌≡◌, ◌∙◌, List, ℕ, length, Ok, Err, ⊎_elim, inl, inr, ap, subst, arith}
+use Rattle.std.proofs.Common.{◌≡◌, ◌∙◌, List, ℕ, length, Ok, Err, ap, subst, arith}
+use Rattle.std.specs.Option.{is_some}
 use Rattle.gd_runs.specs.Replay.{event_from}
 use Rattle.gd_events.specs.Events.{event_view}
 use Rattle.gd_mql.specs.Line.{fault_view}
@@ -20,39 +21,40 @@ carry-requires-clause-bounded g c = event_bounded c.deref.result.now (event_view
 
 pub returns-in-Ok-clause-answers : goal.returns-in-Ok-clause-answers
 returns-in-Ok-clause-answers g c = ok_more c.carry.result _ _
-    (λ both takes. λ members piece sure kept.
+    (λ both takes. λ members piece kept.
+    let told = is_some (g.D.Disk.content c.args.running.side.log.disk) in
     let whole = rw c.in-Bytes.is at kept in
     let asked : event_from piece ≡ Ok (event_view c.in-Ok.event) = subst (λ (bytes : List ℕ). event_from bytes ≡ Ok (event_view c.in-Ok.event)) (c.deref.ensures.value ∙ whole.0) c.in-Ok.ensures.asked in
     let may = g.C.Clock.may c.args.running.side.clock in
     let s = core_state c.args.running in
     let before = g.D.Disk.faults c.args.running.side.log.disk in
     let after = g.D.Disk.faults both.0.side.log.disk in
-    answers_more (λ line. Takes members may s c.args.line c.len.result (event_view c.in-Ok.event) line (core_state both.0) × IsCounted c.args.line line before after)
-    (λ line. BuiltLine members may s c.args.line piece line (core_state both.0) × IsCounted c.args.line line before after) both.1
+    answers_more (λ line. Takes told members may s c.args.line c.len.result (event_view c.in-Ok.event) line (core_state both.0) × IsCounted c.args.line line before after)
+    (λ line. BuiltLine told members may s c.args.line piece line (core_state both.0) × IsCounted c.args.line line before after) both.1
     (λ line (taken, counted). (
-      takes_line members may s c.args.line c.len.result piece (event_view c.in-Ok.event) line (core_state both.0)
+      takes_line told members may s c.args.line c.len.result piece (event_view c.in-Ok.event) line (core_state both.0)
           asked (omega (arith, c.len.ensures, c.in-Bytes.bytes.ok.0, ap length whole.0)) taken,
       counted,
     ))
-    (takes (⊎_elim (λ tells. inl tells) (λ other. inr (λ is. other (asked ∙ ap Ok is))) sure) members))
+    (takes members))
     c.carry.ensures.takes
 
 pub returns-in-Bytes-clause-answers : goal.returns-in-Bytes-clause-answers
-returns-in-Bytes-clause-answers g c = λ members piece sure kept.
+returns-in-Bytes-clause-answers g c = λ members piece kept.
     let whole = rw c.in-Bytes.is at kept in
     let faults = g.D.Disk.faults c.args.running.side.log.disk in
     let reply = reply_text c.refuse-reply.result in (
-      refuses_line members (g.C.Clock.may c.args.running.side.clock) (core_state c.args.running) c.args.line piece c.in-Err.fault reply
+      refuses_line (is_some (g.D.Disk.content c.args.running.side.log.disk)) members (g.C.Clock.may c.args.running.side.clock) (core_state c.args.running) c.args.line piece c.in-Err.fault reply
           (λ some. subst (λ (bytes : List ℕ). event_from bytes ≡ Err (fault_view c.in-Err.fault)) (c.deref.ensures.value ∙ whole.0) (c.in-Err.ensures.asked some)) c.refuse-reply.ensures,
       quiet_counted c.args.line reply faults faults (fault_told_quiet c.args.line c.in-Err.fault reply c.refuse-reply.ensures),
     )
 
 pub returns-clause-answers : goal.returns-clause-answers
-returns-clause-answers g c = λ members piece sure kept.
+returns-clause-answers g c = λ members piece kept.
     let long = rw c.in-TooLong.is at kept in
     let faults = g.D.Disk.faults c.args.running.side.log.disk in
     let reply = reply_text c.refuse_long-reply.result in (
-      long_line members (g.C.Clock.may c.args.running.side.clock) (core_state c.args.running) c.args.line piece reply long c.refuse_long-reply.ensures,
+      long_line (is_some (g.D.Disk.content c.args.running.side.log.disk)) members (g.C.Clock.may c.args.running.side.clock) (core_state c.args.running) c.args.line piece reply long c.refuse_long-reply.ensures,
       quiet_counted c.args.line reply faults faults (long_told_quiet c.args.line reply c.refuse_long-reply.ensures),
     )
 

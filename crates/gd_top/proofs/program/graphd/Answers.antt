@@ -1,10 +1,9 @@
 use Rattle.std.proofs.Common.{◌≡◌, Some, None, rules, arith, refl, sym, inl, ◌∙◌}
 use Rattle.std.proofs.lemmas.Grind.{common_steps}
-use Rattle.gd_base.specs.Counts.{RoseBy}
 use Rattle.gd_words.specs.Words.{command_of}
 use Rattle.gd_words.specs.Verbs as verb
 use Rattle.gd_words.specs.Verbs.{Verb, verb_in, file_of, path_of}
-use Rattle.gd_top.specs.Ends.{IsIdle}
+use Rattle.gd_top.specs.Ends.{IsIdle, RisesAt}
 use Rattle.gd_top.specs.Kept.{StaysAt}
 use Rattle.gd_top.proofs.Commands.{verb_known, verb_is, path_known, none_known}
 use Rattle.gd_top.proofs.Complete.{complete}
@@ -19,7 +18,7 @@ returns-in-Ok-Some-clause-serves g c is =
     let source = c.args.source.now in
     let sink = c.args.sink.now in
     let words : command_of c.args.words.now ≡ Some c.in-Ok-Some.command = first_of (search rules, grind (arith, common_steps)) in
-    verb_known verb.serves run.result (g.C.Clock.may c.args.clock) (f.content c.args.shelf.now) (f.images run.new.shelf) (RoseBy (f.faults c.args.shelf.now) (f.faults run.new.shelf))
+    verb_known verb.serves run.result (g.C.Clock.may c.args.clock) (f.content c.args.shelf.now) (f.images run.new.shelf) (λ path. RisesAt path (f.faults c.args.shelf.now) (f.faults run.new.shelf))
     (λ path. IsIdle source run.new.source sink run.new.sink × StaysAt (f.content c.args.shelf.now) (f.content run.new.shelf) (f.images c.args.shelf.now) (f.images run.new.shelf) path)
     (g.S.Source.left source) (g.S.Source.left run.new.source) (g.K.Sink.held sink) (g.K.Sink.held run.new.sink) c.args.words.now c.in-Ok-Some.command words is run.ensures.prints
 
@@ -30,7 +29,7 @@ returns-in-Ok-Some-clause-events g c is =
     let source = c.args.source.now in
     let sink = c.args.sink.now in
     let words : command_of c.args.words.now ≡ Some c.in-Ok-Some.command = first_of (search rules, grind (arith, common_steps)) in
-    verb_known verb.replays run.result (g.C.Clock.may c.args.clock) (f.content c.args.shelf.now) (f.images run.new.shelf) (RoseBy (f.faults c.args.shelf.now) (f.faults run.new.shelf))
+    verb_known verb.replays run.result (g.C.Clock.may c.args.clock) (f.content c.args.shelf.now) (f.images run.new.shelf) (λ path. RisesAt path (f.faults c.args.shelf.now) (f.faults run.new.shelf))
     (λ path. IsIdle source run.new.source sink run.new.sink × StaysAt (f.content c.args.shelf.now) (f.content run.new.shelf) (f.images c.args.shelf.now) (f.images run.new.shelf) path)
     (g.S.Source.left source) (g.S.Source.left run.new.source) (g.K.Sink.held sink) (g.K.Sink.held run.new.sink) c.args.words.now c.in-Ok-Some.command words is run.ensures.prints
 
@@ -62,7 +61,7 @@ returns-in-Err-clause-serves g c is =
     let path = path_of c.args.words.now in
     let content = f.content c.args.shelf.now in
     let images = f.images c.args.shelf.now in
-    printed_no_words (g.C.Clock.may c.args.clock) (RoseBy faults faults) (IsIdle source source sink sink × StaysAt content content images images path) (g.S.Source.left source) (g.S.Source.left source) (g.K.Sink.held sink) (g.K.Sink.held sink) verb.serves
+    printed_no_words (g.C.Clock.may c.args.clock) (RisesAt path faults faults) (IsIdle source source sink sink × StaysAt content content images images path) (g.S.Source.left source) (g.S.Source.left source) (g.K.Sink.held sink) (g.K.Sink.held sink) verb.serves
     content images path (record { source = refl; sink = refl }, stays_untouched content images path)
 
 pub returns-in-Err-clause-events : goal.returns-in-Err-clause-events
@@ -74,7 +73,7 @@ returns-in-Err-clause-events g c is =
     let path = path_of c.args.words.now in
     let content = f.content c.args.shelf.now in
     let images = f.images c.args.shelf.now in
-    printed_no_words (g.C.Clock.may c.args.clock) (RoseBy faults faults) (IsIdle source source sink sink × StaysAt content content images images path) (g.S.Source.left source) (g.S.Source.left source) (g.K.Sink.held sink) (g.K.Sink.held sink) verb.replays
+    printed_no_words (g.C.Clock.may c.args.clock) (RisesAt path faults faults) (IsIdle source source sink sink × StaysAt content content images images path) (g.S.Source.left source) (g.S.Source.left source) (g.K.Sink.held sink) (g.K.Sink.held sink) verb.replays
     content images path (record { source = refl; sink = refl }, stays_untouched content images path)
 
 pub returns-in-Ok-Some-clause-rounds_sent : goal.returns-in-Ok-Some-clause-rounds_sent
@@ -89,3 +88,8 @@ returns-in-Ok-None-clause-rounds_sent g c is =
 
 pub returns-in-Err-clause-rounds_sent : goal.returns-in-Err-clause-rounds_sent
 returns-in-Err-clause-rounds_sent g c is other = inl refl
+
+pub returns-in-Ok-Some-clause-disk_steady : goal.returns-in-Ok-Some-clause-disk_steady
+returns-in-Ok-Some-clause-disk_steady g c none =
+    let words : command_of c.args.words.now ≡ Some c.in-Ok-Some.command = first_of (search rules, grind (arith, common_steps)) in
+    c.run.ensures.disk_steady (sym (path_known c.args.words.now c.in-Ok-Some.command words) ∙ none)

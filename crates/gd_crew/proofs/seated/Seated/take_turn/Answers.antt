@@ -1,6 +1,6 @@
 use Rattle.std.proofs.Common.{◌≡◌, refl, sym, ap, subst, slice_get, Some}
 use Rattle.std.proofs.lemmas.Option.{slice_get_read}
-use Rattle.gd_mql.specs.Requests.{read_view, write_view}
+use Rattle.gd_mql.specs.Requests.{read_set_view, write_view}
 use Rattle.gd_crew.specs.Round.{begun, IsOfRound}
 use Rattle.gd_crew.specs.Seated.{share_of, job_view, work_view}
 use Rattle.gd_crew.proofs.Before.{of_round}
@@ -18,7 +18,7 @@ pub take_read-requires-clause-room : goal.take_read-requires-clause-room
 take_read-requires-clause-room g c κs within =
     let s = c.args.self.now in let j = c.index-job.result.now in
     let at : slice_get s.jobs.items s.done ≡ Some j = slice_get_read _ _ _ j refl c.requires.more c.index-job.ensures in
-    has_room s (turns.has_room (begun g.L.Round.named) g.L.Round.named.table c.requires.part.0 (share_of s) (job_view j) c.requires.part.1 (at_job s j at) c.in-Read.sid (read_view c.in-Read.request.now) (ap work_view c.in-Read.is))
+    has_room s (turns.has_room (begun g.L.Round.named) g.L.Round.named.table c.requires.part.0 (share_of s) (job_view j) c.requires.part.1 (at_job s j at) c.in-Read.sid (read_set_view c.in-Read.request.now) (ap work_view c.in-Read.is))
 
 pub write_turn-written-requires-clause-of_round : goal.write_turn-written-requires-clause-of_round
 write_turn-written-requires-clause-of_round g c =
@@ -45,8 +45,8 @@ returns-in-Read g c = record {
   runs = λ v run.
       let s = c.args.self.now in let j = c.index-job.result.now in
       let at : slice_get s.jobs.items s.done ≡ Some j = slice_get_read _ _ _ j refl c.requires.more c.index-job.ensures in
-      let turned = turned_read s c.take_read.new.self c.read_turn-turn.new.session (job_view j) (read_view c.in-Read.request.now) c.read_turn-turn.result c.requires.goes run.at c.read_turn-turn.ensures c.take_read.ensures in
-      turns.read_kept (begun g.L.Round.named) g.L.Round.named.table v (share_of s) (share_of c.take_read.new.self) (job_view j) (at_job s j at) run turned.0 c.in-Read.sid (read_view c.in-Read.request.now) (ap work_view c.in-Read.is) turned.1;
+      let turned = turned_read s c.take_read.new.self c.read_turn-turn.new.session (job_view j) (read_set_view c.in-Read.request.now) c.read_turn-turn.result c.requires.goes run.at c.read_turn-turn.ensures c.take_read.ensures in
+      turns.read_kept (begun g.L.Round.named) g.L.Round.named.table v (share_of s) (share_of c.take_read.new.self) (job_view j) (at_job s j at) run turned.0 c.in-Read.sid (read_set_view c.in-Read.request.now) (ap work_view c.in-Read.is) turned.1;
 }
 
 pub returns-in-Write : goal.returns-in-Write

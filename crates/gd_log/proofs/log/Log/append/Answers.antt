@@ -12,7 +12,7 @@ pub append-requires-clause-near : goal.append-requires-clause-near
 append-requires-clause-near g c = λ f is.
     let none = ap (λ (v : Journaled _). v.doubt) c.self.view_is ∙ c.requires.no_doubt in
     let long = c.gate.ensures.last f is none c.self.invariant in
-    omega (arith, long, c.gate.ensures.gate)
+    omega (arith, long, c.gate.ensures.gate, c.in_ok-is_near.ensures.near)
 
 pub returns-clause-added : goal.returns-clause-added
 returns-clause-added g c = rw (← c.self.view_is) (on_ok_weaker c.append.result (λ run bs before.

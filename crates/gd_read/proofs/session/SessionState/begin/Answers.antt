@@ -1,14 +1,14 @@
-use Rattle.gd_mql.specs.Requests.{read_view}
+use Rattle.gd_mql.specs.Requests.{read_set_view}
 use Rattle.gd_read.proofs.States.{has_begun, is_refused, goes_front}
 use Rattle.gd_read.proofs.session.SessionState.begin.Goals as goal
 
 pub returns-in-Ok-clause-begins : goal.returns-in-Ok-clause-begins
 returns-in-Ok-clause-begins g c =
-    has_begun c.args.store.now c.view-view.result c.args.shown (read_view c.args.request) c.in-Ok.reading c.view-view.ensures c.requires.shown c.in-Ok.ensures.begun c.in-Ok.ensures.below
+    has_begun c.args.store.now c.view-view.result c.args.shown (read_set_view c.args.request) c.in-Ok.reading c.view-view.ensures c.requires.shown c.in-Ok.ensures.begun c.in-Ok.ensures.below
 
 pub returns-in-Ok-clause-going : goal.returns-in-Ok-clause-going
 returns-in-Ok-clause-going g c = goes_front c.args.store.now c.view-view.result c.args.shown c.in-Ok.reading c.view-view.ensures c.requires.shown c.in-Ok.ensures.below c.in-Ok.ensures.going
 
 pub returns-in-Err-clause-begins : goal.returns-in-Err-clause-begins
 returns-in-Err-clause-begins g c =
-    is_refused c.args.store.now c.view-view.result c.args.shown (read_view c.args.request) c.in-Err.fault c.view-view.ensures c.requires.shown c.in-Err.ensures.begun c.in-Err.ensures.offset
+    is_refused c.args.store.now c.view-view.result c.args.shown (read_set_view c.args.request) c.in-Err.fault c.view-view.ensures c.requires.shown c.in-Err.ensures.begun c.in-Err.ensures.offset

@@ -6,10 +6,10 @@ use Rattle.gd_sessions.proofs.Opened.{reopens_run}
 use Rattle.gd_sessions.proofs.running.Running.open_again.Goals as goal
 
 pub returns-in-Ok-clause-step : goal.returns-in-Ok-clause-step
-returns-in-Ok-clause-step g c = λ tells.
+returns-in-Ok-clause-step g c =
     let same = ap (λ (r : RunningValue _ _). r.side) c.running.view_is in
     reopens_run g.D.Disk.content g.D.Disk.images g.C.Clock.may (g.C.Clock.may c.close-disk.result.1) g.met.D.Disk.reads_one c.args.self.side c.close-disk.result.0 c.in-Ok.running c.args.self.held c.args.held.items c.shown-shown.ensures.keeps
-    (ap (λ (pair : _ × _). pair.0) c.close-disk.ensures ∙ ap (λ (r : RunningValue _ _). r.side.log.disk) c.self.view_is) c.in-Ok.ensures.begins c.in-Ok.ensures.held c.requires.new tells c.args.line c.stored.result c.reopened-reply.result c.running.inside.side same c.stored.ensures.count c.reopened-reply.ensures
+    (ap (λ (pair : _ × _). pair.0) c.close-disk.ensures ∙ ap (λ (r : RunningValue _ _). r.side.log.disk) c.self.view_is) c.in-Ok.ensures.begins c.in-Ok.ensures.held c.requires.new c.args.line c.stored.result c.reopened-reply.result c.running.inside.side same c.stored.ensures.count c.reopened-reply.ensures
 
 pub returns-clause-holds : goal.returns-clause-holds
 returns-clause-holds g c =

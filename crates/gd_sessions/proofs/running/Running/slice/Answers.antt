@@ -9,6 +9,6 @@ use Rattle.gd_sessions.proofs.Taken.{made_takes}
 use Rattle.gd_sessions.proofs.running.Running.slice.Goals as goal
 
 pub returns-clause-takes : goal.returns-clause-takes
-returns-clause-takes g c = λ members may bytes.
-    made_takes (λ line. (members : MembersOf) → SliceStep members (core_state c.args.self.now) c.args.line c.args.sid line (core_state c.try_slice-reply.new.self)) (λ line. Takes members may (core_state c.args.self.now) c.args.line bytes (core.slice c.args.sid c.args.budget) line (core_state c.try_slice-reply.new.self))
+returns-clause-takes g c = λ told members may bytes.
+    made_takes (λ line. (members : MembersOf) → SliceStep members (core_state c.args.self.now) c.args.line c.args.sid line (core_state c.try_slice-reply.new.self)) (λ line. Takes told members may (core_state c.args.self.now) c.args.line bytes (core.slice c.args.sid c.args.budget) line (core_state c.try_slice-reply.new.self))
     ((core_state c.try_slice-reply.new.self ≡ core_state c.args.self.now) ⊎ (core_state c.try_slice-reply.new.self ≡ entered (core_state c.args.self.now) c.args.sid None)) c.args.line c.try_slice-reply.result (reply_text c.made.result) (λ line step. inl (step members)) (λ same. inr (refl, same)) c.made.ensures c.try_slice-reply.ensures.step c.try_slice-reply.ensures.err

@@ -7,13 +7,13 @@ use Rattle.gd_sessions.proofs.Taken.{takes_counted}
 use Rattle.gd_sessions.proofs.running.Running.step.Goals as goal
 
 pub returns-in-Begin-clause-takes : goal.returns-in-Begin-clause-takes
-returns-in-Begin-clause-takes g c = λ members. rw c.in-Begin.is (c.begin.ensures.takes members (g.C.Clock.may c.args.self.now.side.clock) c.args.bytes)
+returns-in-Begin-clause-takes g c = λ told members. rw c.in-Begin.is (c.begin.ensures.takes told members (g.C.Clock.may c.args.self.now.side.clock) c.args.bytes)
 
 pub returns-in-Begin-clause-counted : goal.returns-in-Begin-clause-counted
 returns-in-Begin-clause-counted g c =
     let faults = g.D.Disk.faults in
     takes_counted (g.C.Clock.may c.args.self.now.side.clock) (core_state c.args.self.now) c.args.line c.args.bytes (event_view c.args.event) (core_state c.begin.new.self) (faults c.args.self.now.side.log.disk) (faults c.begin.new.self.side.log.disk) (reply_text c.begin.result) (rw c.in-Begin.is tt)
-    (λ members. rw c.in-Begin.is (c.begin.ensures.takes members (g.C.Clock.may c.args.self.now.side.clock) c.args.bytes))
+    (λ told members. rw c.in-Begin.is (c.begin.ensures.takes told members (g.C.Clock.may c.args.self.now.side.clock) c.args.bytes))
 
 pub returns-in-Begin-clause-goes : goal.returns-in-Begin-clause-goes
 returns-in-Begin-clause-goes g c =
@@ -21,13 +21,13 @@ returns-in-Begin-clause-goes g c =
     goes_same d.content d.moment d.images d.images_since d.faults g.C.Clock.may g.met.D.Disk.only_now c.args.self.now.side c.begin.new.self.side c.shown-shown.ensures.keeps c.begin.ensures.side
 
 pub returns-in-Slice-clause-takes : goal.returns-in-Slice-clause-takes
-returns-in-Slice-clause-takes g c = λ members. rw c.in-Slice.is (c.slice.ensures.takes members (g.C.Clock.may c.args.self.now.side.clock) c.args.bytes)
+returns-in-Slice-clause-takes g c = λ told members. rw c.in-Slice.is (c.slice.ensures.takes told members (g.C.Clock.may c.args.self.now.side.clock) c.args.bytes)
 
 pub returns-in-Slice-clause-counted : goal.returns-in-Slice-clause-counted
 returns-in-Slice-clause-counted g c =
     let faults = g.D.Disk.faults in
     takes_counted (g.C.Clock.may c.args.self.now.side.clock) (core_state c.args.self.now) c.args.line c.args.bytes (event_view c.args.event) (core_state c.slice.new.self) (faults c.args.self.now.side.log.disk) (faults c.slice.new.self.side.log.disk) (reply_text c.slice.result) (rw c.in-Slice.is tt)
-    (λ members. rw c.in-Slice.is (c.slice.ensures.takes members (g.C.Clock.may c.args.self.now.side.clock) c.args.bytes))
+    (λ told members. rw c.in-Slice.is (c.slice.ensures.takes told members (g.C.Clock.may c.args.self.now.side.clock) c.args.bytes))
 
 pub returns-in-Slice-clause-goes : goal.returns-in-Slice-clause-goes
 returns-in-Slice-clause-goes g c =
@@ -35,13 +35,13 @@ returns-in-Slice-clause-goes g c =
     goes_same d.content d.moment d.images d.images_since d.faults g.C.Clock.may g.met.D.Disk.only_now c.args.self.now.side c.slice.new.self.side c.shown-shown.ensures.keeps c.slice.ensures.side
 
 pub returns-in-Learn-clause-takes : goal.returns-in-Learn-clause-takes
-returns-in-Learn-clause-takes g c = λ members. rw c.in-Learn.is (c.learn.ensures.takes members (g.C.Clock.may c.args.self.now.side.clock) c.args.bytes)
+returns-in-Learn-clause-takes g c = λ told members. rw c.in-Learn.is (c.learn.ensures.takes told members (g.C.Clock.may c.args.self.now.side.clock) c.args.bytes)
 
 pub returns-in-Learn-clause-counted : goal.returns-in-Learn-clause-counted
 returns-in-Learn-clause-counted g c =
     let faults = g.D.Disk.faults in
     takes_counted (g.C.Clock.may c.args.self.now.side.clock) (core_state c.args.self.now) c.args.line c.args.bytes (event_view c.args.event) (core_state c.learn.new.self) (faults c.args.self.now.side.log.disk) (faults c.learn.new.self.side.log.disk) (reply_text c.learn.result) (rw c.in-Learn.is tt)
-    (λ members. rw c.in-Learn.is (c.learn.ensures.takes members (g.C.Clock.may c.args.self.now.side.clock) c.args.bytes))
+    (λ told members. rw c.in-Learn.is (c.learn.ensures.takes told members (g.C.Clock.may c.args.self.now.side.clock) c.args.bytes))
 
 pub returns-in-Learn-clause-goes : goal.returns-in-Learn-clause-goes
 returns-in-Learn-clause-goes g c =
@@ -49,13 +49,13 @@ returns-in-Learn-clause-goes g c =
     goes_same d.content d.moment d.images d.images_since d.faults g.C.Clock.may g.met.D.Disk.only_now c.args.self.now.side c.learn.new.self.side c.shown-shown.ensures.keeps c.learn.ensures.side
 
 pub returns-in-Freeze-clause-takes : goal.returns-in-Freeze-clause-takes
-returns-in-Freeze-clause-takes g c = λ members. (c.refuse.ensures members (g.C.Clock.may c.args.self.now.side.clock) c.args.bytes (event_view c.args.event) (rw c.in-Freeze.is tt))
+returns-in-Freeze-clause-takes g c = λ told members. rw c.in-Freeze.is (c.freeze.ensures told members (g.C.Clock.may c.args.self.now.side.clock) c.args.bytes)
 
 pub returns-in-Freeze-clause-counted : goal.returns-in-Freeze-clause-counted
 returns-in-Freeze-clause-counted g c =
     let faults = g.D.Disk.faults in
-    takes_counted (g.C.Clock.may c.args.self.now.side.clock) (core_state c.args.self.now) c.args.line c.args.bytes (event_view c.args.event) (core_state c.args.self.now) (faults c.args.self.now.side.log.disk) (faults c.args.self.now.side.log.disk) (reply_text c.refuse.result) (rw c.in-Freeze.is tt)
-    (λ members. (c.refuse.ensures members (g.C.Clock.may c.args.self.now.side.clock) c.args.bytes (event_view c.args.event) (rw c.in-Freeze.is tt)))
+    takes_counted (g.C.Clock.may c.args.self.now.side.clock) (core_state c.args.self.now) c.args.line c.args.bytes (event_view c.args.event) (core_state c.args.self.now) (faults c.args.self.now.side.log.disk) (faults c.args.self.now.side.log.disk) (reply_text c.freeze.result) (rw c.in-Freeze.is tt)
+    (λ told members. rw c.in-Freeze.is (c.freeze.ensures told members (g.C.Clock.may c.args.self.now.side.clock) c.args.bytes))
 
 pub returns-in-Freeze-clause-goes : goal.returns-in-Freeze-clause-goes
 returns-in-Freeze-clause-goes g c =
@@ -63,13 +63,13 @@ returns-in-Freeze-clause-goes g c =
     goes_same d.content d.moment d.images d.images_since d.faults g.C.Clock.may g.met.D.Disk.only_now c.args.self.now.side c.args.self.now.side c.shown-shown.ensures.keeps refl
 
 pub returns-in-Thaw-clause-takes : goal.returns-in-Thaw-clause-takes
-returns-in-Thaw-clause-takes g c = λ members. (c.refuse-in-Thaw.ensures members (g.C.Clock.may c.args.self.now.side.clock) c.args.bytes (event_view c.args.event) (rw c.in-Thaw.is tt))
+returns-in-Thaw-clause-takes g c = λ told members. rw c.in-Thaw.is (c.thaw.ensures told members (g.C.Clock.may c.args.self.now.side.clock) c.args.bytes c.in-Thaw.sid c.in-Thaw.text)
 
 pub returns-in-Thaw-clause-counted : goal.returns-in-Thaw-clause-counted
 returns-in-Thaw-clause-counted g c =
     let faults = g.D.Disk.faults in
-    takes_counted (g.C.Clock.may c.args.self.now.side.clock) (core_state c.args.self.now) c.args.line c.args.bytes (event_view c.args.event) (core_state c.args.self.now) (faults c.args.self.now.side.log.disk) (faults c.args.self.now.side.log.disk) (reply_text c.refuse-in-Thaw.result) (rw c.in-Thaw.is tt)
-    (λ members. (c.refuse-in-Thaw.ensures members (g.C.Clock.may c.args.self.now.side.clock) c.args.bytes (event_view c.args.event) (rw c.in-Thaw.is tt)))
+    takes_counted (g.C.Clock.may c.args.self.now.side.clock) (core_state c.args.self.now) c.args.line c.args.bytes (event_view c.args.event) (core_state c.args.self.now) (faults c.args.self.now.side.log.disk) (faults c.args.self.now.side.log.disk) (reply_text c.thaw.result) (rw c.in-Thaw.is tt)
+    (λ told members. rw c.in-Thaw.is (c.thaw.ensures told members (g.C.Clock.may c.args.self.now.side.clock) c.args.bytes c.in-Thaw.sid c.in-Thaw.text))
 
 pub returns-in-Thaw-clause-goes : goal.returns-in-Thaw-clause-goes
 returns-in-Thaw-clause-goes g c =
@@ -77,4 +77,4 @@ returns-in-Thaw-clause-goes g c =
     goes_same d.content d.moment d.images d.images_since d.faults g.C.Clock.may g.met.D.Disk.only_now c.args.self.now.side c.args.self.now.side c.shown-shown.ensures.keeps refl
 
 pub returns-in-Write-clause-takes : goal.returns-in-Write-clause-takes
-returns-in-Write-clause-takes g c = λ members. rw c.in-Write.is (inl c.write.ensures.step)
+returns-in-Write-clause-takes g c = λ told members. rw c.in-Write.is (inl c.write.ensures.step)

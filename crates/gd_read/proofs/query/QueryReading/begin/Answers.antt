@@ -1,0 +1,15 @@
+use Rattle.std.proofs.Common.{subst, sym, Err, length, ◌≡◌, ◌≤◌}
+use Rattle.gd_mql.specs.Requests.{cursor_view, read_view}
+use Rattle.gd_read.specs.Begun.{asked_from, fault_at}
+use Rattle.gd_read.proofs.Begun.{begins_err, begins_ok}
+use Rattle.gd_read.proofs.query.QueryReading.begin.Goals as goal
+
+pub returns-in-Err-clause-begun : goal.returns-in-Err-clause-begun
+returns-in-Err-clause-begun g c = λ wanted.
+    begins_err c.args.view.now (length c.args.view.now) (read_view c.args.request) (fault_at (length c.args.view.now) c.in-Err.fault)
+    (subst (λ n. asked_from n (cursor_view c.args.request.cursor) ≡ Err (fault_at n c.in-Err.fault)) c.dateline-latest.ensures.dateline (c.in-Err.ensures.given wanted))
+
+pub returns-in-Ok-clause-begun : goal.returns-in-Ok-clause-begun
+returns-in-Ok-clause-begun g c =
+    begins_ok c.args.view.now c.earlier-below.result c.dateline-latest.result (read_view c.args.request) c.in-Ok.after c.begin_at.result c.dateline-latest.ensures.dateline c.in-Ok.ensures.given
+    c.dateline_behind.result c.dateline_behind.ensures c.earlier-below.ensures (subst (λ n. n ≤ c.dateline-latest.result) (sym c.dateline_behind.ensures) c.in-Ok.ensures.below) c.begin_at.ensures.begun
