@@ -41,6 +41,6 @@ length-without_return (c ∷ []) = by (c == 13)
 length-without_return (c ∷ d ∷ cs) = omega (arith, length-without_return (d ∷ cs))
 
 -- what is too long for a line with its return makes no line
-pub too_long : (by_newline : Bool) (begun : List ℕ) → 262_145 < length begun → 262_144 < length (if by_newline then without_return begun else begun)
-too_long true begun long = omega (arith, length-without_return begun)
-too_long false begun long = omega arith
+pub too_long : (most : ℕ) (by_newline : Bool) (begun : List ℕ) → most + 1 < length begun → most < length (if by_newline then without_return begun else begun)
+too_long most true begun long = omega (arith, length-without_return begun)
+too_long most false begun long = omega arith

@@ -18,11 +18,11 @@ pub record IsFirstNewline (bytes : List ℕ) (n : ℕ) : Type 0 where
   pub before : IsPlain (take n bytes)
   pub parts : bytes ≡ take n bytes ++ 10 ∷ drop (n + 1) bytes
 
--- the held bytes up to a newline, and that newline, or all of them went to a line that has begun
-pub record TakesChunk (old new : Held) (begun : RoundLine) (piece : Piece) : Type 0 where
+-- the held bytes up to a newline, and that newline, or all of them went to a line that has begun, which is kept within a limit
+pub record TakesChunk (limit : ℕ) (old new : Held) (begun : RoundLine) (piece : Piece) : Type 0 where
   pub chunk : List ℕ
   pub plain : IsPlain chunk
-  pub kept : (line : List ℕ) → IsKept 262_145 begun line → IsKept 262_145 piece.line (line ++ chunk)
+  pub kept : (line : List ℕ) → IsKept limit begun line → IsKept limit piece.line (line ++ chunk)
   pub parts : old.bytes ≡ chunk ++ (if piece.by_newline then 10 ∷ new.bytes else new.bytes)
   pub all : piece.by_newline ≡ false → new.bytes ≡ []
   pub counted : new.consumed + length new.bytes ≡ old.consumed + length old.bytes
@@ -49,12 +49,16 @@ pub record StopsInLine (before after : List ℕ) : Type 0 where
 abbrev pub later_pieces : Bool → List ℕ → List (List ℕ)
 later_pieces by_newline left = if by_newline then pieces [] left else []
 
--- The first piece of what was left is this line, and the others are those of what is left now. Where a newline ended it, it is the first line of what was taken, whatever follows.
-pub record TakesPiece (piece : Piece) (before after : List ℕ) : Type 0 where
+-- The first piece of what was left is this line, which is kept within a limit, and the others are those of what is left now. Where a newline ended it, it is the first line of what was taken, whatever follows.
+pub record TakesPieceWithin (limit : ℕ) (piece : Piece) (before after : List ℕ) : Type 0 where
   pub line : List ℕ
   pub bytes : List ℕ
   pub parts : before ≡ bytes ++ after
   pub whole : piece.by_newline ≡ true → (more : List ℕ) → ended_lines [] (bytes ++ more) ≡ line ∷ ended_lines [] more
-  pub kept : IsKept 262_144 piece.line line
+  pub kept : IsKept limit piece.line line
   pub first : pieces [] before ≡ line ∷ later_pieces piece.by_newline after
   pub ended : piece.by_newline ≡ false → after ≡ []
+
+-- the same within the bytes of a line
+abbrev pub TakesPiece : Piece → List ℕ → List ℕ → Type 0
+TakesPiece piece before after = TakesPieceWithin 262_144 piece before after

@@ -1,23 +1,19 @@
 //! Lines of bounded length.
-ghost use Rattle.std.specs.Prelude.{◌≡◌, ◌++◌, ◌-◌, ℕ, List, [], length, nat_eq, slice_get, Some};
-ghost use Rattle.std.specs.Prelude.{IfOk, bytes_eq, if◌then◌else◌};
+ghost use Rattle.std.specs.Prelude.{◌≡◌, ◌≤◌, ◌++◌, ◌+◌, ◌-◌, ◌^◌, ℕ, List, [], length, nat_eq};
+ghost use Rattle.std.specs.Prelude.{slice_get, Some, IfOk, bytes_eq, if◌then◌else◌};
 ghost use Rattle.std.specs.Option.{option_eq};
 ghost use Rattle.gd_runs.specs.Explained.{without_return as line_of};
-ghost use Rattle.gd_input.specs.Line.{IsKept, IsShort};
+ghost use Rattle.gd_input.specs.Line.{IsKept, HasAtMost};
 
 use std::alloc::{AllocError, Global};
 
-/// The greatest number of bytes of a line.
+/// The greatest number of bytes of a line of a round.
 pub const LINE_LIMIT: usize = 262_144;
 
-/// The greatest number of bytes that may still be a line: a line, and a carriage return that is
-/// dropped.
-const PIECE_LIMIT: usize = LINE_LIMIT + 1;
-
-/// A line of a round.
+/// A line that was read.
 #[derive(Debug, PartialEq, Eq, Drop)]
 pub enum RoundLine {
-    /// Its bytes, at most `LINE_LIMIT`.
+    /// Its bytes, at most as many as a line may have: `LINE_LIMIT` in a round.
     Bytes(Vec<u8>),
     /// It has more bytes. They were read and dropped.
     TooLong,
@@ -26,7 +22,7 @@ pub enum RoundLine {
 impl RoundLine {
     /// The beginning of a line, before its first byte.
     pub fn new(alloc: Global) -> RoundLine
-        ensures { IsKept PIECE_LIMIT result [] }
+        ensures { (limit : ℕ) → IsKept limit result [] }
     {
         RoundLine::Bytes(Vec::new(alloc))
     }
@@ -42,14 +38,15 @@ impl RoundLine {
         }
     }
 
-    /// The beginning of a line with further bytes, which are kept as long as it may still fit.
-    pub fn extended(self, more: &[u8]) -> Result<RoundLine, AllocError>
-        ensures { (begun : List ℕ) → IsKept PIECE_LIMIT self begun
-            → IfOk result (λ line. IsKept PIECE_LIMIT line (begun ++ more.now)) }
+    /// The beginning of a line with further bytes, which are kept as long as they are at most
+    /// `limit`.
+    pub fn extended(self, more: &[u8], limit: usize) -> Result<RoundLine, AllocError>
+        ensures { (begun : List ℕ) → IsKept limit self begun
+            → IfOk result (λ line. IsKept limit line (begun ++ more.now)) }
     {
         match self {
             RoundLine::Bytes(mut bytes) => {
-                if more.len() > PIECE_LIMIT.saturating_sub(bytes.len()) {
+                if more.len() > limit.saturating_sub(bytes.len()) {
                     return Ok(RoundLine::TooLong);
                 }
                 bytes.extend_from_slice(more)?;
@@ -59,15 +56,15 @@ impl RoundLine {
         }
     }
 
-    /// The line that ends here, by a newline or by the end of input. Before a newline a carriage
-    /// return is dropped.
-    pub fn ended(self, by_newline: bool) -> RoundLine
-        ensures kept { (begun : List ℕ) → IsKept PIECE_LIMIT self begun
-            → IsKept LINE_LIMIT result (if by_newline then line_of begun else begun) }
-        ensures short { IsShort result }
+    /// The line that ends here, by a newline or by the end of input, and may have `most` bytes.
+    /// Before a newline a carriage return is dropped, so one byte more was kept of it.
+    pub fn ended(self, by_newline: bool, most: usize) -> RoundLine
+        ensures kept { (begun : List ℕ) → IsKept (most + 1) self begun
+            → IsKept most result (if by_newline then line_of begun else begun) }
+        ensures short { HasAtMost most result }
     {
         match self {
-            RoundLine::Bytes(bytes) => within_limit(line_bytes(bytes, by_newline)),
+            RoundLine::Bytes(bytes) => within(line_bytes(bytes, by_newline), most),
             RoundLine::TooLong => RoundLine::TooLong,
         }
     }
@@ -90,11 +87,11 @@ fn line_bytes(mut piece: Vec<u8>, by_newline: bool) -> Vec<u8>
 }
 
 /// The line of these bytes, as far as lines may be.
-fn within_limit(bytes: Vec<u8>) -> RoundLine
-    ensures kept { IsKept LINE_LIMIT result bytes.items }
-    ensures short { IsShort result }
+fn within(bytes: Vec<u8>, most: usize) -> RoundLine
+    ensures kept { IsKept most result bytes.items }
+    ensures short { HasAtMost most result }
 {
-    if bytes.len() > LINE_LIMIT {
+    if bytes.len() > most {
         RoundLine::TooLong
     } else {
         RoundLine::Bytes(bytes)

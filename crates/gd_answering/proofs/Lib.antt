@@ -1,0 +1,4 @@
+pub mod Joined
+pub mod Pieces
+pub mod Upto
+pub mod Known

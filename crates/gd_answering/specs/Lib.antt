@@ -1,0 +1,4 @@
+pub mod Answering
+pub mod Runs
+pub mod Stops
+pub mod Texts
