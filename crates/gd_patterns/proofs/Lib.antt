@@ -1,0 +1,2 @@
+mod Replied
+mod Ends

@@ -1,0 +1,13 @@
+pub mod Choice
+pub mod Written
+pub mod Dues
+pub mod Seen
+pub mod Steps
+pub mod Stop
+pub mod Meaning
+pub mod Survey
+pub mod Walks
+pub mod Building
+pub mod Cause
+pub mod Printed
+pub mod Candidates
