@@ -1,0 +1,6 @@
+pub mod Steps
+pub mod Runs
+pub mod Taken
+pub mod Written
+pub mod Outcomes
+pub mod Stores

@@ -1,0 +1,5 @@
+pub mod Stop
+pub mod Dues
+pub mod Progress
+pub mod Read
+pub mod Sent

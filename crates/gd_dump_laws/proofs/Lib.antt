@@ -1,0 +1,13 @@
+pub mod Marks
+pub mod Hex
+pub mod Parts
+pub mod Values
+pub mod Lines
+pub mod Batches
+pub mod Steps
+pub mod Follows
+pub mod Texts
+pub mod Groups
+pub mod Again
+pub mod Endings
+pub mod Rows

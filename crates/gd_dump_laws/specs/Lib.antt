@@ -1,0 +1,5 @@
+pub mod Dump
+pub mod Reading
+pub mod Progress
+pub mod Dumping
+pub mod Restoring

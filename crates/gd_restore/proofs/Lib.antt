@@ -1,0 +1,5 @@
+pub mod Appends
+pub mod Gathers
+pub mod Stopping
+pub mod Reading
+pub mod Restored

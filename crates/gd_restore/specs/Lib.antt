@@ -1,0 +1,4 @@
+pub mod Stops
+pub mod Dumps
+pub mod Gathered
+pub mod Restores
