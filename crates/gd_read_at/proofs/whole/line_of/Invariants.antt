@@ -1,7 +1,7 @@
 use Rattle.std.proofs.Common.{◌≡◌, ◌^◌}
 use Rattle.gd_read.specs.Left.{reading_left}
 use Rattle.gd_read.specs.Reading.{IsGoing, reading_view}
-use Rattle.gd_caller.proofs.reads.line_of.Given as goal
+use Rattle.gd_read_at.proofs.whole.line_of.Given as goal
 
 abbrev pub invariant-loop-bytes : goal.invariant-loop-bytes
 invariant-loop-bytes g l = record {

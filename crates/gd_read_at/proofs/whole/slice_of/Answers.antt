@@ -1,8 +1,8 @@
 use Rattle.std.proofs.Common.{◌^◌, ap, arith}
 use Rattle.gd_read.specs.Left.{reading_left}
 use Rattle.gd_read.specs.Reading.{is_unfinished}
-use Rattle.gd_caller.proofs.Slices.{falls}
-use Rattle.gd_caller.proofs.reads.slice_of.Goals as goal
+use Rattle.gd_read_at.proofs.Slices.{falls}
+use Rattle.gd_read_at.proofs.whole.slice_of.Goals as goal
 
 pub returns-in-Unfinished-clause-less : goal.returns-in-Unfinished-clause-less
 returns-in-Unfinished-clause-less g c = λ none.

@@ -1,6 +1,6 @@
 use Rattle.gd_mql.specs.Requests.{read_set_view}
-use Rattle.gd_caller.proofs.Answered.{read_ok, read_err}
-use Rattle.gd_caller.proofs.reads.reply_at.Goals as goal
+use Rattle.gd_read_at.proofs.Answered.{read_ok, read_err}
+use Rattle.gd_read_at.proofs.whole.reply_at.Goals as goal
 
 pub returns-in-Ok : goal.returns-in-Ok
 returns-in-Ok g c =

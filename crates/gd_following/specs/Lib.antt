@@ -1,0 +1,10 @@
+pub mod Parts
+pub mod Lines
+pub mod Read
+pub mod Refusals
+pub mod Replies
+pub mod Follows
+pub mod Given
+pub mod Runs
+pub mod Stops
+pub mod Primary

@@ -1,0 +1,4 @@
+//! A read that is answered at once, over a store at a number of its requests.
+#![tactic(auto)]
+
+pub mod whole;
