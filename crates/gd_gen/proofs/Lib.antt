@@ -1,0 +1,4 @@
+pub mod LineSteps
+pub mod Parted
+pub mod Results
+mod Rows
