@@ -1,6 +1,6 @@
 //! The lines of a round, once read.
 ghost use Rattle.std.specs.Prelude.{◌≡◌, ◌≢◌, ◌≤◌, ◌<◌, ◌+◌, ◌*◌, ◌++◌, ◌∷◌, ◌^◌, ℕ, List, []};
-ghost use Rattle.std.specs.Prelude.{length, map, true, Err, IfOk, OnOk};
+ghost use Rattle.std.specs.Prelude.{◌⊎◌, length, map, true, Err, IfOk, OnOk};
 ghost use Rattle.std.specs.List.{All};
 ghost use Rattle.gd_runs.specs.Input.{input_fault_line, line_too_long};
 ghost use Rattle.gd_runs.specs.Input as input;
@@ -25,8 +25,11 @@ use std::num::NonZeroU32;
 use std::thread;
 use std::thread::Threads;
 
-/// The fewest lines that are worth a thread of their own.
-const LEAST_LINES: usize = 16;
+/// The fewest lines that are worth a thread to read them, unless they have `LEAST_BYTES`.
+const LEAST_LINES: usize = 64;
+
+/// The fewest bytes that are worth a thread to read them, unless they are `LEAST_LINES` lines.
+const LEAST_BYTES: usize = 65_536;
 
 /// A read line of a round: its number, its session and what it asks.
 #[derive(Drop)]
@@ -209,14 +212,38 @@ impl Works {
     }
 }
 
-/// In how many threads so many lines are read: at most `threads`, and no more than have
-/// `LEAST_LINES` each.
-fn threads_for(lines: usize, threads: NonZeroU32) -> usize
+/// How many bytes a line has that is read.
+fn bytes_of(line: &RoundLine) -> usize {
+    match line {
+        RoundLine::Bytes(bytes) => bytes.len(),
+        RoundLine::TooLong => 0,
+    }
+}
+
+/// How many bytes lines have together that are read, or `usize::MAX` where they have more.
+fn all_bytes(lines: &[RoundLine]) -> usize {
+    let mut total = 0usize;
+    for line in lines {
+        total = total.saturating_add(bytes_of(line));
+    }
+    total
+}
+
+/// In how many threads so many lines, with so many bytes, are read: at most `threads`, and no more
+/// than have `LEAST_LINES` lines or `LEAST_BYTES` bytes each.
+fn threads_for(lines: usize, bytes: usize, threads: NonZeroU32) -> usize
     ensures some { 0 < result }
     ensures most { result ≤ threads.value }
-    ensures worth { 1 < result → result * 16 ≤ lines }
+    ensures worth { 1 < result → (result * 64 ≤ lines) ⊎ (result * 65_536 ≤ bytes) }
 {
-    (lines / LEAST_LINES).clamp(1, threads.get() as usize)
+    let by_lines = lines / LEAST_LINES;
+    let by_bytes = bytes / LEAST_BYTES;
+    let worth = if by_lines < by_bytes {
+        by_bytes
+    } else {
+        by_lines
+    };
+    worth.clamp(1, threads.get() as usize)
 }
 
 /// Reads the line at a place, of the lines from line `first` on, in place of what was said of it.
@@ -261,7 +288,7 @@ fn read_each<R: Threads + Sync>(
             × (place < length lines.now) }
         ensures { IsAskedOf first lines.entry.now place asked.exit.now }
     { read_at(alloc, first, lines, place, asked) };
-    let threads = threads_for(lines.len(), threads);
+    let threads = threads_for(lines.len(), all_bytes(lines), threads);
     thread::for_each_mut(rt, asked.as_mut_slice(), threads, &read);
     Ok(asked)
 }

@@ -1,5 +1,5 @@
 //! A run that is served round by round, on threads.
-ghost use Rattle.std.specs.Prelude.{◌≡◌, ◌≤◌, ◌<◌, ◌+◌, ◌^◌, ℕ, List, [], length, map, vec_len};
+ghost use Rattle.std.specs.Prelude.{◌≡◌, ◌≤◌, ◌<◌, ◌+◌, ◌*◌, ◌^◌, ℕ, List, [], length, map, vec_len};
 ghost use Rattle.std.specs.Prelude.{vec_capacity, IfOk, IfErr, MatchResult, true};
 ghost use Rattle.std.specs.List.{All};
 ghost use Rattle.std.specs.Option.{ForSome};
@@ -49,6 +49,20 @@ use std::thread::Threads;
 
 /// The most steps that a slice of a read may take.
 const MOST_STEPS: u64 = 1_000_000;
+
+/// The fewest lines that are worth a third worker, and each further one.
+const LEAST_LINES: usize = 16;
+
+/// How many workers are worth hiring for so many lines: at most `most`, and of more than two each
+/// has `LEAST_LINES` lines at least.
+fn crew_size(most: NonZeroU32, lines: usize) -> u32
+    ensures some { 0 < result }
+    ensures most { result ≤ most.value }
+    ensures worth { 2 < result → result * 16 ≤ lines }
+{
+    let worth = (lines / LEAST_LINES).max(2).min(most.get() as usize);
+    worth as u32
+}
 
 /// A run that is served round by round, by so many workers: the write side, the seats from which
 /// the workers read, the number of the next line, and how many steps a slice of a read may take. It
@@ -188,9 +202,9 @@ impl<D: Disk, C: Clock> Rounds<D, C> {
 
 impl<D: Disk + Send, C: Clock + Send> Rounds<D, C> {
     /// Answers the lines of a round, and gives their replies. First all that is stored is shown, if
-    /// there is memory for that. Then the workers run the lines, each on a thread of its own where
-    /// one can be made, with the writes of each session in the order of its lines; what they leave
-    /// is done here. A read is answered at a number that fits what its session was told before.
+    /// there is memory for that. Then the workers run the lines, as many as are worth hiring, one of
+    /// them here and each other one on a thread of its own where one can be made, with the writes of
+    /// each session in the order of its lines; what they leave is done here. A read is answered at a number that fits what its session was told before.
     /// Where there is no room for the lines, none of them is looked at, and each has the reply that
     /// says that there was no memory. It waits for the workers, which pass the gate, and for
     /// readers.
@@ -232,7 +246,7 @@ impl<D: Disk + Send, C: Clock + Send> Rounds<D, C> {
         let begun = show(rt, &mut self.side);
         let hired = hire(
             alloc,
-            self.workers.get(),
+            crew_size(self.workers, lines.len()),
             self.budget,
             &self.side,
             &works,
