@@ -80,7 +80,7 @@ CRATES = [
     ("gd_input", "What was taken of an input, and which of its rounds that is.", ["Taken"], False),
     ("gd_paging_laws", "Pages of a query that were read one after another.", ["Told", "Paged", "Explained"], False),
     ("gd_shared", "Published copies: what contracts see of a publisher and of seats.", ["Shared"], False),
-    ("gd_log", "A log: payloads that are groups of batches, and what its disk holds.", ["Groups", "State"], False),
+    ("gd_log", "A log: payloads that are groups of batches, and what its disk holds.", ["Groups", "State", "Stored"], None),
     ("gd_words", "The command line: which words give which command, and which verb and file it names.", ["Options", "Words", "Verbs"], False),
     ("gd_writer", "What a disk tells.", ["Parts"], None),
     ("gd_sessions", "What stands for a state of the core.", ["Running"], None),
@@ -91,7 +91,15 @@ CRATES = [
     ("gd_round_laws", "Whole rounds, one after another.", ["Rounds"], False),
     ("gd_replay_laws", "Runs of events, as far as events are built.", ["Built", "Runs", "Faults"], False),
     ("gd_replay", "What a run of events prints and leaves, and why it stops.", ["Sure", "Replays", "Runs", "Stops", "Kept"], False),
-    ("gd_top", "The top call: which words it takes, what it finds in a file and leaves there, what it prints for its input, and how it ends.", ["Words", "Ends", "Held", "Kept", "Serves", "Replays"], False),
+    ("gd_trees", "Words that the clauses of the verbs need.", ["Answers"], None),
+    ("gd_dump_laws", "Dumps: the text of a list of batches, and what dumping and restoring come to.", ["Dump", "Dumping", "Restoring"], False),
+    ("gd_follow_laws", "Nodes that follow: what comes of a group, and the world in which they follow a primary.", ["Given", "World"], False),
+    ("gd_answering", "Lines that are answered one after another.", ["Answering"], False),
+    ("gd_follow", "What a node answers to an ask, and what a stop leaves of it.", ["Asks", "Node"], None),
+    ("gd_following", "The lines of a node, and what it prints for them.", ["Parts", "Lines", "Replies", "Follows", "Runs"], False),
+    ("gd_tplang", "Templates as texts, and what a line of one is answered.", ["Written", "Meaning", "Printed", "Choice"], False),
+    ("gd_patterns", "Lines of templates, answered over one list.", ["Patterns"], False),
+    ("gd_top", "The top call: which words it takes, what it finds in a file and leaves there, what it prints for its input, and how it ends.", ["Words", "Ends", "Held", "Kept", "Serves", "Replays", "Dumps", "Restores", "Follows", "Answers"], False),
 ]
 
 # comments that lean on the definition above them, said in full

@@ -49,11 +49,14 @@ fn left<W: Write>(bytes: &[u8], out: &mut W) -> io::Result<()> {
     writeln!(out)
 }
 
-/// Prints a status, and of a damaged file the offset of the damage.
+/// Prints a status, and the numbers that it tells.
 fn status<W: Write>(status: Status, out: &mut W) -> io::Result<()> {
     let code = status.code();
     match status {
         Status::Damaged { offset } => writeln!(out, "status {code} {offset}"),
+        Status::BadDump { offset } => writeln!(out, "status {code} {offset}"),
+        Status::DumpFrom { asked, have } => writeln!(out, "status {code} {asked} {have}"),
+        Status::Unfit { batch } => writeln!(out, "status {code} {batch}"),
         _ => writeln!(out, "status {code}"),
     }
 }

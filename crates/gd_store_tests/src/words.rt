@@ -2,11 +2,23 @@
 use gd_words::help::help_text;
 
 /// What the help names.
-static NAMED: [&str; 5] = ["serve", "--file", "--workers", "--budget", "threads"];
+static NAMED: [&str; 11] = [
+    "serve",
+    "replay",
+    "dump",
+    "restore",
+    "follow",
+    "templates",
+    "--file",
+    "--workers",
+    "--budget",
+    "--from",
+    "threads",
+];
 
-/// Whether the help names it all, in few lines.
+/// Whether the help names it all, in so few lines that a screen shows them.
 fn helps(text: &str) -> bool {
-    NAMED.iter().all(|word| text.contains(*word)) && text.lines().count() < 25
+    NAMED.iter().all(|word| text.contains(*word)) && text.lines().count() < 45
 }
 
 #[test]

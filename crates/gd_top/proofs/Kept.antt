@@ -12,7 +12,7 @@ use Rattle.gd_log.specs.Opening.{IsReadSame, IsKept}
 use Rattle.gd_writer.specs.Parts.{Tells}
 use Rattle.gd_caller.specs.Served.{StandsForState}
 use Rattle.gd_top.proofs.Settled.{told_on, some_tells}
-use Rattle.gd_top.specs.Kept.{IsLeft, Keeps, StaysTold, StaysAt}
+use Rattle.gd_top.specs.Kept.{IsLeft, KeepsFile, Keeps, StaysTold, StaysAt}
 
 some_told : (now : Option (List ℕ)) (file : List ℕ) → now ≡ Some file → IsSome now
 some_told now file is = subst (λ (o : Option (List ℕ)). IsSome o) (sym is) refl
@@ -53,7 +53,7 @@ left_of_core file bs s stands is c now = by s.doubt now
         (λ old. inr (bs, more, stands, subst (StandsFor c) grown old))
         (λ new. inr (bs, more ++ e.batch ∷ [], stands, subst (StandsFor c) (ap (λ (l : List Batch). l ++ e.batch ∷ []) grown ∙ append_assoc bs more (e.batch ∷ [])) new)) now
 
-told_is : (told : Option (List ℕ)) (file : List ℕ) → told ≡ Some file → Tells told
+pub told_is : (told : Option (List ℕ)) (file : List ℕ) → told ≡ Some file → Tells told
 told_is told file is = rw is refl
 
 -- a run over a store that was just opened, at its end
@@ -70,6 +70,17 @@ keeps_run content images reads first last loaded s means begun same holds file i
       not_store = λ none. absurd (sound file loaded not_store stands none no_store);
       damaged = λ at none. absurd (sound file loaded (damaged at) stands none (no_damage at));
     }
+
+-- a file that stood for batches, of which all that a stop leaves stands for these and further ones
+pub keeps_further : {D : Type 0} (content : D → Option (List ℕ)) (images : D → List ℕ → Type 0) → ((disk : D) (file : List ℕ) → content disk ≡ Some file → images disk file) → (old new : D) (file : List ℕ) (bs : List Batch)
+    → content old ≡ Some file → is_some (content new) ≡ is_some (content old) → StandsFor file bs → ((c : List ℕ) → images new c → (more : List Batch) × StandsFor c (bs ++ more)) → KeepsFile file (content new) (images old) (images new)
+keeps_further content images reads old new file bs is same stands further = record {
+  told = some_tells (content new) (told_on (content old) (content new) same (told_is (content old) file is));
+  read = λ later now. let (more, left) = further later (reads new later now) in inr (bs, more, stands, left);
+  images = λ c now. let (more, left) = further c now in (file, reads old file is, inr (bs, more, stands, left));
+  not_store = λ means. absurd (sound file bs not_store stands means no_store);
+  damaged = λ at means. absurd (sound file bs (damaged at) stands means (no_damage at));
+}
 
 -- what reads the same is left
 left_of_same : (before after : List ℕ) → IsReadSame before after → IsLeft before after

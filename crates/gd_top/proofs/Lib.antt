@@ -8,6 +8,11 @@ pub mod Weaker
 pub mod Complete
 pub mod Plain
 pub mod Split
+pub mod Caused
 pub mod Replayed
+pub mod Dumped
+pub mod Restored
+pub mod Patterned
+pub mod Followed
 pub mod Framed
 pub mod Commands

@@ -21,30 +21,13 @@ use Rattle.gd_replay.specs.Stops.{end_faults, EndsAs, EndsBy}
 use Rattle.gd_top.specs.declared.status.Status.{Status}
 use Rattle.gd_top.specs.declared.status.Status.TheVariants as status
 use Rattle.gd_top.specs.Stops.{status_of_store, status_of_shelf, status_of_events}
-use Rattle.gd_top.specs.Ends.{IsHindered, IsIdle, Causes}
+use Rattle.gd_words.specs.Verbs.{replays}
+use Rattle.gd_top.specs.Ends.{IsHindered, IsIdle, Causes, may_tell}
 use Rattle.gd_top.specs.Held.{Loads, MayMean, DoesMean}
 use Rattle.gd_top.specs.Kept.{Keeps, StaysTold}
 use Rattle.gd_top.specs.Replays.{status_faults, PrintsEvents}
+use Rattle.gd_top.proofs.Caused.{not_of_store, sound, no_store, no_damage, refused_store, refused_damage, found_store, found_damage, refused_tells}
 use Rattle.gd_top.proofs.Kept.{keeps_refused, stays_refused}
-
--- ---- a status that is not one of these
-
--- a status of a store that is not opened
-abbrev is_of_store : Status → Bool
-is_of_store status.DiskFault = true
-is_of_store status.NotStore = true
-is_of_store (status.Damaged offset) = true
-is_of_store status.Memory = true
-is_of_store _ = false
-
-of_store : (f : JournalFault) → is_of_store (status_of_store f) ≡ true
-of_store journal.DiskFault = refl
-of_store journal.NotStore = refl
-of_store (journal.Damaged offset) = refl
-of_store journal.Memory = refl
-
-not_of_store : (f : JournalFault) (s : Status) → is_of_store s ≡ false → status_of_store f ≡ s → ⊥
-not_of_store f s other is = let e : true ≡ false = sym (of_store f) ∙ (ap is_of_store is ∙ other) in cc
 
 -- a store that was lost by a failure of the disk, by its status
 lost_faults : (f : JournalFault) → end_faults (Err (stop.Lost f)) ≡ status_faults (status_of_store f)
@@ -142,14 +125,14 @@ events_at_end (Err stop.Memory) P at_end is = absurd (cc)
 events_at_end (Err (stop.Lost f)) P at_end is = absurd (not_of_store f status.Done refl is)
 events_at_end (Err (stop.Unopened f)) P at_end is = absurd (not_of_store f status.Done refl is)
 
-pub events_used : (end : Result (Unit {0}) Stop) → status_of_events end ≡ status.Usage → ⊥
-events_used (Ok u) is = cc
-events_used (Err stop.ReadFault) is = cc
-events_used (Err stop.TooMuch) is = cc
-events_used (Err stop.SinkFault) is = cc
-events_used (Err stop.Memory) is = cc
-events_used (Err (stop.Lost f)) is = not_of_store f status.Usage refl is
-events_used (Err (stop.Unopened f)) is = not_of_store f status.Usage refl is
+pub events_tells : (end : Result (Unit {0}) Stop) → may_tell replays (status_of_events end) ≡ true
+events_tells (Ok u) = refl
+events_tells (Err stop.ReadFault) = refl
+events_tells (Err stop.TooMuch) = refl
+events_tells (Err stop.SinkFault) = refl
+events_tells (Err stop.Memory) = refl
+events_tells (Err (stop.Lost f)) = refused_tells replays f
+events_tells (Err (stop.Unopened f)) = refused_tells replays f
 
 -- ---- what is kept
 
@@ -162,16 +145,6 @@ keeps_cases (Err stop.SinkFault) P U kept = inl kept
 keeps_cases (Err stop.Memory) P U kept = inl kept
 keeps_cases (Err (stop.Lost f)) P U kept = inl kept.0
 keeps_cases (Err (stop.Unopened f)) P U kept = inr (f, refl, kept)
-
--- a file that stands for batches is neither no store nor damaged
-sound : (file : List ℕ) (bs : List Batch) (m : Meaning) → StandsFor file bs → meaning file ≡ m → ((gs : List (List Batch)) → m ≡ groups gs → ⊥) → ⊥
-sound file bs m stands means apart = apart stands.0 (sym means ∙ stands.1)
-
-no_store : (gs : List (List Batch)) → not_store ≡ groups gs → ⊥
-no_store gs e = cc
-
-no_damage : (at : ℕ) (gs : List (List Batch)) → damaged at ≡ groups gs → ⊥
-no_damage at gs e = cc
 
 -- what is said of a file that is told, where it began a run or was refused
 abbrev Keeping : {D : Type 0} → (D → Option (List ℕ)) → (D → ℕ) → (D → List ℕ → Type 0) → (D → ℕ → List ℕ → Type 0) → D → D → Result (Unit {0}) Stop → Type 0
@@ -208,18 +181,6 @@ module _ {D : Type 0} (content : D → Option (List ℕ)) (moment : D → ℕ) (
 
 -- ---- causes
 
-refused_store : (f : JournalFault) (m : Meaning) → Refuses f m → status_of_store f ≡ status.NotStore → m ≡ not_store
-refused_store journal.NotStore m refuses is = refuses
-refused_store journal.DiskFault m refuses is = absurd (cc)
-refused_store (journal.Damaged at) m refuses is = absurd (cc)
-refused_store journal.Memory m refuses is = absurd (cc)
-
-refused_damage : (f : JournalFault) (m : Meaning) (at : ℕ) → Refuses f m → status_of_store f ≡ status.Damaged at → m ≡ damaged at
-refused_damage (journal.Damaged other) m at refuses is = let e : other ≡ at = cc in refuses ∙ ap damaged e
-refused_damage journal.NotStore m at refuses is = absurd (cc)
-refused_damage journal.DiskFault m at refuses is = absurd (cc)
-refused_damage journal.Memory m at refuses is = absurd (cc)
-
 -- a hindrance says nothing of the file
 hindered_store : (f : JournalFault) → IsHindrance f → status_of_store f ≡ status.NotStore → ⊥
 hindered_store journal.DiskFault h is = cc
@@ -232,18 +193,6 @@ hindered_damage journal.DiskFault at h is = cc
 hindered_damage journal.Memory at h is = cc
 hindered_damage journal.NotStore at h is = h
 hindered_damage (journal.Damaged other) at h is = h
-
-found_store : (f : JournalFault) (m : Meaning) → Refuses f m → m ≡ not_store → (status_of_store f ≡ status.NotStore) ⊎ IsHindered (status_of_store f)
-found_store journal.NotStore m refuses means = inl refl
-found_store journal.DiskFault m refuses means = inr (inl refl)
-found_store journal.Memory m refuses means = inr (inr refl)
-found_store (journal.Damaged at) m refuses means = let e : damaged at ≡ not_store = sym refuses ∙ means in absurd (cc)
-
-found_damage : (f : JournalFault) (m : Meaning) (at : ℕ) → Refuses f m → m ≡ damaged at → (status_of_store f ≡ status.Damaged at) ⊎ IsHindered (status_of_store f)
-found_damage (journal.Damaged other) m at refuses means = let e : damaged other ≡ damaged at = sym refuses ∙ means in let same : other ≡ at = cc in inl (ap status.Damaged same)
-found_damage journal.DiskFault m at refuses means = inr (inl refl)
-found_damage journal.Memory m at refuses means = inr (inr refl)
-found_damage journal.NotStore m at refuses means = let e : not_store ≡ damaged at = sym refuses ∙ means in absurd (cc)
 
 module _ (file : List ℕ) (X : List Batch → Type 0) (Y : Type 0) where
   abbrev Keeping_of : Result (Unit {0}) Stop → Type 0

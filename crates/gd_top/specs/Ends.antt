@@ -2,6 +2,7 @@
 use Rattle.std.specs.Prelude.{◌≡◌, ◌≢◌, ◌⊎◌, ℕ, List, Bool, true, false, Option, None, Some}
 use Rattle.gd_base.specs.Counts.{RoseBy}
 use Rattle.gd_bytes.specs.File.{Meaning, not_store, damaged}
+use Rattle.gd_words.specs.Verbs.{Verb, dumps, restores, reads_input, prints_output}
 use Rattle.gd_top.specs.declared.status.Status.{Status}
 use Rattle.gd_top.specs.declared.status.Status.TheVariants as status
 
@@ -19,6 +20,34 @@ is_stopped status.ReadFault = true
 is_stopped status.SinkFault = true
 is_stopped status.TooMuch = true
 is_stopped _ = false
+
+-- A run with this status refused the text that it was to restore, or the number from which it was to dump.
+abbrev pub is_of_text : Status → Bool
+is_of_text (status.BadDump offset) = true
+is_of_text (status.DumpFrom asked have) = true
+is_of_text (status.Unfit batch) = true
+is_of_text _ = false
+
+-- the verb restores
+abbrev pub is_restore : Verb → Bool
+is_restore restores = true
+is_restore _ = false
+
+-- the verb restores, or dumps
+abbrev pub is_of_dumps : Verb → Bool
+is_of_dumps (dumps from) = true
+is_of_dumps v = is_restore v
+
+-- whether a run of a verb may end with a status: of the source's and the sink's failures only where it reads or prints, of what is said of a text only where there is one
+abbrev pub may_tell : Verb → Status → Bool
+may_tell v status.Usage = false
+may_tell v status.ReadFault = reads_input v
+may_tell v status.TooMuch = reads_input v
+may_tell v status.SinkFault = prints_output v
+may_tell v (status.BadDump offset) = is_restore v
+may_tell v (status.Unfit batch) = is_restore v
+may_tell v (status.DumpFrom asked have) = is_of_dumps v
+may_tell v _ = true
 
 -- the disk failed, or there was no memory
 abbrev pub IsHindered : Status → Type 0

@@ -1,10 +1,14 @@
 pub mod Answered
+pub mod Answers
+pub mod Dumps
 pub mod Ends
+pub mod Follows
 pub mod Held
 pub mod Kept
 pub mod Lines
 pub mod Opened
 pub mod Replays
+pub mod Restores
 pub mod Serves
 pub mod Stops
 pub mod Verbs

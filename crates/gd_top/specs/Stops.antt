@@ -8,6 +8,16 @@ use Rattle.gd_journal.specs.declared.fault.JournalFault.{JournalFault}
 use Rattle.gd_journal.specs.declared.fault.JournalFault.TheVariants as journal
 use Rattle.gd_replay.specs.declared.stop.Stop.{Stop as EventStop}
 use Rattle.gd_replay.specs.declared.stop.Stop.TheVariants as events
+use Rattle.gd_answering.specs.declared.stop.Stop.{Stop as AnswerStop}
+use Rattle.gd_answering.specs.declared.stop.Stop.TheVariants as answers
+use Rattle.gd_following.specs.declared.stop.FollowStop.{FollowStop}
+use Rattle.gd_following.specs.declared.stop.FollowStop.TheVariants as follows
+use Rattle.gd_patterns.specs.declared.stop.PatternStop.{PatternStop}
+use Rattle.gd_patterns.specs.declared.stop.PatternStop.TheVariants as patterns
+use Rattle.gd_restore.specs.declared.stop.DumpStop.{DumpStop}
+use Rattle.gd_restore.specs.declared.stop.DumpStop.TheVariants as dump
+use Rattle.gd_restore.specs.declared.stop.RestoreStop.{RestoreStop}
+use Rattle.gd_restore.specs.declared.stop.RestoreStop.TheVariants as restore
 use Rattle.gd_top.specs.declared.stop.Stop.{Stop}
 use Rattle.gd_top.specs.declared.stop.Stop.TheVariants as stop
 use Rattle.gd_top.specs.declared.status.Status.{Status}
@@ -47,3 +57,42 @@ status_of_events (Err events.Memory) = status.Memory
 status_of_events (Err events.TooMuch) = status.TooMuch
 status_of_events (Err (events.Unopened f)) = status_of_store f
 status_of_events (Err (events.Lost f)) = status_of_store f
+
+-- the status of a dump that ended so
+abbrev pub status_of_dump : Result (Unit {0}) DumpStop → Status
+status_of_dump (Ok u) = status.Done
+status_of_dump (Err dump.SinkFault) = status.SinkFault
+status_of_dump (Err dump.Memory) = status.Memory
+status_of_dump (Err (dump.DumpFrom asked have)) = status.DumpFrom asked have
+status_of_dump (Err (dump.Unopened f)) = status_of_store f
+
+-- the status of a run that restored a text and ended so
+abbrev pub status_of_restore : Result (Unit {0}) RestoreStop → Status
+status_of_restore (Ok u) = status.Done
+status_of_restore (Err restore.ReadFault) = status.ReadFault
+status_of_restore (Err restore.TooMuch) = status.TooMuch
+status_of_restore (Err restore.Memory) = status.Memory
+status_of_restore (Err restore.DiskFault) = status.DiskFault
+status_of_restore (Err (restore.BadDump offset)) = status.BadDump offset
+status_of_restore (Err (restore.DumpFrom asked have)) = status.DumpFrom asked have
+status_of_restore (Err (restore.Unfit batch)) = status.Unfit batch
+status_of_restore (Err (restore.Unopened f)) = status_of_store f
+
+-- the status of a run that stopped so while it answered lines
+abbrev pub status_of_answers : AnswerStop → Status
+status_of_answers answers.ReadFault = status.ReadFault
+status_of_answers answers.SinkFault = status.SinkFault
+status_of_answers answers.Memory = status.Memory
+status_of_answers answers.TooMuch = status.TooMuch
+
+-- the status of a run of templates that ended so
+abbrev pub status_of_patterns : Result (Unit {0}) PatternStop → Status
+status_of_patterns (Ok u) = status.Done
+status_of_patterns (Err (patterns.Stopped s)) = status_of_answers s
+status_of_patterns (Err (patterns.Unopened f)) = status_of_store f
+
+-- the status of a run of a node that ended so
+abbrev pub status_of_follow : Result (Unit {0}) FollowStop → Status
+status_of_follow (Ok u) = status.Done
+status_of_follow (Err (follows.Stopped s)) = status_of_answers s
+status_of_follow (Err (follows.Unopened f)) = status_of_store f

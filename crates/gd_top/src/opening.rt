@@ -5,16 +5,20 @@ ghost use Rattle.std.specs.Io.KnownBytes.{IsAtEnd};
 ghost use Rattle.gd_base.specs.Counts.{Rose, RoseBy};
 ghost use Rattle.gd_bytes.specs.Disk.{HoldsSame};
 ghost use Rattle.gd_input.specs.Taken.{TakesAtLeast};
-ghost use Rattle.gd_words.specs.Verbs.{serves, verb_in, file_of};
-ghost use Rattle.gd_top.specs.Ends.{IsIdle, Causes, SendsRounds, RisesAt};
+ghost use Rattle.gd_words.specs.Verbs.{serves, verb_in, file_of, reads_input, prints_output};
+ghost use Rattle.gd_top.specs.Ends.{IsIdle, Causes, SendsRounds, RisesAt, may_tell};
 ghost use Rattle.gd_top.specs.Held.{MayMean, MayMeanAt, DoesMean, told_at};
 ghost use Rattle.gd_top.specs.Kept.{Keeps, StaysAt, StaysTold};
 ghost use Rattle.gd_top.specs.Verbs.{PrintsOver, PrintsAt};
 
+use crate::dump::dump_over;
+use crate::follow::follow_over;
 use crate::pace::Pace;
 use crate::replay::replay_over;
+use crate::restore::restore_over;
 use crate::serve::serve_over;
 use crate::status::Status;
+use crate::templates::templates_over;
 use gd_base::text::Text;
 use gd_disk::disk::Disk;
 use gd_disk::shelf::Shelf;
@@ -52,8 +56,12 @@ fn run_over<
         (IsIdle source.old source.new sink.old sink.new
         × StaysTold (D.content disk) (D.content result.1) (D.images disk) (D.images result.1))
         (S.left source.old) (S.left source.new) (K.held sink.old) (K.held sink.new) }
-    ensures at_end { result.0 ≡ Status.Done → IsAtEnd (S.left source.new) }
-    ensures sent { result.0 ≡ Status.Done → K.sent sink.new ≡ true }
+    ensures at_end { reads_input (verb_in command.now) ≡ true → result.0 ≡ Status.Done
+        → IsAtEnd (S.left source.new) }
+    ensures no_input { reads_input (verb_in command.now) ≡ false → source.new ≡ source.old }
+    ensures sent { prints_output (verb_in command.now) ≡ true → result.0 ≡ Status.Done
+        → K.sent sink.new ≡ true }
+    ensures no_output { prints_output (verb_in command.now) ≡ false → sink.new ≡ sink.old }
     ensures rounds_sent { verb_in command.now ≡ serves
         → SendsRounds result.0 K.sent sink.old sink.new }
     ensures causes { Causes result.0 (Rose (S.faults source.old) (S.faults source.new))
@@ -62,7 +70,7 @@ fn run_over<
         (TakesAtLeast (2 ^ 40) (S.left source.old) (S.left source.new) (S.given source.old)
         (S.given source.new))
         (MayMean (D.content disk)) (DoesMean (D.content disk)) }
-    ensures used { result.0 ≢ Status.Usage }
+    ensures tells { may_tell (verb_in command.now) result.0 ≡ true }
     ensures kept { Keeps (D.content disk) (D.content result.1)
         (D.images disk) (D.images result.1) }
 {
@@ -72,6 +80,10 @@ fn run_over<
             serve_over(rt, alloc, disk, pace, source, sink, clock, gate)
         }
         Command::Replay(_) => replay_over(rt, alloc, disk, source, sink, clock),
+        Command::Dump(dump) => dump_over(alloc, disk, dump.from, sink),
+        Command::Restore(_) => restore_over(alloc, disk, source),
+        Command::Follow(_) => follow_over(alloc, disk, source, sink),
+        Command::Templates(_) => templates_over(alloc, disk, source, sink),
     }
 }
 
@@ -104,8 +116,12 @@ fn run_in_file<
         × StaysAt (F.content shelf.old) (F.content shelf.new) (F.images shelf.old)
         (F.images shelf.new) (Some path.now))
         (S.left source.old) (S.left source.new) (K.held sink.old) (K.held sink.new) }
-    ensures at_end { result ≡ Status.Done → IsAtEnd (S.left source.new) }
-    ensures sent { result ≡ Status.Done → K.sent sink.new ≡ true }
+    ensures at_end { reads_input (verb_in command.now) ≡ true → result ≡ Status.Done
+        → IsAtEnd (S.left source.new) }
+    ensures no_input { reads_input (verb_in command.now) ≡ false → source.new ≡ source.old }
+    ensures sent { prints_output (verb_in command.now) ≡ true → result ≡ Status.Done
+        → K.sent sink.new ≡ true }
+    ensures no_output { prints_output (verb_in command.now) ≡ false → sink.new ≡ sink.old }
     ensures rounds_sent { verb_in command.now ≡ serves
         → SendsRounds result K.sent sink.old sink.new }
     ensures causes { Causes result (Rose (S.faults source.old) (S.faults source.new))
@@ -114,7 +130,7 @@ fn run_in_file<
         (TakesAtLeast (2 ^ 40) (S.left source.old) (S.left source.new) (S.given source.old)
         (S.given source.new))
         (MayMean (F.content shelf.old path.now)) (DoesMean (F.content shelf.old path.now)) }
-    ensures used { result ≢ Status.Usage }
+    ensures tells { may_tell (verb_in command.now) result ≡ true }
     ensures kept { Keeps (F.content shelf.old path.now) (F.content shelf.new path.now)
         (F.images shelf.old path.now) (F.images shelf.new path.now) }
     ensures others { (other : List ℕ) → other ≢ path.now
@@ -146,15 +162,19 @@ fn run_in_memory<R: Threads + Wait + Sync, S: Source, K: Sink, C: Clock + Send +
         (Some []) (λ _. ⊥) (RoseBy 0 0)
         (IsIdle source.old source.new sink.old sink.new)
         (S.left source.old) (S.left source.new) (K.held sink.old) (K.held sink.new) }
-    ensures at_end { result ≡ Status.Done → IsAtEnd (S.left source.new) }
-    ensures sent { result ≡ Status.Done → K.sent sink.new ≡ true }
+    ensures at_end { reads_input (verb_in command.now) ≡ true → result ≡ Status.Done
+        → IsAtEnd (S.left source.new) }
+    ensures no_input { reads_input (verb_in command.now) ≡ false → source.new ≡ source.old }
+    ensures sent { prints_output (verb_in command.now) ≡ true → result ≡ Status.Done
+        → K.sent sink.new ≡ true }
+    ensures no_output { prints_output (verb_in command.now) ≡ false → sink.new ≡ sink.old }
     ensures rounds_sent { verb_in command.now ≡ serves
         → SendsRounds result K.sent sink.old sink.new }
     ensures causes { Causes result (Rose (S.faults source.old) (S.faults source.new))
         (Rose (K.faults sink.old) (K.faults sink.new)) ⊥
         (TakesAtLeast (2 ^ 40) (S.left source.old) (S.left source.new) (S.given source.old)
         (S.given source.new)) (λ _. ⊥) (λ _. ⊥) }
-    ensures used { result ≢ Status.Usage }
+    ensures tells { may_tell (verb_in command.now) result ≡ true }
 {
     match SteadyDisk::new(alloc) {
         Ok(disk) => {
@@ -188,8 +208,12 @@ pub fn run<R: Threads + Wait + Sync, S: Source, K: Sink, F: Shelf, C: Clock + Se
         × StaysAt (F.content shelf.old) (F.content shelf.new) (F.images shelf.old)
         (F.images shelf.new) (file_of command.now))
         (S.left source.old) (S.left source.new) (K.held sink.old) (K.held sink.new) }
-    ensures at_end { result ≡ Status.Done → IsAtEnd (S.left source.new) }
-    ensures sent { result ≡ Status.Done → K.sent sink.new ≡ true }
+    ensures at_end { reads_input (verb_in command.now) ≡ true → result ≡ Status.Done
+        → IsAtEnd (S.left source.new) }
+    ensures no_input { reads_input (verb_in command.now) ≡ false → source.new ≡ source.old }
+    ensures sent { prints_output (verb_in command.now) ≡ true → result ≡ Status.Done
+        → K.sent sink.new ≡ true }
+    ensures no_output { prints_output (verb_in command.now) ≡ false → sink.new ≡ sink.old }
     ensures rounds_sent { verb_in command.now ≡ serves
         → SendsRounds result K.sent sink.old sink.new }
 
@@ -202,7 +226,7 @@ pub fn run<R: Threads + Wait + Sync, S: Source, K: Sink, F: Shelf, C: Clock + Se
         (MayMeanAt (F.content shelf.old) (file_of command.now))
         (DoesMean (told_at (F.content shelf.old) (file_of command.now))) }
     ensures disk_steady { file_of command.now ≡ None → result ≢ Status.DiskFault }
-    ensures used { result ≢ Status.Usage }
+    ensures tells { may_tell (verb_in command.now) result ≡ true }
 
     // The file keeps what it stood for, and the shelf every other path.
     ensures kept { (path : List ℕ) → file_of command.now ≡ Some path

@@ -8,12 +8,17 @@ ghost use Rattle.gd_bytes.specs.File.{not_store, damaged};
 ghost use Rattle.gd_input.specs.Taken.{TakesAtLeast};
 ghost use Rattle.gd_runs.specs.Owed.{MembersOf};
 ghost use Rattle.gd_words.specs.Verbs as verb;
-ghost use Rattle.gd_words.specs.Verbs.{verb_of, path_of};
+ghost use Rattle.gd_words.specs.Verbs.{Verb, verb_of, path_of, reads_input, prints_output};
 ghost use Rattle.gd_words.specs.Words.{command_of};
-ghost use Rattle.gd_top.specs.Ends.{IsHindered, IsIdle, SendsRounds, RisesAt};
+ghost use Rattle.gd_top.specs.Answers.{PrintsAnswers};
+ghost use Rattle.gd_top.specs.Dumps.{PrintsDump};
+ghost use Rattle.gd_top.specs.Ends.{IsHindered, IsIdle, SendsRounds, RisesAt, is_of_text};
+ghost use Rattle.gd_top.specs.Ends.{may_tell};
+ghost use Rattle.gd_top.specs.Follows.{LeavesNodeAt, PrintsNode};
 ghost use Rattle.gd_top.specs.Held.{BeginsWith, EndsWith, MayMeanAt, DoesMean, IsSoundAt, told_at};
 ghost use Rattle.gd_top.specs.Kept.{Keeps, StaysAt};
 ghost use Rattle.gd_top.specs.Replays.{is_told_at, LeavesAt, PrintsEvents};
+ghost use Rattle.gd_top.specs.Restores.{LeavesBatchesAt, RestoresText};
 ghost use Rattle.gd_top.specs.Serves.{PrintsLines};
 
 use crate::opening::run;
@@ -102,14 +107,68 @@ pub fn graphd<
         (F.images shelf.new) (path_of words.now))
         (S.left source.old) (K.held sink.old) (K.held sink.new) }
 
-    // What follows here holds with every verb. A run that is done has read its input to the end.
-    ensures at_end { result ≡ Status.Done → IsAtEnd (S.left source.new) }
+    // Words that dump. What was printed is the text of the batches from the asked number on, of a
+    // list for which a file that is told stood; or a front of it, where the sink failed or there was
+    // no memory; or nothing, where the store has fewer, which the status tells.
+    ensures dumps { (from : ℕ) → verb_of words.now ≡ Some (verb.dumps from) → PrintsDump result
+        (BeginsWith (F.content shelf.old) (path_of words.now))
+        (IsIdle source.old source.new sink.old sink.new
+        × StaysAt (F.content shelf.old) (F.content shelf.new) (F.images shelf.old)
+        (F.images shelf.new) (path_of words.now)) from (K.held sink.old) (K.held sink.new) }
+
+    // Words that restore. The batches of the text stand behind those of a list for which a file that
+    // is told stood, and the file is left so that it stands for all of these; or the first thing in
+    // the text that is refused is told, with the batches of the whole groups before it; or the run
+    // stopped, with a front of them in whole groups, and after a failure of the disk with a group of
+    // them in doubt.
+    ensures restores { verb_of words.now ≡ Some verb.restores → RestoresText result
+        (BeginsWith (F.content shelf.old) (path_of words.now))
+        (LeavesBatchesAt (F.content shelf.old) (F.images shelf.new) (path_of words.now))
+        (IsIdle source.old source.new sink.old sink.new
+        × StaysAt (F.content shelf.old) (F.content shelf.new) (F.images shelf.old)
+        (F.images shelf.new) (path_of words.now)) (S.left source.old) }
+
+    // Words that follow. What was printed is what the definitions answer to the lines, one after
+    // another, by a node over a list for which a file that is told stood; the file is left so that
+    // it stands for the node that they make, with or without the group in doubt, and the shelf
+    // counted at least as many faults as lines tell.
+    ensures follows { verb_of words.now ≡ Some verb.follows → PrintsNode result
+        (BeginsWith (F.content shelf.old) (path_of words.now))
+        (LeavesNodeAt (F.content shelf.old) (F.images shelf.new) (path_of words.now))
+        (RisesAt (path_of words.now) (F.faults shelf.old) (F.faults shelf.new))
+        (IsIdle source.old source.new sink.old sink.new
+        × StaysAt (F.content shelf.old) (F.content shelf.new) (F.images shelf.old)
+        (F.images shelf.new) (path_of words.now))
+        (S.left source.old) (K.held sink.old) (K.held sink.new) }
+
+    // Words that answer templates. What was printed is a line for each line of the input: its
+    // answer over a list for which a file that is told stood, or that there was no memory.
+    ensures answers { verb_of words.now ≡ Some verb.answers → PrintsAnswers result
+        (BeginsWith (F.content shelf.old) (path_of words.now))
+        (IsIdle source.old source.new sink.old sink.new
+        × StaysAt (F.content shelf.old) (F.content shelf.new) (F.images shelf.old)
+        (F.images shelf.new) (path_of words.now))
+        (S.left source.old) (K.held sink.old) (K.held sink.new) }
+
+    // What follows here holds with every verb. A run that is done has read its input to the end;
+    // one whose verb reads none leaves the source alone.
+    ensures at_end { (v : Verb) → verb_of words.now ≡ Some v → reads_input v ≡ true
+        → result ≡ Status.Done → IsAtEnd (S.left source.new) }
+    ensures no_input { (v : Verb) → verb_of words.now ≡ Some v → reads_input v ≡ false
+        → source.new ≡ source.old }
 
     // With Done all that was printed is sent on; a run of lines sends on what it prints round by
-    // round.
-    ensures sent { result ≡ Status.Done → K.sent sink.new ≡ true }
+    // round. One whose verb prints nothing leaves the sink alone.
+    ensures sent { (v : Verb) → verb_of words.now ≡ Some v → prints_output v ≡ true
+        → result ≡ Status.Done → K.sent sink.new ≡ true }
+    ensures no_output { (v : Verb) → verb_of words.now ≡ Some v → prints_output v ≡ false
+        → sink.new ≡ sink.old }
     ensures rounds_sent { verb_of words.now ≡ Some verb.serves
         → SendsRounds result K.sent sink.old sink.new }
+
+    // A status that speaks of the input, of the output or of a text comes only with a verb that has
+    // one.
+    ensures tells { (v : Verb) → verb_of words.now ≡ Some v → may_tell v result ≡ true }
 
     // Each fault has its cause; without a file the status tells no failure of the disk.
     ensures read_fault { result ≡ Status.ReadFault
@@ -146,14 +205,15 @@ pub fn graphd<
         (F.images shelf.old other) (F.images shelf.new other) }
 
     // With words of the grammar, no fault, a file that is told and stands for some batches or none
-    // at all, and input of a known length below 2^40, all is done but for want of memory.
+    // at all, and input of a known length below 2^40, all is done, or what was asked is refused for
+    // the text or the number that was given, but for want of memory.
     ensures complete { command_of words.now ≢ None
         → ¬ Rose (S.faults source.old) (S.faults source.new)
         → ¬ Rose (K.faults sink.old) (K.faults sink.new)
         → ¬ Rose (F.faults shelf.old) (F.faults shelf.new)
         → IsSoundAt (F.content shelf.old) (path_of words.now)
         → IsSomeAnd (S.left source.old) (λ input. length input < 2 ^ 40)
-        → (result ≡ Status.Done) ⊎ (result ≡ Status.Memory) }
+        → ((result ≡ Status.Done) ⊎ (result ≡ Status.Memory)) ⊎ (is_of_text result ≡ true) }
 {
     match command(alloc, words) {
         Ok(Some(command)) => run(rt, alloc, &command, source, sink, shelf, clock, gate),

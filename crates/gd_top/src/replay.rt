@@ -1,13 +1,14 @@
 //! The verb `replay`: a run of events over the store of a disk.
-ghost use Rattle.std.specs.Prelude.{◌≡◌, ◌≢◌, ◌^◌, true};
+ghost use Rattle.std.specs.Prelude.{◌≡◌, ◌^◌, true};
 ghost use Rattle.std.specs.Io.KnownBytes.{IsAtEnd};
 ghost use Rattle.std.specs.Option.{is_some};
 ghost use Rattle.gd_base.specs.Counts.{Rose, RoseBy};
 ghost use Rattle.gd_runs.specs.Owed.{MembersOf};
 ghost use Rattle.gd_input.specs.Taken.{TakesAtLeast};
+ghost use Rattle.gd_words.specs.Verbs.{replays};
 ghost use Rattle.gd_writer.specs.Parts.{Tells};
 ghost use Rattle.gd_replay.specs.Stops.{Leaves};
-ghost use Rattle.gd_top.specs.Ends.{IsIdle, Causes};
+ghost use Rattle.gd_top.specs.Ends.{IsIdle, Causes, may_tell};
 ghost use Rattle.gd_top.specs.Held.{Loads, MayMean, DoesMean};
 ghost use Rattle.gd_top.specs.Kept.{Keeps, StaysTold};
 ghost use Rattle.gd_top.specs.Replays.{PrintsEvents};
@@ -61,7 +62,7 @@ pub(crate) fn replay_over<R: Wait, D: Disk, S: Source, K: Sink, C: Clock + Drop>
         (Rose (K.faults sink.old) (K.faults sink.new)) (Rose (D.faults disk) (D.faults result.1))
         (TakesAtLeast (2 ^ 40) (S.left source.old) (S.left source.new) (S.given source.old)
         (S.given source.new)) (MayMean (D.content disk)) (DoesMean (D.content disk)) }
-    ensures used { result.0 ≢ Status.Usage }
+    ensures tells { may_tell replays result.0 ≡ true }
     ensures kept { Keeps (D.content disk) (D.content result.1) (D.images disk) (D.images result.1) }
 {
     let (end, disk, _clock) = run_events(rt, alloc, disk, source, sink, clock);

@@ -1,11 +1,12 @@
 //! The verb `serve`: lines are answered, round by round, over the store of a disk.
-ghost use Rattle.std.specs.Prelude.{◌≡◌, ◌≢◌, ◌≤◌, ◌^◌, true};
+ghost use Rattle.std.specs.Prelude.{◌≡◌, ◌≤◌, ◌^◌, true};
 ghost use Rattle.std.specs.Option.{is_some};
 ghost use Rattle.std.specs.Io.KnownBytes.{IsAtEnd};
 ghost use Rattle.gd_base.specs.Counts.{Rose, RoseBy};
 ghost use Rattle.gd_input.specs.Taken.{TakesAtLeast};
 ghost use Rattle.gd_threads.specs.Served.{state_at};
-ghost use Rattle.gd_top.specs.Ends.{IsIdle, Causes, SendsRounds};
+ghost use Rattle.gd_words.specs.Verbs.{serves};
+ghost use Rattle.gd_top.specs.Ends.{IsIdle, Causes, SendsRounds, may_tell};
 ghost use Rattle.gd_top.specs.Held.{Loads, Leaves, MayMean, DoesMean};
 ghost use Rattle.gd_top.specs.Kept.{Keeps, StaysTold};
 ghost use Rattle.gd_top.specs.Opened.{HoldsAs, IsAtStart};
@@ -53,7 +54,7 @@ fn serve_all<
         (Rose (K.faults sink.old) (K.faults sink.new)) ⊥
         (TakesAtLeast (2 ^ 40) (S.left source.old) (S.left source.new) (S.given source.old)
         (S.given source.new)) (λ _. ⊥) (λ _. ⊥) }
-    ensures used { result ≢ Status.Usage }
+    ensures tells { may_tell serves result ≡ true }
     ensures loaded { rounds.new.side.history.loaded ≡ rounds.old.side.history.loaded }
     ensures told { is_some (D.content rounds.new.side.log.disk)
         ≡ is_some (D.content rounds.old.side.log.disk) }
@@ -97,7 +98,7 @@ pub(crate) fn serve_over<
         (Rose (K.faults sink.old) (K.faults sink.new)) (Rose (D.faults disk) (D.faults result.1))
         (TakesAtLeast (2 ^ 40) (S.left source.old) (S.left source.new) (S.given source.old)
         (S.given source.new)) (MayMean (D.content disk)) (DoesMean (D.content disk)) }
-    ensures used { result.0 ≢ Status.Usage }
+    ensures tells { may_tell serves result.0 ≡ true }
     ensures kept { Keeps (D.content disk) (D.content result.1) (D.images disk) (D.images result.1) }
 {
     match Rounds::start(rt, alloc, disk, clock, pace.budget, pace.workers) {

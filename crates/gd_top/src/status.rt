@@ -1,8 +1,10 @@
 //! How a run ends.
 ghost use Rattle.std.specs.Prelude.{◌≡◌};
-ghost use Rattle.gd_top.specs.Stops.{status_of, status_of_shelf, status_of_store};
+ghost use Rattle.gd_top.specs.Stops.{status_of, status_of_answers, status_of_shelf};
+ghost use Rattle.gd_top.specs.Stops.{status_of_store};
 
 use crate::stop::Stop;
+use gd_answering::stop::Stop as AnswerStop;
 use gd_disk::shelf::ShelfFault;
 use gd_journal::fault::JournalFault;
 use std::fmt;
@@ -32,6 +34,15 @@ pub enum Status {
     /// 2^40 bytes of input were taken. The lines of all whole rounds in them were answered, and no
     /// other.
     TooMuch,
+    /// The text is no dump: so many of its bytes, and no more, begin one. The batches of the whole
+    /// groups before that were stored.
+    BadDump { offset: u64 },
+    /// A dump was asked for from a batch that the store, which has fewer, does not have; or the
+    /// text is one from another batch than the next one of the store. Nothing was stored.
+    DumpFrom { asked: u32, have: u32 },
+    /// A batch of the text, so many behind the first of the store, may not stand there. The batches
+    /// of the whole groups before it were stored.
+    Unfit { batch: u32 },
 }
 
 impl Status {
@@ -44,6 +55,18 @@ impl Status {
             Stop::SinkFault => Status::SinkFault,
             Stop::Memory => Status::Memory,
             Stop::TooMuch => Status::TooMuch,
+        }
+    }
+
+    /// The status of a run that stopped while it answered lines.
+    pub fn of_answers(stop: AnswerStop) -> Status
+        ensures { result ≡ status_of_answers stop }
+    {
+        match stop {
+            AnswerStop::ReadFault => Status::ReadFault,
+            AnswerStop::SinkFault => Status::SinkFault,
+            AnswerStop::Memory => Status::Memory,
+            AnswerStop::TooMuch => Status::TooMuch,
         }
     }
 
@@ -81,10 +104,13 @@ impl Status {
             Status::Damaged { offset: _ } => 7,
             Status::Memory => 8,
             Status::TooMuch => 10,
+            Status::BadDump { offset: _ } => 11,
+            Status::DumpFrom { asked: _, have: _ } => 12,
+            Status::Unfit { batch: _ } => 13,
         }
     }
 
-    /// What the program says of it; behind that of a damaged file stands an offset.
+    /// What the program says of it; numbers stand behind or within some of these.
     fn text(self) -> &'static str {
         match self {
             Status::Done => "done",
@@ -96,6 +122,9 @@ impl Status {
             Status::Damaged { offset: _ } => "damaged",
             Status::Memory => "out of memory",
             Status::TooMuch => "too much input",
+            Status::BadDump { offset: _ } => "bad dump",
+            Status::DumpFrom { asked: _, have: _ } => "dump starts elsewhere",
+            Status::Unfit { batch: _ } => "a batch does not fit",
         }
     }
 }
@@ -105,6 +134,11 @@ impl fmt::Display for Status {
     fn fmt<W: fmt::Write>(&self, f: &mut fmt::Formatter<W>) -> fmt::Result {
         match self {
             Status::Damaged { offset } => write!(f, "damaged at {offset}"),
+            Status::BadDump { offset } => write!(f, "bad dump at {offset}"),
+            Status::DumpFrom { asked, have } => {
+                write!(f, "dump starts at {asked}, store has {have}")
+            }
+            Status::Unfit { batch } => write!(f, "batch {batch} does not fit"),
             other => f.write_str(other.text()),
         }
     }

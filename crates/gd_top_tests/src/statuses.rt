@@ -3,7 +3,7 @@
 use gd_top::status::Status;
 use std::alloc::Global;
 
-static STATUSES: [(Status, u8, &str); 9] = [
+static STATUSES: [(Status, u8, &str); 12] = [
     (Status::Done, 0, "done"),
     (Status::Usage, 2, "usage: graphd VERB [--NAME VALUE]"),
     (Status::ReadFault, 3, "input failed"),
@@ -13,6 +13,13 @@ static STATUSES: [(Status, u8, &str); 9] = [
     (Status::Damaged { offset: 8 }, 7, "damaged at 8"),
     (Status::Memory, 8, "out of memory"),
     (Status::TooMuch, 10, "too much input"),
+    (Status::BadDump { offset: 12 }, 11, "bad dump at 12"),
+    (
+        Status::DumpFrom { asked: 0, have: 1 },
+        12,
+        "dump starts at 0, store has 1",
+    ),
+    (Status::Unfit { batch: 3 }, 13, "batch 3 does not fit"),
 ];
 
 /// Whether a status has this code and prints this text.

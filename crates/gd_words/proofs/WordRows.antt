@@ -20,7 +20,7 @@ pub no_path : command_of (codes "serve" ∷ codes "--file=" ∷ []) ≡ None
 unfolding command_of options_of settings option_of
 no_path = refl
 
-pub other_verb : command_of (codes "dump" ∷ codes "--file" ∷ codes "a" ∷ []) ≡ None
+pub other_verb : command_of (codes "load" ∷ codes "--file" ∷ codes "a" ∷ []) ≡ None
 unfolding command_of
 other_verb = refl
 
@@ -45,3 +45,29 @@ replayed = refl
 pub replayed_in_file : command_of (codes "replay" ∷ codes "--file" ∷ codes "a" ∷ []) ≡ Some (command.Replay (record { file = Some (codes "a") }))
 unfolding command_of options_of settings option_of
 replayed_in_file = refl
+
+-- a dump of an unknown batch number, and one from a batch on
+pub dumped_behind_all : command_of (codes "dump" ∷ codes "--from" ∷ codes "4194304" ∷ []) ≡ None
+unfolding command_of options_of settings option_of
+dumped_behind_all = refl
+
+pub dumped : command_of (codes "dump" ∷ codes "--from=7" ∷ codes "--file" ∷ codes "a" ∷ []) ≡ Some (command.Dump (record { file = Some (codes "a"); from = 7 }))
+unfolding command_of options_of settings option_of
+dumped = refl
+
+pub restored : command_of (codes "restore" ∷ codes "--file=a" ∷ []) ≡ Some (command.Restore (record { file = Some (codes "a") }))
+unfolding command_of options_of settings option_of
+restored = refl
+
+pub followed : command_of (codes "follow" ∷ []) ≡ Some (command.Follow (record { file = None }))
+unfolding command_of options_of settings option_of
+followed = refl
+
+pub answered : command_of (codes "templates" ∷ []) ≡ Some (command.Templates (record { file = None }))
+unfolding command_of options_of settings option_of
+answered = refl
+
+-- a verb that is none of them
+pub no_verb : command_of (codes "gen" ∷ []) ≡ None
+unfolding command_of
+no_verb = refl

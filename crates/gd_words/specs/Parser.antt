@@ -16,8 +16,12 @@ bare = record {
 
 -- the options that the parser knows: those of all verbs
 abbrev pub parser_options : Names
-parser_options = codes "file" ∷ codes "workers" ∷ codes "budget" ∷ []
+parser_options = codes "file" ∷ codes "workers" ∷ codes "budget" ∷ codes "from" ∷ []
+
+-- with the options of `serve`
+abbrev pub serving : App
+serving = with_rule (with_rule (with_rule bare (long_rule (codes "file"))) (long_rule (codes "workers"))) (long_rule (codes "budget"))
 
 -- the parser of the options, whatever the verb
 abbrev pub parser : App
-parser = with_rule (with_rule (with_rule bare (long_rule (codes "file"))) (long_rule (codes "workers"))) (long_rule (codes "budget"))
+parser = with_rule serving (long_rule (codes "from"))

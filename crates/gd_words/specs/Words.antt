@@ -7,7 +7,8 @@ use Rattle.std.specs.Str.Parse.{digits_value}
 use Rattle.gd_words.specs.declared.verbs.Command.{Command}
 use Rattle.gd_words.specs.declared.verbs.Command.TheVariants as command
 use Rattle.gd_words.specs.declared.verbs.Serve.{Serve}
-use Rattle.gd_words.specs.declared.verbs.Replay.{Replay}
+use Rattle.gd_words.specs.declared.verbs.Place.{Place}
+use Rattle.gd_words.specs.declared.verbs.Dump.{Dump}
 use Rattle.gd_words.specs.Options.{Names, Setting, value_of, options_of}
 
 -- 1 to 10 digits, without a sign
@@ -35,17 +36,36 @@ serve_of given = option_and_then (λ workers. option_map (λ budget. record {
   budget = budget;
 }) (number_or 10000 1 1000000 (value_of (codes "budget") given))) (number_or 4 1 16 (value_of (codes "workers") given))
 
--- the options of `replay`
-abbrev pub replay_options : Names
-replay_options = codes "file" ∷ []
+-- the options of a verb that asks for the place of its store alone
+abbrev pub place_options : Names
+place_options = codes "file" ∷ []
 
--- `replay` with these settings
-abbrev pub replay_of : List Setting → Replay
-replay_of given = record { file = value_of (codes "file") given }
+-- the place with these settings
+abbrev pub place_of : List Setting → Place
+place_of given = record { file = value_of (codes "file") given }
 
--- the command that words give: a verb, `serve` or `replay`, and then its options
+-- the place that words spell
+abbrev pub place_in : List (List ℕ) → Option Place
+place_in words = option_map place_of (options_of place_options words)
+
+-- the options of `dump`
+abbrev pub dump_options : Names
+dump_options = codes "file" ∷ codes "from" ∷ []
+
+-- `dump` with these settings: from a batch of 0 to 4,194,303 on, else from 0
+abbrev pub dump_of : List Setting → Option Dump
+dump_of given = option_map (λ from. record {
+  file = value_of (codes "file") given;
+  from = from;
+}) (number_or 0 0 4194303 (value_of (codes "from") given))
+
+-- the command that words give: a verb, and then its options
 unfoldable pub command_of : List (List ℕ) → Option Command
 command_of [] = None
 command_of (verb ∷ words) = if bytes_eq verb (codes "serve")
     then option_map (λ serve. command.Serve serve) (option_and_then serve_of (options_of serve_options words))
-    else (if bytes_eq verb (codes "replay") then option_map (λ given. command.Replay (replay_of given)) (options_of replay_options words) else None)
+    else (if bytes_eq verb (codes "replay") then option_map (λ place. command.Replay place) (place_in words)
+    else (if bytes_eq verb (codes "dump") then option_map (λ dump. command.Dump dump) (option_and_then dump_of (options_of dump_options words))
+    else (if bytes_eq verb (codes "restore") then option_map (λ place. command.Restore place) (place_in words)
+    else (if bytes_eq verb (codes "follow") then option_map (λ place. command.Follow place) (place_in words)
+    else (if bytes_eq verb (codes "templates") then option_map (λ place. command.Templates place) (place_in words) else None)))))

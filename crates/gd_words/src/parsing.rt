@@ -4,7 +4,8 @@ ghost use Rattle.std.specs.Prelude.{IsTrue, is_some};
 ghost use Rattle.std.specs.List.{list_all};
 ghost use Rattle.clap.specs.Words.{app_of, with_rule};
 ghost use Rattle.gd_words.specs.Options.{Setting, is_name, options_of, value_of};
-ghost use Rattle.gd_words.specs.Parser.{long_rule, parser_options, parser as parser_app};
+ghost use Rattle.gd_words.specs.Parser.{long_rule, parser_options, serving as serving_app};
+ghost use Rattle.gd_words.specs.Parser.{parser as parser_app};
 
 use crate::grammar::are_options;
 use clap::error::ErrorKind;
@@ -18,6 +19,7 @@ pub struct Values<'a> {
     pub file: Option<&'a str>,
     pub workers: Option<&'a str>,
     pub budget: Option<&'a str>,
+    pub from: Option<&'a str>,
 }
 
 /// The parser with one more option.
@@ -32,9 +34,9 @@ fn with_option<'a>(
     parser.arg(Arg::new(alloc, name).long(name))
 }
 
-/// The parser of the options of all verbs.
-fn parser<'a>(alloc: Global) -> Result<Command<'a>, AllocError>
-    ensures { IfOk result (λ c. app_of c ≡ parser_app) }
+/// The parser of the options of `serve`.
+fn serving<'a>(alloc: Global) -> Result<Command<'a>, AllocError>
+    ensures { IfOk result (λ c. app_of c ≡ serving_app) }
 {
     let bare = Command::new(alloc, "serve")
         .no_binary_name(true)
@@ -43,6 +45,14 @@ fn parser<'a>(alloc: Global) -> Result<Command<'a>, AllocError>
     let with_file = with_option(alloc, bare, "file")?;
     let with_workers = with_option(alloc, with_file, "workers")?;
     with_option(alloc, with_workers, "budget")
+}
+
+/// The parser of the options of all verbs.
+fn parser<'a>(alloc: Global) -> Result<Command<'a>, AllocError>
+    ensures { IfOk result (λ c. app_of c ≡ parser_app) }
+{
+    let with_budget = serving(alloc)?;
+    with_option(alloc, with_budget, "from")
 }
 
 /// The values of the options with these names that the words spell, each at most once. The names
@@ -59,7 +69,8 @@ pub fn values_of<'a>(
         → options_of (map (λ n. n.now) names.now) (map (λ w. w.now) words.entry.now) ≡ Some given
         → (option_map (λ t. t.now) v.file ≡ value_of (codes "file") given)
         × (option_map (λ t. t.now) v.workers ≡ value_of (codes "workers") given)
-        × (option_map (λ t. t.now) v.budget ≡ value_of (codes "budget") given))) }
+        × (option_map (λ t. t.now) v.budget ≡ value_of (codes "budget") given)
+        × (option_map (λ t. t.now) v.from ≡ value_of (codes "from") given))) }
 {
     if !are_options(names, words) {
         return Ok(None);
@@ -69,6 +80,7 @@ pub fn values_of<'a>(
             file: matches.get_str("file"),
             workers: matches.get_str("workers"),
             budget: matches.get_str("budget"),
+            from: matches.get_str("from"),
         })),
         Err(error) => match error.kind() {
             ErrorKind::OutOfMemory => Err(Memory),

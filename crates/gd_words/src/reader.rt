@@ -2,12 +2,12 @@
 ghost use Rattle.std.specs.Prelude.{◌≡◌, ◌≤◌, ℕ, List, map, option_and_then, length, IfOk, IfSome};
 ghost use Rattle.std.specs.Prelude.{option_map, All};
 ghost use Rattle.gd_words.specs.Options.{options_of};
-ghost use Rattle.gd_words.specs.Words.{serve_options, serve_of, replay_options, replay_of};
-ghost use Rattle.gd_words.specs.Words.{command_of};
+ghost use Rattle.gd_words.specs.Words.{serve_options, serve_of, dump_options, dump_of};
+ghost use Rattle.gd_words.specs.Words.{place_options, place_in, command_of};
 
 use crate::number::number_or;
 use crate::parsing::values_of;
-use crate::verbs::{Command, Replay, Serve};
+use crate::verbs::{Command, Dump, Place, Serve};
 use gd_base::memory::Memory;
 use gd_base::text::Text;
 use std::alloc::Global;
@@ -19,6 +19,8 @@ const MOST_WORKERS: u32 = 16;
 const BUDGET: u32 = 10_000;
 
 const MOST_BUDGET: u32 = 1_000_000;
+
+const MOST_FROM: u32 = 4_194_303;
 
 /// The words as strings.
 fn strings<'a>(alloc: Global, words: &'a [Text]) -> Result<Vec<&'a str>, Memory>
@@ -32,10 +34,11 @@ fn strings<'a>(alloc: Global, words: &'a [Text]) -> Result<Vec<&'a str>, Memory>
     Ok(strings)
 }
 
-/// The command that the words after the program's name give: the verb `serve`, then `--file PATH`,
-/// `--workers N` (1 to 16, else 4) and `--budget N` (1 to 1,000,000, else 10,000), or the verb
-/// `replay`, then `--file PATH`; the options in any order, each at most once, as `--name value` or
-/// `--name=value`. A value is not empty, and as a word of its own does not begin with `-`; a number
+/// The command that the words after the program's name give: a verb, and then its options in any
+/// order, each at most once, as `--name value` or `--name=value`. Each verb has `--file PATH`;
+/// `serve` has also `--workers N` (1 to 16, else 4) and `--budget N` (1 to 1,000,000, else 10,000),
+/// `dump` also `--from N` (0 to 4,194,303, else 0); `replay`, `restore`, `follow` and `templates`
+/// have no other. A value is not empty, and as a word of its own does not begin with `-`; a number
 /// is 1 to 10 digits. None: the words are not of this grammar. `Memory`: an allocation was refused.
 #[tactic(auto, unfolding(crate::specs::Words::command_of))]
 pub fn command(alloc: Global, words: &[Text]) -> Result<Option<Command>, Memory>
@@ -46,14 +49,12 @@ pub fn command(alloc: Global, words: &[Text]) -> Result<Option<Command>, Memory>
     };
     let options = strings(alloc, options)?;
     match verb.as_str() {
-        "serve" => match serve(alloc, &options)? {
-            Some(serve) => Ok(Some(Command::Serve(serve))),
-            None => Ok(None),
-        },
-        "replay" => match replay(alloc, &options)? {
-            Some(replay) => Ok(Some(Command::Replay(replay))),
-            None => Ok(None),
-        },
+        "serve" => Ok(serve(alloc, &options)?.map(Command::Serve)),
+        "replay" => Ok(place(alloc, &options)?.map(Command::Replay)),
+        "dump" => Ok(dump(alloc, &options)?.map(Command::Dump)),
+        "restore" => Ok(place(alloc, &options)?.map(Command::Restore)),
+        "follow" => Ok(place(alloc, &options)?.map(Command::Follow)),
+        "templates" => Ok(place(alloc, &options)?.map(Command::Templates)),
         _ => Ok(None),
     }
 }
@@ -89,25 +90,48 @@ fn serve(alloc: Global, words: &[&str]) -> Result<Option<Serve>, Memory>
     }))
 }
 
-/// The options of `replay`.
-fn replay_names() -> [&'static str; 1]
-    ensures { map (λ n. n.now) result ≡ replay_options }
+/// The options of `dump`.
+fn dump_names() -> [&'static str; 2]
+    ensures { map (λ n. n.now) result ≡ dump_options }
+{
+    ["file", "from"]
+}
+
+/// `dump` with the options that the words spell.
+fn dump(alloc: Global, words: &[&str]) -> Result<Option<Dump>, Memory>
+    requires { All (λ w. length w.now ≤ 4096) words.now }
+    ensures { IfOk result (λ dump. dump ≡ option_and_then dump_of
+        (options_of dump_options (map (λ w. w.now) words.now))) }
+{
+    let names = dump_names();
+    let Some(values) = values_of(alloc, &names, words)? else {
+        return Ok(None);
+    };
+    let Some(from) = number_or(0, 0, MOST_FROM, values.from) else {
+        return Ok(None);
+    };
+    let file = file_of(alloc, values.file)?;
+    Ok(Some(Dump { file, from }))
+}
+
+/// The options of a verb that asks for the place of its store alone.
+fn place_names() -> [&'static str; 1]
+    ensures { map (λ n. n.now) result ≡ place_options }
 {
     ["file"]
 }
 
-/// `replay` with the options that the words spell.
-fn replay(alloc: Global, words: &[&str]) -> Result<Option<Replay>, Memory>
+/// The place with the options that the words spell.
+fn place(alloc: Global, words: &[&str]) -> Result<Option<Place>, Memory>
     requires { All (λ w. length w.now ≤ 4096) words.now }
-    ensures { IfOk result (λ replay. replay
-        ≡ option_map replay_of (options_of replay_options (map (λ w. w.now) words.now))) }
+    ensures { IfOk result (λ place. place ≡ place_in (map (λ w. w.now) words.now)) }
 {
-    let names = replay_names();
+    let names = place_names();
     let Some(values) = values_of(alloc, &names, words)? else {
         return Ok(None);
     };
     let file = file_of(alloc, values.file)?;
-    Ok(Some(Replay { file }))
+    Ok(Some(Place { file }))
 }
 
 /// The path of the file, if it is given.

@@ -15,18 +15,35 @@ pub struct Serve {
     pub budget: u32,
 }
 
-/// Replay a run of events, on one thread.
+/// Where a verb finds its store, which is all that it asks for.
 #[derive(Debug, PartialEq, Eq, Drop)]
-pub struct Replay {
+pub struct Place {
     /// The path of the file that keeps the store, of 1 to 4,096 bytes. None: it is kept in memory.
     pub file: Option<Text>,
+}
+
+/// Write the batches of a store as a text.
+#[derive(Debug, PartialEq, Eq, Drop)]
+pub struct Dump {
+    /// The path of the file that keeps the store, of 1 to 4,096 bytes. None: it is kept in memory.
+    pub file: Option<Text>,
+    /// The number of the first batch that is written, 0 to 4,194,303.
+    pub from: u32,
 }
 
 /// A verb with its options.
 #[derive(Debug, PartialEq, Eq, Drop)]
 pub enum Command {
     Serve(Serve),
-    Replay(Replay),
+    /// Replay a run of events, on one thread.
+    Replay(Place),
+    Dump(Dump),
+    /// Read a text of batches, and store them behind those of the store.
+    Restore(Place),
+    /// Run a node that follows another, on one thread.
+    Follow(Place),
+    /// Answer templates, a line each.
+    Templates(Place),
 }
 
 impl Command {
@@ -36,7 +53,11 @@ impl Command {
     {
         match self {
             Command::Serve(serve) => serve.file.as_ref(),
-            Command::Replay(replay) => replay.file.as_ref(),
+            Command::Replay(place) => place.file.as_ref(),
+            Command::Dump(dump) => dump.file.as_ref(),
+            Command::Restore(place) => place.file.as_ref(),
+            Command::Follow(place) => place.file.as_ref(),
+            Command::Templates(place) => place.file.as_ref(),
         }
     }
 }

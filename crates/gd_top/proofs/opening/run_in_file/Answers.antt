@@ -5,6 +5,7 @@ use Rattle.gd_top.specs.Ends.{IsIdle}
 use Rattle.gd_top.specs.Kept.{StaysTold}
 use Rattle.gd_top.proofs.Framed.{printed_weaker, printed_at, printed_refused}
 use Rattle.gd_top.proofs.Kept.{keeps_nothing, keeps_shelved, stays_same, stays_shelved}
+use Rattle.gd_top.proofs.Caused.{shelf_tells}
 use Rattle.gd_top.proofs.Weaker.{causes_same, rose_added, rose_device}
 use Rattle.gd_top.proofs.opening.run_in_file.Goals as goal
 
@@ -83,3 +84,6 @@ returns-in-Err-clause-kept g c =
     let f = g.F.Shelf in
     keeps_nothing (f.content c.args.shelf.now c.args.path.now) (f.content c.open_at.new.self c.args.path.now) (f.images c.args.shelf.now c.args.path.now) (f.images c.open_at.new.self c.args.path.now)
     c.in-Err.ensures.refused.content c.in-Err.ensures.refused.fewer
+
+pub returns-in-Err-clause-tells : goal.returns-in-Err-clause-tells
+returns-in-Err-clause-tells g c = rw c.of_shelf.ensures (shelf_tells (verb_in c.args.command.now) c.in-Err.fault)

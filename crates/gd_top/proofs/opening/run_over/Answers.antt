@@ -1,16 +1,129 @@
-use Rattle.std.proofs.Common.{◌≡◌, ◌∙◌, ap, sym}
+use Rattle.std.proofs.Common.{◌≡◌, ◌∙◌, ap, sym, true, false, refl}
 use Rattle.gd_words.specs.declared.verbs.Command.{Command}
-use Rattle.gd_words.specs.Verbs.{serves, replays, verb_in}
+use Rattle.gd_words.specs.Verbs.{serves, replays, dumps, restores, follows, answers, verb_in, reads_input, prints_output}
+use Rattle.gd_top.specs.Held.{Loads}
+use Rattle.gd_top.specs.Restores.{LeavesBatches}
+use Rattle.gd_top.proofs.Caused.{causes_weaker}
+use Rattle.gd_top.proofs.Dumped.{dump_weaker}
+use Rattle.gd_top.proofs.Restored.{restores_weaker}
 use Rattle.gd_top.proofs.opening.run_over.Goals as goal
+
+-- ---- serve
 
 pub returns-in-Serve-clause-prints : goal.returns-in-Serve-clause-prints
 returns-in-Serve-clause-prints g c = rw c.in-Serve.is c.serve_over.ensures.prints
 
-pub returns-in-Replay-clause-prints : goal.returns-in-Replay-clause-prints
-returns-in-Replay-clause-prints g c = rw c.in-Replay.is c.replay_over.ensures.prints
-
 pub returns-in-Serve-clause-rounds_sent : goal.returns-in-Serve-clause-rounds_sent
 returns-in-Serve-clause-rounds_sent g c is = c.serve_over.ensures.rounds_sent
 
+pub returns-in-Serve-clause-no_input : goal.returns-in-Serve-clause-no_input
+returns-in-Serve-clause-no_input g c is = let other : true ≡ false = sym (ap (λ (command : Command). reads_input (verb_in command)) c.in-Serve.is) ∙ is in absurd (cc)
+
+pub returns-in-Serve-clause-no_output : goal.returns-in-Serve-clause-no_output
+returns-in-Serve-clause-no_output g c is = let other : true ≡ false = sym (ap (λ (command : Command). prints_output (verb_in command)) c.in-Serve.is) ∙ is in absurd (cc)
+
+pub returns-in-Serve-clause-tells : goal.returns-in-Serve-clause-tells
+returns-in-Serve-clause-tells g c = rw c.in-Serve.is c.serve_over.ensures.tells
+
+-- ---- replay
+
+pub returns-in-Replay-clause-prints : goal.returns-in-Replay-clause-prints
+returns-in-Replay-clause-prints g c = rw c.in-Replay.is c.replay_over.ensures.prints
+
 pub returns-in-Replay-clause-rounds_sent : goal.returns-in-Replay-clause-rounds_sent
 returns-in-Replay-clause-rounds_sent g c is = let other : replays ≡ serves = sym (ap (λ (command : Command). verb_in command) c.in-Replay.is) ∙ is in absurd (cc)
+
+pub returns-in-Replay-clause-no_input : goal.returns-in-Replay-clause-no_input
+returns-in-Replay-clause-no_input g c is = let other : true ≡ false = sym (ap (λ (command : Command). reads_input (verb_in command)) c.in-Replay.is) ∙ is in absurd (cc)
+
+pub returns-in-Replay-clause-no_output : goal.returns-in-Replay-clause-no_output
+returns-in-Replay-clause-no_output g c is = let other : true ≡ false = sym (ap (λ (command : Command). prints_output (verb_in command)) c.in-Replay.is) ∙ is in absurd (cc)
+
+pub returns-in-Replay-clause-tells : goal.returns-in-Replay-clause-tells
+returns-in-Replay-clause-tells g c = rw c.in-Replay.is c.replay_over.ensures.tells
+
+-- ---- dump
+
+pub returns-in-Dump-clause-prints : goal.returns-in-Dump-clause-prints
+returns-in-Dump-clause-prints g c =
+    let d = g.D.Disk in
+    let run = c.dump_over in
+    rw c.in-Dump.is
+    (dump_weaker (Loads (d.content c.args.disk)) (Loads (d.content c.args.disk)) (λ loaded begun. begun) c.in-Dump.dump.from (g.K.Sink.held c.args.sink.now) (g.K.Sink.held run.new.sink) run.result.0 _ _
+    (λ still. (record { source = refl; sink = still.0 }, still.1)) run.ensures.prints)
+
+pub returns-in-Dump-clause-causes : goal.returns-in-Dump-clause-causes
+returns-in-Dump-clause-causes g c = causes_weaker c.dump_over.result.0 _ _ _ _ _ _ _ _ _ _ (λ none. absurd none) (λ sink. sink) (λ disk. disk) (λ none. absurd none) c.dump_over.ensures.causes
+
+pub returns-in-Dump-clause-at_end : goal.returns-in-Dump-clause-at_end
+returns-in-Dump-clause-at_end g c is done = let other : false ≡ true = sym (ap (λ (command : Command). reads_input (verb_in command)) c.in-Dump.is) ∙ is in absurd (cc)
+
+pub returns-in-Dump-clause-no_output : goal.returns-in-Dump-clause-no_output
+returns-in-Dump-clause-no_output g c is = let other : true ≡ false = sym (ap (λ (command : Command). prints_output (verb_in command)) c.in-Dump.is) ∙ is in absurd (cc)
+
+pub returns-in-Dump-clause-rounds_sent : goal.returns-in-Dump-clause-rounds_sent
+returns-in-Dump-clause-rounds_sent g c is = let other : dumps c.in-Dump.dump.from ≡ serves = sym (ap (λ (command : Command). verb_in command) c.in-Dump.is) ∙ is in absurd (cc)
+
+pub returns-in-Dump-clause-tells : goal.returns-in-Dump-clause-tells
+returns-in-Dump-clause-tells g c = rw c.in-Dump.is c.dump_over.ensures.tells
+
+-- ---- restore
+
+pub returns-in-Restore-clause-prints : goal.returns-in-Restore-clause-prints
+returns-in-Restore-clause-prints g c =
+    let d = g.D.Disk in
+    let run = c.restore_over in
+    let told = d.content c.args.disk in
+    let leaves = LeavesBatches told (d.images run.result.1) in
+    rw c.in-Restore.is
+    (restores_weaker (Loads told) (Loads told) leaves leaves (λ loaded begun. begun) (λ after groups left. left) run.result.0 _ _ (g.S.Source.left c.args.source.now)
+    (λ still. (record { source = still.0; sink = refl }, still.1)) run.ensures.comes)
+
+pub returns-in-Restore-clause-causes : goal.returns-in-Restore-clause-causes
+returns-in-Restore-clause-causes g c = causes_weaker c.restore_over.result.0 _ _ _ _ _ _ _ _ _ _ (λ read. read) (λ none. absurd none) (λ disk. disk) (λ long. long) c.restore_over.ensures.causes
+
+pub returns-in-Restore-clause-no_input : goal.returns-in-Restore-clause-no_input
+returns-in-Restore-clause-no_input g c is = let other : true ≡ false = sym (ap (λ (command : Command). reads_input (verb_in command)) c.in-Restore.is) ∙ is in absurd (cc)
+
+pub returns-in-Restore-clause-sent : goal.returns-in-Restore-clause-sent
+returns-in-Restore-clause-sent g c is done = let other : false ≡ true = sym (ap (λ (command : Command). prints_output (verb_in command)) c.in-Restore.is) ∙ is in absurd (cc)
+
+pub returns-in-Restore-clause-rounds_sent : goal.returns-in-Restore-clause-rounds_sent
+returns-in-Restore-clause-rounds_sent g c is = let other : restores ≡ serves = sym (ap (λ (command : Command). verb_in command) c.in-Restore.is) ∙ is in absurd (cc)
+
+pub returns-in-Restore-clause-tells : goal.returns-in-Restore-clause-tells
+returns-in-Restore-clause-tells g c = rw c.in-Restore.is c.restore_over.ensures.tells
+
+-- ---- templates
+
+pub returns-in-Templates-clause-prints : goal.returns-in-Templates-clause-prints
+returns-in-Templates-clause-prints g c = rw c.in-Templates.is c.templates_over.ensures.prints
+
+pub returns-in-Templates-clause-rounds_sent : goal.returns-in-Templates-clause-rounds_sent
+returns-in-Templates-clause-rounds_sent g c is = let other : answers ≡ serves = sym (ap (λ (command : Command). verb_in command) c.in-Templates.is) ∙ is in absurd (cc)
+
+pub returns-in-Templates-clause-no_input : goal.returns-in-Templates-clause-no_input
+returns-in-Templates-clause-no_input g c is = let other : true ≡ false = sym (ap (λ (command : Command). reads_input (verb_in command)) c.in-Templates.is) ∙ is in absurd (cc)
+
+pub returns-in-Templates-clause-no_output : goal.returns-in-Templates-clause-no_output
+returns-in-Templates-clause-no_output g c is = let other : true ≡ false = sym (ap (λ (command : Command). prints_output (verb_in command)) c.in-Templates.is) ∙ is in absurd (cc)
+
+pub returns-in-Templates-clause-tells : goal.returns-in-Templates-clause-tells
+returns-in-Templates-clause-tells g c = rw c.in-Templates.is c.templates_over.ensures.tells
+
+-- ---- follow
+
+pub returns-in-Follow-clause-prints : goal.returns-in-Follow-clause-prints
+returns-in-Follow-clause-prints g c = rw c.in-Follow.is c.follow_over.ensures.prints
+
+pub returns-in-Follow-clause-rounds_sent : goal.returns-in-Follow-clause-rounds_sent
+returns-in-Follow-clause-rounds_sent g c is = let other : follows ≡ serves = sym (ap (λ (command : Command). verb_in command) c.in-Follow.is) ∙ is in absurd (cc)
+
+pub returns-in-Follow-clause-no_input : goal.returns-in-Follow-clause-no_input
+returns-in-Follow-clause-no_input g c is = let other : true ≡ false = sym (ap (λ (command : Command). reads_input (verb_in command)) c.in-Follow.is) ∙ is in absurd (cc)
+
+pub returns-in-Follow-clause-no_output : goal.returns-in-Follow-clause-no_output
+returns-in-Follow-clause-no_output g c is = let other : true ≡ false = sym (ap (λ (command : Command). prints_output (verb_in command)) c.in-Follow.is) ∙ is in absurd (cc)
+
+pub returns-in-Follow-clause-tells : goal.returns-in-Follow-clause-tells
+returns-in-Follow-clause-tells g c = rw c.in-Follow.is c.follow_over.ensures.tells

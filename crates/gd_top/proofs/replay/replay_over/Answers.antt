@@ -9,7 +9,7 @@ use Rattle.gd_replay.specs.Stops.{Leaves}
 use Rattle.gd_top.specs.Ends.{IsIdle}
 use Rattle.gd_top.specs.Held.{Loads}
 use Rattle.gd_top.specs.Kept.{StaysTold}
-use Rattle.gd_top.proofs.Replayed.{events_print, ends_unbegun, idle_is, events_at_end, events_used, events_keep, events_causes, fewer_rose}
+use Rattle.gd_top.proofs.Replayed.{events_print, ends_unbegun, idle_is, events_at_end, events_tells, events_keep, events_causes, fewer_rose}
 use Rattle.gd_top.proofs.replay.replay_over.Goals as goal
 
 pub returns-clause-prints : goal.returns-clause-prints
@@ -34,8 +34,8 @@ returns-clause-causes g c =
     rw c.status_of.ensures
     (events_causes _ _ _ _ (HasBatches (d.content run.result.1) (d.images run.result.1)) (λ file. IsKept d.content d.moment d.images d.images_since file c.args.disk run.result.1) (d.content c.args.disk) run.result.0 run.ensures.caused run.ensures.kept)
 
-pub returns-clause-used : goal.returns-clause-used
-returns-clause-used g c = λ is. events_used c.replay-end.result.0 (sym c.status_of.ensures ∙ is)
+pub returns-clause-tells : goal.returns-clause-tells
+returns-clause-tells g c = rw c.status_of.ensures (events_tells c.replay-end.result.0)
 
 pub returns-clause-kept : goal.returns-clause-kept
 returns-clause-kept g c =

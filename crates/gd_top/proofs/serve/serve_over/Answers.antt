@@ -9,6 +9,8 @@ use Rattle.gd_top.specs.Opened.{HoldsAs}
 use Rattle.gd_top.specs.Serves.{PrintsLines}
 use Rattle.gd_top.proofs.Kept.{keeps_run, keeps_refused, stays_refused}
 use Rattle.gd_top.proofs.Framed.{refused_lines}
+use Rattle.gd_top.proofs.Caused.{refused_tells}
+use Rattle.gd_words.specs.Verbs.{serves}
 use Rattle.gd_top.proofs.Settled.{loads, leaves}
 use Rattle.gd_top.proofs.Weaker.{prints_weaker, rose_within}
 use Rattle.gd_top.proofs.serve.serve_over.Goals as goal
@@ -56,3 +58,6 @@ returns-in-Err-clause-prints g c =
 
 pub returns-in-Err-clause-kept : goal.returns-in-Err-clause-kept
 returns-in-Err-clause-kept g c = let d = g.D.Disk in keeps_refused d.content d.moment d.images d.images_since c.args.disk c.in-Err.disk c.in-Err.ensures.disk.kept
+
+pub returns-in-Err-clause-tells : goal.returns-in-Err-clause-tells
+returns-in-Err-clause-tells g c = rw c.of_store.ensures (refused_tells serves c.in-Err.fault)

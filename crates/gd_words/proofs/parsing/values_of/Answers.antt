@@ -24,6 +24,7 @@ returns-in-Ok-clause-values c = λ given e.
       c.get_str.ensures ∙ first_value-rows (found_of m) (codes "file") ∙ value (codes "file"),
       c.get_str-in-Ok.ensures ∙ first_value-rows (found_of m) (codes "workers") ∙ value (codes "workers"),
       c.get_str-in-Ok-2.ensures ∙ first_value-rows (found_of m) (codes "budget") ∙ value (codes "budget"),
+      c.get_str-in-Ok-3.ensures ∙ first_value-rows (found_of m) (codes "from") ∙ value (codes "from"),
     )
 
 pub unreachable-requires : goal.unreachable-requires
