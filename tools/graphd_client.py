@@ -91,6 +91,9 @@ STATUSES = {
     7: "the file is damaged",
     8: "there was no memory",
     10: "it was given too much input",
+    11: "its input is no dump",
+    12: "the dump starts at another batch than the store's next one",
+    13: "a batch of the dump may not stand there",
 }
 
 
