@@ -1,5 +1,4 @@
 pub mod Stops
-pub mod Texts
 mod Values
 mod Primitives
 mod Batches

@@ -2,9 +2,10 @@
 use Rattle.std.proofs.Common.{◌≡◌, ℕ, suc, ◌+◌, ◌-◌, ◌*◌, ◌<◌, List, ◌++◌, ◌∷◌, Result, Ok, Err, length, take, drop, refl, arith, subst, sym, ap}
 use Rattle.gd_grammar.specs.Chain.{◌>>=◌}
 use Rattle.gd_grammar.specs.Grammar.{Reads}
-use Rattle.gd_grammar.specs.Reading.{Range, Due, items_at, byte_if, number_goes_on, number_from, may_come, after, utf8_from}
-use Rattle.gd_grammar.proofs.Exact.{behind}
-use Rattle.gd_grammar.proofs.Utf8.{with_front}
+use Rattle.gd_grammar.specs.Reading.{Range, items_at, byte_if, number_goes_on, number_from}
+use Rattle.gd_utf8.specs.Utf8.{Due, may_come, after, utf8_from}
+use Rattle.gd_grammar.specs.Choice.{with_front}
+use Rattle.gd_grammar.specs.Choice.{with_front}
 use Rattle.gd_codec.specs.declared.stop.Stop.{Stop}
 use Rattle.gd_codec.specs.declared.stop.Stop.TheVariants.{Bad, Memory}
 use Rattle.gd_codec.specs.Stop.{Stopped}
@@ -23,11 +24,11 @@ pub after_ok : {A B : Type 0} (r : Reads A) (x : A × List ℕ) (f : A × List �
 after_ok r x f is = ap (λ (q : Reads _). q >>= f) is
 
 -- where an item stops, the items stop
-pub items_stop : {A : Type 0} (e : Stop) (one : List ℕ → Reads A) (count place : ℕ) (front : List A) (bytes : List ℕ) → place < count → Stopped e (one bytes) → Stopped e (behind front (items_at one (count - place) bytes))
+pub items_stop : {A : Type 0} (e : Stop) (one : List ℕ → Reads A) (count place : ℕ) (front : List A) (bytes : List ℕ) → place < count → Stopped e (one bytes) → Stopped e (with_front front (items_at one (count - place) bytes))
 items_stop e one count place front bytes more stopped =
     let n = count - 1 - place in
     let here : count - place ≡ suc (count - 1 - place) = omega (arith, more) in
-    subst (λ (k : ℕ). Stopped e (behind front (items_at one k bytes))) (sym here)
+    subst (λ (k : ℕ). Stopped e (with_front front (items_at one k bytes))) (sym here)
     (stopped_then e (items_at one (suc n) bytes) (λ x. Ok (front ++ x.0, x.1)) (stopped_then e (one bytes) (λ x. items_at one n x.1 >>= λ xs. Ok (x.0 ∷ xs.0, xs.1)) stopped))
 
 -- where a reader stops, and what is left there

@@ -14,11 +14,12 @@ use Rattle.gd_prim.specs.WellFormed.{is_moment}
 use Rattle.gd_grammar.specs.Grammar.{IsText}
 use Rattle.gd_grammar.proofs.Scans.{Then, Only}
 use Rattle.gd_bytes.specs.Group.{text_bytes, TextFits, reference_bytes, ReferenceFits, name_bytes, NameFits, value_bytes, ValueFits}
-use Rattle.gd_grammar.specs.Reading.{number_at, utf8_at, begins_number}
+use Rattle.gd_grammar.specs.Reading.{number_at, begins_number}
+use Rattle.gd_utf8.specs.Utf8.{utf8_at}
 use Rattle.gd_codec.specs.Groups.{up_to, moments, text_at, precision_from, moment_at, contents_at, value_at, reference_at, name_at}
 use Rattle.gd_grammar.proofs.Exact.{Sound, Sound-then, Sound-only, Sound-same, Sound-mapped, Mapped, mapped, join, Announced, Sound-announced}
 use Rattle.gd_grammar.proofs.Ranges.{InRange, Sound-range, Number, Exact-number}
-use Rattle.gd_grammar.proofs.Utf8.{Utf8, Exact-utf8, utf8_some}
+use Rattle.gd_utf8.proofs.Exact.{Utf8, Exact-utf8, utf8_some}
 
 -- ---- texts
 

@@ -10,7 +10,8 @@ use Rattle.gd_prim.specs.declared.Batch.{Batch}
 use Rattle.gd_prim.specs.WellFormed.{max_moment}
 use Rattle.gd_grammar.specs.Chain.{◌>>=◌}
 use Rattle.gd_grammar.specs.Grammar.{Reads, ended}
-use Rattle.gd_grammar.specs.Reading.{Range, number_at, utf8_at, items_at}
+use Rattle.gd_grammar.specs.Reading.{Range, number_at, items_at}
+use Rattle.gd_utf8.specs.Utf8.{utf8_at}
 
 -- the numbers up to this one
 abbrev pub up_to : ℕ → List Range

@@ -1,4 +1,3 @@
 pub mod Stop
 pub mod Groups
-pub mod Dues
 pub mod Writable

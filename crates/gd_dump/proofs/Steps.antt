@@ -10,10 +10,11 @@ use Rattle.std.proofs.lemmas.Bool.Decides.{nat_tests}
 use Rattle.gd_base.specs.Text.{text_of}
 use Rattle.gd_base.specs.declared.text.TextFault.{TextFault}
 use Rattle.gd_base.specs.declared.text.TextFault.TheVariants.{TooLong, NotUtf8}
-use Rattle.gd_grammar.specs.Reading.{Due, start, after}
-use Rattle.gd_grammar.proofs.Utf8.{with_front}
-use Rattle.gd_dump_laws.specs.Reading.{is_hex, is_next, pair_at, end_to, hex_from, hex_to}
+use Rattle.gd_utf8.specs.Utf8.{Due, start, after}
+use Rattle.gd_grammar.specs.Choice.{is_next, with_front}
+use Rattle.gd_dump_laws.specs.Reading.{is_hex, pair_at, end_to, hex_from, hex_to}
 use Rattle.gd_dump_laws.proofs.Hex.{text_fits}
+use Rattle.gd_grammar.proofs.Exact.{front_cons, front_none}
 use Rattle.gd_dump.specs.declared.stop.Stop.{Stop}
 use Rattle.gd_dump.specs.declared.stop.Stop.TheVariants.{Bad, Memory}
 use Rattle.gd_dump.specs.Stop.{Stopped}
@@ -58,10 +59,6 @@ word_first c cs (d ∷ ds) = by (c == d)
 abbrev goes_by : ℕ → Due → ℕ → List ℕ → Bool → Reads (List ℕ)
 goes_by n s mark rest b = if b then end_to mark rest else (pair_at n s rest >>= λ b. hex_from n (after s b.0) mark b.1 >>= λ t. Ok (b.0 ∷ t.0, t.1))
 
-front_cons : (front : List ℕ) (b : ℕ) (r : Reads (List ℕ)) → with_front front (r >>= λ t. Ok (b ∷ t.0, t.1)) ≡ with_front (front ++ b ∷ []) r
-front_cons front b (Ok (t, rest)) = ap (λ (x : List ℕ). Ok (x, rest)) (sym (append_assoc front (b ∷ []) t))
-front_cons front b (Err rest) = refl
-
 -- with room for more, by the test
 text_by : (at : ℕ) (s : Due) (mark : ℕ) (rest : List ℕ) (b : Bool) → at < 4096 → ((s.due == 0) && is_next mark rest) ≡ b → hex_from (4096 - at) s mark rest ≡ goes_by (4095 - at) s mark rest b
 text_by at s mark rest b more is =
@@ -91,27 +88,11 @@ text_stops e front at s mark rest whole more is stopped left =
     stopped_same e _ _ (ap (with_front front) (sym (text_by at s mark rest false more is)) ∙ left)
     (stopped_then e (goes_by (4095 - at) s mark rest false) (λ x. Ok (front ++ x.0, x.1)) (stopped_then e (pair_at (4095 - at) s rest) (λ b. hex_from (4095 - at) (after s b.0) mark b.1 >>= λ t. Ok (b.0 ∷ t.0, t.1)) stopped))
 
--- what was read is a text
-pub is_text : (mark : ℕ) (bytes t rest : List ℕ) → is_hex mark ≡ false → hex_to mark bytes ≡ Ok (t, rest) → text_of t ≡ Ok t
-is_text mark bytes t rest apart is = let (short, utf8) = text_fits mark apart bytes t rest is in fine t short utf8
-  where
-    text_by_tests : List ℕ → Bool → Bool → Result (List ℕ) TextFault
-    text_by_tests t a b = if a then Err TooLong else (if b then Ok t else Err (NotUtf8 (utf8_valid_len t)))
-
-    not_longer : (n : ℕ) → n ≤ 4096 → nat_lt 4096 n ≡ false
-    not_longer n h = grind (arith, nat_tests)
-
-    fine : (t : List ℕ) → length t ≤ 4096 → IsUtf8 t → text_of t ≡ Ok t
-    fine t short utf8 = ap (λ (b : Bool). text_by_tests t b (is_utf8 t)) (not_longer (length t) short) ∙ ap (λ (b : Bool). text_by_tests t false b) (is_utf8-from_IsUtf8 t utf8)
-
-pub no_fault : (t : List ℕ) (fault : TextFault) → text_of t ≡ Ok t → text_of t ≡ Err fault → ⊥
-no_fault t fault is other = cc
+-- what was read is UTF-8, and short
+pub text_is : (mark : ℕ) (bytes t rest : List ℕ) → is_hex mark ≡ false → hex_to mark bytes ≡ Ok (t, rest) → (length t ≤ 4096) × (is_utf8 t ≡ true)
+text_is mark bytes t rest apart is = let (short, utf8) = text_fits mark apart bytes t rest is in (short, is_utf8-from_IsUtf8 t utf8)
 
 -- nothing was read
-pub text_begun : (mark : ℕ) (bytes : List ℕ) → with_front [] (hex_from (4096 - 0) start mark bytes) ≡ hex_to mark bytes
+pub text_begun : (front : List ℕ) (s : Due) (mark : ℕ) (bytes : List ℕ) → front ≡ [] → s ≡ start → with_front front (hex_from (4096 - 0) s mark bytes) ≡ hex_to mark bytes
 unfolding hex_to
-text_begun mark bytes = alone (hex_from 4096 start mark bytes)
-  where
-    alone : (r : Reads (List ℕ)) → with_front [] r ≡ r
-    alone (Ok (t, rest)) = refl
-    alone (Err rest) = refl
+text_begun front s mark bytes none begun = (λ i. with_front (none i) (hex_from 4096 (begun i) mark bytes)) ∙ front_none (hex_from 4096 start mark bytes)

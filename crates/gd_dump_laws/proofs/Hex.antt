@@ -3,15 +3,17 @@ use Rattle.std.proofs.Common.{Ok, ◌≡◌, refl, ◌⊎◌, inl, inr, ℕ, zer
 use Rattle.std.specs.List.{list_any}
 use Rattle.std.proofs.lemmas.Bool.Decides.{nat_tests}
 use Rattle.gd_tree.specs.Hex.{hex_digit}
+use Rattle.gd_grammar.specs.Choice.{is_next}
 use Rattle.gd_grammar.specs.Grammar.{Reads, IsText, text_at}
-use Rattle.gd_grammar.specs.Reading.{Due, start, may_come, after, between, follow, least_after, most_after, byte_if}
+use Rattle.gd_grammar.specs.Reading.{between, byte_if}
+use Rattle.gd_utf8.specs.Utf8.{Due, start, may_come, after, follow, least_after, most_after}
 use Rattle.gd_grammar.proofs.Scans.{Then, chain, head_same}
 use Rattle.gd_grammar.proofs.Exact.{Exact, Exact-then, Exact-same, Exact-mapped, Exact-byte, OneByte, Some_text, Sound, Mapped, mapped}
-use Rattle.gd_grammar.proofs.Utf8Runs.{IsRun, run_of_utf8, utf8_of_run}
+use Rattle.gd_utf8.proofs.Runs.{IsRun, run_of_utf8, utf8_of_run}
 use Rattle.gd_grammar.proofs.Numbers.{Word, true_false}
 use Rattle.gd_dump_laws.proofs.Marks.{Exact-word, Exact-choice, Either}
 use Rattle.gd_dump_laws.specs.Dump.{byte_text, hex_text, TextFits}
-use Rattle.gd_dump_laws.specs.Reading.{choice, hex_digits, is_hex, hex_value, second_digit, first_digit, pair_at, is_next, end_to, hex_from, hex_to}
+use Rattle.gd_dump_laws.specs.Reading.{choice, hex_digits, is_hex, hex_value, second_digit, first_digit, pair_at, end_to, hex_from, hex_to}
 
 and_true : (x y : Bool) → (x && y) ≡ true → (x ≡ true) × (y ≡ true)
 and_true true y is = (refl, is)

@@ -8,8 +8,10 @@ use Rattle.gd_base.specs.declared.datum.Datum.TheVariants as datum
 use Rattle.gd_prim.specs.declared.Primitive.{Primitive}
 use Rattle.gd_prim.specs.WellFormed.{max_moment}
 use Rattle.gd_grammar.specs.Chain.{◌>>=◌}
+use Rattle.gd_grammar.specs.Choice.{is_next}
 use Rattle.gd_grammar.specs.Grammar.{Reads, text_at, number_at}
-use Rattle.gd_grammar.specs.Reading.{Due, start, may_come, after, between, byte_if}
+use Rattle.gd_grammar.specs.Reading.{between, byte_if}
+use Rattle.gd_utf8.specs.Utf8.{Due, start, may_come, after}
 
 -- reads by the one reader where the next byte passes the test, and else by the other
 abbrev pub choice : {A : Type 0} → (ℕ → Bool) → (List ℕ → Reads A) → (List ℕ → Reads A) → List ℕ → Reads A
@@ -73,11 +75,6 @@ first_digit n s c = list_any (second_digit n s c) hex_digits
 -- reads a byte of a text
 unfoldable pub pair_at : ℕ → Due → List ℕ → Reads ℕ
 pair_at n s bytes = byte_if (first_digit n s) bytes >>= λ c. byte_if (second_digit n s c.0) c.1 >>= λ d. Ok (16 * hex_value c.0 + hex_value d.0, d.1)
-
--- the next byte is this one
-abbrev pub is_next : ℕ → List ℕ → Bool
-is_next mark [] = false
-is_next mark (c ∷ cs) = c == mark
 
 -- reads the end of a text
 unfoldable pub end_to : ℕ → List ℕ → Reads (List ℕ)

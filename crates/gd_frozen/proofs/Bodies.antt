@@ -7,7 +7,7 @@ use Rattle.gd_bytes.specs.Frozen.{Body, scanning, Frozen, spelling, Fits, IsFroz
 use Rattle.gd_frozen.specs.declared.halt.Halt.{Halt}
 use Rattle.gd_frozen.specs.declared.halt.Halt.TheVariants as halt
 use Rattle.gd_frozen.specs.Halts.{Halts}
-use Rattle.gd_frozen.specs.Skipping.{next_is}
+use Rattle.gd_grammar.specs.Choice.{is_next}
 use Rattle.gd_frozen.specs.FrozenAt.{scan_at, building_at, printing_at, body_at, frozen_at, frozen_of}
 use Rattle.gd_frozen.specs.BodySteps.{scanning_at, lettered_at, further_body_at, head_at, behind_at, read_at, whole_frozen_at}
 use Rattle.gd_frozen.proofs.FrozenSteady.{Steady-frozen, frozen_says}
@@ -15,7 +15,7 @@ use Rattle.gd_frozen.proofs.FrozenSteady.{Steady-frozen, frozen_says}
 pub further_built : (bytes rest : List ℕ) → bytes ≡ 98 ∷ rest → further_body_at bytes ≡ building_at rest
 further_built bytes rest is = ap further_body_at is
 
-pub further_lettered : (bytes : List ℕ) → next_is 98 bytes ≡ false → further_body_at bytes ≡ lettered_at bytes
+pub further_lettered : (bytes : List ℕ) → is_next 98 bytes ≡ false → further_body_at bytes ≡ lettered_at bytes
 further_lettered [] none = refl
 further_lettered (c ∷ cs) none = ap (λ (b : Bool). if b then building_at cs else lettered_at (c ∷ cs)) none
 
@@ -23,7 +23,7 @@ pub body_scanned : (bytes rest : List ℕ) → bytes ≡ 115 ∷ rest → body_a
 unfolding scanning_at
 body_scanned bytes rest is = ap body_at is
 
-pub body_further : (bytes : List ℕ) → next_is 115 bytes ≡ false → body_at bytes ≡ further_body_at bytes
+pub body_further : (bytes : List ℕ) → is_next 115 bytes ≡ false → body_at bytes ≡ further_body_at bytes
 unfolding scanning_at lettered_at
 body_further [] none = refl
 body_further (c ∷ cs) none =

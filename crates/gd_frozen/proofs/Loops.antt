@@ -3,15 +3,14 @@ use Rattle.std.proofs.Common.{◌≡◌, ◌∙◌, refl, sym, ap, subst, arith,
 use Rattle.std.proofs.lemmas.List.{append-nil}
 use Rattle.gd_grammar.specs.Chain.{◌>>=◌}
 use Rattle.gd_grammar.specs.Grammar.{Reads, more_at}
-use Rattle.gd_grammar.proofs.Exact.{behind}
-use Rattle.gd_grammar.proofs.Scans.{ok_of}
+use Rattle.gd_grammar.specs.Choice.{is_next, with_front}
+use Rattle.gd_grammar.proofs.Loops.{more_ends, some_more, more_step}
 use Rattle.gd_frozen.specs.declared.stop.Stop.{Stop}
 use Rattle.gd_frozen.specs.declared.halt.Halt.{Halt}
 use Rattle.gd_frozen.specs.declared.halt.Halt.TheVariants as halt
 use Rattle.gd_frozen.specs.Finds.{Stopped}
 use Rattle.gd_frozen.specs.FrozenAt.{all_at}
 use Rattle.gd_frozen.specs.Halts.{Halts}
-use Rattle.gd_frozen.specs.Skipping.{next_is}
 
 pub halts_then : {A B : Type 0} (h : Halt) (r : Reads A) (f : A × List ℕ → Reads B) → Halts h r → Halts h (r >>= f)
 halts_then (halt.Bad left) (Ok x) f stopped = absurd stopped
@@ -32,59 +31,26 @@ halts_stop s (Err rest) stopped = stopped
 
 -- ---- at most so many
 
--- where no mark comes, there are no further ones
-pub none_more : {A : Type 0} (mark n : ℕ) (one : List ℕ → Reads A) (rest : List ℕ) → next_is mark rest ≡ false → more_at n mark one rest ≡ Ok ([], rest)
-none_more mark zero one rest none = refl
-none_more mark (suc n) one [] none = refl
-none_more {A} mark (suc n) one (c ∷ cs) none = ap (λ (b : Bool). if b then (one cs >>= λ x. more_at n mark one x.1 >>= λ xs. Ok (x.0 ∷ xs.0, xs.1)) else ok_of {X = List A × List ℕ} {Y = List ℕ} ([], c ∷ cs)) none
-
-pub more_ends : {A : Type 0} (mark n : ℕ) (one : List ℕ → Reads A) (front : List A) (rest : List ℕ) (whole : Reads (List A)) → next_is mark rest ≡ false → behind front (more_at n mark one rest) ≡ whole → whole ≡ Ok (front, rest)
-more_ends {A} mark n one front rest whole none left = sym left ∙ ap (behind front) (none_more mark n one rest none) ∙ ap (λ (l : List A). ok_of (l, rest)) (append-nil front)
-
--- none are wanted
-pub more_done : {A : Type 0} (mark n : ℕ) (one : List ℕ → Reads A) (front : List A) (rest : List ℕ) (whole : Reads (List A)) → n ≡ 0 → behind front (more_at n mark one rest) ≡ whole → whole ≡ Ok (front, rest)
-more_done {A} mark n one front rest whole none left = sym left ∙ ap (λ (k : ℕ). behind front (more_at k mark one rest)) none ∙ ap (λ (l : List A). ok_of (l, rest)) (append-nil front)
-
--- behind a mark comes one
-pub some_more : {A : Type 0} (mark n : ℕ) (one : List ℕ → Reads A) (cs : List ℕ) → more_at (suc n) mark one (mark ∷ cs) ≡ (one cs >>= λ x. more_at n mark one x.1 >>= λ xs. Ok (x.0 ∷ xs.0, xs.1))
-some_more {A} mark n one cs = ap (λ (b : Bool). if b then (one cs >>= λ x. more_at n mark one x.1 >>= λ xs. Ok (x.0 ∷ xs.0, xs.1)) else ok_of {X = List A × List ℕ} {Y = List ℕ} ([], mark ∷ cs)) (eq-eqb mark mark refl)
-
-joined : {A : Type 0} → A → Reads (List A) → Reads (List A)
-joined x r = r >>= λ xs. Ok (x ∷ xs.0, xs.1)
-
-behind_joined : {A : Type 0} (front : List A) (x : A) (r : Reads (List A)) → behind front (joined x r) ≡ behind (front ++ x ∷ []) r
-unfolding joined
-behind_joined {A} front x (Ok (xs, rest)) = ap (λ (l : List A). ok_of (l, rest)) (sym (append_assoc front (x ∷ []) xs))
-behind_joined front x (Err rest) = refl
-
-pub more_step : {A : Type 0} (mark n m : ℕ) (one : List ℕ → Reads A) (front more : List A) (x : A) (rest cs after : List ℕ) (whole : Reads (List A)) → n ≡ suc m → rest ≡ mark ∷ cs → one cs ≡ Ok (x, after) → more ≡ front ++ x ∷ []
-    → behind front (more_at n mark one rest) ≡ whole → behind more (more_at m mark one after) ≡ whole
-unfolding joined
-more_step {A} mark n m one front more x rest cs after whole n_is rest_is found more_is left =
-    let step : more_at n mark one rest ≡ joined x (more_at m mark one after) =
-    ap (λ (k : ℕ). more_at k mark one rest) n_is ∙ ap (more_at (suc m) mark one) rest_is ∙ some_more mark m one cs ∙ ap (λ (r : Reads A). r >>= λ y. more_at m mark one y.1 >>= λ xs. Ok (y.0 ∷ xs.0, xs.1)) found in
-    ap (λ (l : List A). behind l (more_at m mark one after)) more_is ∙ sym (behind_joined front x (more_at m mark one after)) ∙ ap (behind front) (sym step) ∙ left
-
-pub more_halts : {A : Type 0} (h : Halt) (mark n m : ℕ) (one : List ℕ → Reads A) (front : List A) (rest cs : List ℕ) (whole : Reads (List A)) → n ≡ suc m → rest ≡ mark ∷ cs → Halts h (one cs) → behind front (more_at n mark one rest) ≡ whole → Halts h whole
+pub more_halts : {A : Type 0} (h : Halt) (mark n m : ℕ) (one : List ℕ → Reads A) (front : List A) (rest cs : List ℕ) (whole : Reads (List A)) → n ≡ suc m → rest ≡ mark ∷ cs → Halts h (one cs) → with_front front (more_at n mark one rest) ≡ whole → Halts h whole
 more_halts {A} h mark n m one front rest cs whole n_is rest_is stopped left =
     let step : more_at n mark one rest ≡ (one cs >>= λ x. more_at m mark one x.1 >>= λ xs. Ok (x.0 ∷ xs.0, xs.1)) = ap (λ (k : ℕ). more_at k mark one rest) n_is ∙ ap (more_at (suc m) mark one) rest_is ∙ some_more mark m one cs in
     let inside = halts_then h (one cs) (λ x. more_at m mark one x.1 >>= λ xs. Ok (x.0 ∷ xs.0, xs.1)) stopped in
-    halts_same h _ _ (ap (behind front) (sym step) ∙ left) (halts_then h (one cs >>= λ x. more_at m mark one x.1 >>= λ xs. Ok (x.0 ∷ xs.0, xs.1)) (λ x. Ok (front ++ x.0, x.1)) inside)
+    halts_same h _ _ (ap (with_front front) (sym step) ∙ left) (halts_then h (one cs >>= λ x. more_at m mark one x.1 >>= λ xs. Ok (x.0 ∷ xs.0, xs.1)) (λ x. Ok (front ++ x.0, x.1)) inside)
 
-pub more_stops : {A : Type 0} (s : Stop) (mark n m : ℕ) (one : List ℕ → Reads A) (front : List A) (rest cs : List ℕ) (whole : Reads (List A)) → n ≡ suc m → rest ≡ mark ∷ cs → Stopped s (one cs) → behind front (more_at n mark one rest) ≡ whole → Stopped s whole
+pub more_stops : {A : Type 0} (s : Stop) (mark n m : ℕ) (one : List ℕ → Reads A) (front : List A) (rest cs : List ℕ) (whole : Reads (List A)) → n ≡ suc m → rest ≡ mark ∷ cs → Stopped s (one cs) → with_front front (more_at n mark one rest) ≡ whole → Stopped s whole
 more_stops s mark n m one front rest cs whole n_is rest_is stopped left = halts_stop s whole (more_halts (halt.Bad s.left) mark n m one front rest cs whole n_is rest_is (stop_halts s (one cs) stopped) left)
 
 -- ---- all that there are
 
-pub all_ends : {A : Type 0} (mark : ℕ) (one : List ℕ → Reads A) (front : List A) (rest : List ℕ) (whole : Reads (List A)) → next_is mark rest ≡ false → behind front (all_at mark one rest) ≡ whole → whole ≡ Ok (front, rest)
+pub all_ends : {A : Type 0} (mark : ℕ) (one : List ℕ → Reads A) (front : List A) (rest : List ℕ) (whole : Reads (List A)) → is_next mark rest ≡ false → with_front front (all_at mark one rest) ≡ whole → whole ≡ Ok (front, rest)
 all_ends mark one front rest whole none left = more_ends mark (length rest) one front rest whole none left
 
 pub all_step : {A : Type 0} (mark : ℕ) (one : List ℕ → Reads A) (front more : List A) (x : A) (rest cs after : List ℕ) (whole : Reads (List A)) → ((n m : ℕ) (bytes : List ℕ) → length bytes ≤ n → length bytes ≤ m → more_at n mark one bytes ≡ more_at m mark one bytes)
-    → length after ≤ length cs → rest ≡ mark ∷ cs → one cs ≡ Ok (x, after) → more ≡ front ++ x ∷ [] → behind front (all_at mark one rest) ≡ whole → behind more (all_at mark one after) ≡ whole
+    → length after ≤ length cs → rest ≡ mark ∷ cs → one cs ≡ Ok (x, after) → more ≡ front ++ x ∷ [] → with_front front (all_at mark one rest) ≡ whole → with_front more (all_at mark one after) ≡ whole
 all_step {A} mark one front more x rest cs after whole enough less rest_is found more_is left =
-    ap (behind more) (enough (length after) (length cs) after (omega arith) less) ∙ more_step mark (length rest) (length cs) one front more x rest cs after whole (ap length rest_is) rest_is found more_is left
+    ap (with_front more) (enough (length after) (length cs) after (omega arith) less) ∙ more_step mark (length rest) (length cs) one front more x rest cs after whole (ap length rest_is) rest_is found more_is left
 
-pub all_halts : {A : Type 0} (h : Halt) (mark : ℕ) (one : List ℕ → Reads A) (front : List A) (rest cs : List ℕ) (whole : Reads (List A)) → rest ≡ mark ∷ cs → Halts h (one cs) → behind front (all_at mark one rest) ≡ whole → Halts h whole
+pub all_halts : {A : Type 0} (h : Halt) (mark : ℕ) (one : List ℕ → Reads A) (front : List A) (rest cs : List ℕ) (whole : Reads (List A)) → rest ≡ mark ∷ cs → Halts h (one cs) → with_front front (all_at mark one rest) ≡ whole → Halts h whole
 all_halts h mark one front rest cs whole rest_is stopped left = more_halts h mark (length rest) (length cs) one front rest cs whole (ap length rest_is) rest_is stopped left
 
 -- ---- items as they are meant

@@ -7,13 +7,13 @@ use Rattle.gd_grammar.proofs.Scans.{ok_of}
 use Rattle.gd_bytes.specs.FrozenRead.{row_at, after_at, unless_closed, walk_at}
 use Rattle.gd_bytes.specs.Frozen.{by_guid, is_root}
 use Rattle.gd_frozen.specs.WalkSteps.{rooted_at, linked_at}
-use Rattle.gd_frozen.specs.Skipping.{next_is}
+use Rattle.gd_grammar.specs.Choice.{is_next}
 use Rattle.gd_frozen.specs.RowSteps.{given_row_at}
 
 pub after_none : (bytes rest : List ℕ) → bytes ≡ 45 ∷ rest → after_at bytes ≡ Ok (None, rest)
 after_none bytes rest is = ap after_at is
 
-pub after_given : (bytes : List ℕ) → next_is 45 bytes ≡ false → after_at bytes ≡ (given_row_at bytes >>= λ r. Ok (Some r.0, r.1))
+pub after_given : (bytes : List ℕ) → is_next 45 bytes ≡ false → after_at bytes ≡ (given_row_at bytes >>= λ r. Ok (Some r.0, r.1))
 unfolding given_row_at
 after_given [] none = refl
 after_given (c ∷ cs) none = ap (λ (b : Bool). if b then ok_of (None, cs) else whole (text_at (40 ∷ []) (c ∷ cs))) none ∙ by (text_at (40 ∷ []) (c ∷ cs))
@@ -60,7 +60,7 @@ pub closed_at_once : {A : Type 0} (items : List ℕ → Reads (List A)) (bytes r
 closed_at_once {A} items bytes rest is = ap (λ (l : List ℕ). shut (unless_closed 93 items l)) is
 
 -- one that is not
-pub not_closed : {A : Type 0} (items : List ℕ → Reads (List A)) (bytes : List ℕ) → next_is 93 bytes ≡ false → unless_closed 93 items bytes ≡ items bytes
+pub not_closed : {A : Type 0} (items : List ℕ → Reads (List A)) (bytes : List ℕ) → is_next 93 bytes ≡ false → unless_closed 93 items bytes ≡ items bytes
 not_closed items [] none = refl
 not_closed {A} items (c ∷ cs) none = ap (λ (b : Bool). if b then ok_of {X = List A × List ℕ} {Y = List ℕ} ([], c ∷ cs) else items (c ∷ cs)) none
 
@@ -69,14 +69,14 @@ not_closed {A} items (c ∷ cs) none = ap (λ (b : Bool). if b then ok_of {X = L
 pub rooted_root : (bytes rest : List ℕ) → bytes ≡ 47 ∷ rest → rooted_at bytes ≡ Ok (is_root, rest)
 rooted_root bytes rest is = ap rooted_at is
 
-pub rooted_linked : (bytes : List ℕ) → next_is 47 bytes ≡ false → rooted_at bytes ≡ linked_at bytes
+pub rooted_linked : (bytes : List ℕ) → is_next 47 bytes ≡ false → rooted_at bytes ≡ linked_at bytes
 rooted_linked [] none = refl
 rooted_linked (c ∷ cs) none = ap (λ (b : Bool). if b then ok_of (is_root, cs) else linked_at (c ∷ cs)) none
 
 pub walk_guid : (bytes rest : List ℕ) → bytes ≡ 103 ∷ rest → walk_at bytes ≡ Ok (by_guid, rest)
 walk_guid bytes rest is = ap walk_at is
 
-pub walk_rooted : (bytes : List ℕ) → next_is 103 bytes ≡ false → walk_at bytes ≡ rooted_at bytes
+pub walk_rooted : (bytes : List ℕ) → is_next 103 bytes ≡ false → walk_at bytes ≡ rooted_at bytes
 unfolding linked_at
 walk_rooted [] none = refl
 walk_rooted (c ∷ cs) none = ap (λ (b : Bool). if b then ok_of (by_guid, cs) else rooted_at (c ∷ cs)) none

@@ -16,11 +16,6 @@ abbrev pub Finds : {A B : Type 0} → (A → B) → Result B (List ℕ) → Resu
 Finds view read (Ok a) = read ≡ Ok (view a)
 Finds view read (Err stop) = Stopped stop read
 
--- a colon comes next
-abbrev pub colon_next : List ℕ → Bool
-colon_next [] = false
-colon_next (c ∷ cs) = c == 58
-
 -- reads a colon and the place of a key behind it
 unfoldable pub next_at : List ℕ → Reads (Option ℕ)
 next_at bytes = text_at (58 ∷ []) bytes >>= λ u. place_at u.1

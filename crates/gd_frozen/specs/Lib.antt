@@ -5,7 +5,6 @@ pub mod FrozenAt
 pub mod Halts
 pub mod Moving
 pub mod Meaning
-pub mod Skipping
 pub mod RowSteps
 pub mod WalkSteps
 pub mod BodySteps

@@ -1,8 +1,9 @@
 //! The places of keys: each behind a colon, in digits, or a dash where the key is missing.
 ghost use Rattle.std.specs.Prelude.{◌≡◌, ◌∷◌, []};
 ghost use Rattle.gd_bytes.specs.Cursor.{place_at};
+ghost use Rattle.gd_grammar.specs.Choice.{is_next};
 ghost use Rattle.gd_grammar.specs.Grammar.{more_at, text_at};
-ghost use Rattle.gd_frozen.specs.Finds.{Finds, colon_next, next_at};
+ghost use Rattle.gd_frozen.specs.Finds.{Finds, next_at};
 
 use crate::cursor::Places;
 use crate::number::number;
@@ -46,7 +47,7 @@ pub(crate) fn place(bytes: &[u8]) -> Result<(Option<u32>, &[u8]), Stop>
 
 /// Whether a colon comes next.
 fn is_colon_next(bytes: &[u8]) -> bool
-    ensures { result ≡ colon_next bytes.now }
+    ensures { result ≡ is_next 58 bytes.now }
 {
     match bytes {
         [first, ..] => *first == b':',

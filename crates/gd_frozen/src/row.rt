@@ -7,7 +7,7 @@ ghost use Rattle.gd_bytes.specs.FrozenRead.{bracketed_at};
 ghost use Rattle.gd_frozen.specs.Finds.{Finds};
 ghost use Rattle.gd_frozen.specs.Halts.{Gets};
 ghost use Rattle.gd_frozen.specs.Meaning.{row_of, iter_of};
-ghost use Rattle.gd_frozen.specs.Skipping.{next_is};
+ghost use Rattle.gd_grammar.specs.Choice.{is_next};
 ghost use Rattle.gd_frozen.specs.RowSteps.{given_row_at, some_rows_at, rows_behind_at};
 
 use crate::cursor::Places;
@@ -22,7 +22,7 @@ use std::alloc::Global;
 
 /// The bytes behind this one, if it comes next.
 pub(crate) fn skip(bytes: &[u8], mark: u8) -> Option<&[u8]>
-    ensures { MatchOption result (next_is mark bytes.now ≡ false)
+    ensures { MatchOption result (is_next mark bytes.now ≡ false)
         (λ rest. bytes.now ≡ mark ∷ rest.now) }
 {
     match bytes {

@@ -5,6 +5,7 @@ use Rattle.std.specs.List.{AllByRecursion}
 use Rattle.gd_grammar.specs.Chain.{◌>>=◌}
 use Rattle.gd_grammar.specs.Grammar.{Reads, IsText}
 use Rattle.gd_grammar.proofs.Scans.{Ends, Stops, Scans, Then, chain, Only, ok_of, ok_same}
+use Rattle.gd_grammar.specs.Choice.{with_front}
 use Rattle.gd_grammar.specs.Reading.{byte_if, items_at}
 
 -- The reader gives each text that the bytes begin with, or tells where no text goes on.
@@ -237,39 +238,37 @@ module _ {A : Type 0} (spelling : A → List ℕ) (Fits : A → Type 0) (one : L
 
 -- ---- the code's loop over items
 
--- what is read, behind what was read before
-abbrev pub behind : {A : Type 0} → List A → Reads (List A) → Reads (List A)
-behind front r = r >>= λ x. Ok (front ++ x.0, x.1)
+-- what was read before takes an item from what is read
+pub front_cons : {A : Type 0} (front : List A) (x : A) (r : Reads (List A)) → with_front front (r >>= λ xs. Ok (x ∷ xs.0, xs.1)) ≡ with_front (front ++ x ∷ []) r
+front_cons {A} front x (Ok (xs, rest)) = ap (λ (l : List A). ok_of (l, rest)) (sym (append_assoc front (x ∷ []) xs))
+front_cons front x (Err rest) = refl
 
-behind_cons : {A : Type 0} (front : List A) (x : A) (r : Reads (List A)) → behind front (r >>= λ xs. Ok (x ∷ xs.0, xs.1)) ≡ behind (front ++ x ∷ []) r
-behind_cons {A} front x (Ok (xs, rest)) = ap (λ (l : List A). ok_of (l, rest)) (sym (append_assoc front (x ∷ []) xs))
-behind_cons front x (Err rest) = refl
+-- nothing was read before
+pub front_none : {A : Type 0} (r : Reads (List A)) → with_front [] r ≡ r
+front_none (Ok (xs, rest)) = refl
+front_none (Err rest) = refl
 
 -- one item more
 pub items_more : {A : Type 0} (one : List ℕ → Reads A) (count place : ℕ) (front : List A) (bytes : List ℕ) (x : A) (rest : List ℕ) → place < count → one bytes ≡ Ok (x, rest)
-    → behind (front ++ x ∷ []) (items_at one (count - (place + 1)) rest) ≡ behind front (items_at one (count - place) bytes)
+    → with_front (front ++ x ∷ []) (items_at one (count - (place + 1)) rest) ≡ with_front front (items_at one (count - place) bytes)
 items_more {A} one count place front bytes x rest more is =
     let n = count - 1 - place in
     let fewer : count - (place + 1) ≡ count - 1 - place = omega arith in
     let here : count - place ≡ suc (count - 1 - place) = omega (arith, more) in
-    ap (λ (k : ℕ). behind (front ++ x ∷ []) (items_at one k rest)) fewer ∙ sym (behind_cons front x (items_at one n rest))
-    ∙ sym (ap (λ (k : ℕ). behind front (items_at one k bytes)) here ∙ ap (λ (r : Reads A). behind front (r >>= λ y. items_at one n y.1 >>= λ xs. Ok (y.0 ∷ xs.0, xs.1))) is)
+    ap (λ (k : ℕ). with_front (front ++ x ∷ []) (items_at one k rest)) fewer ∙ sym (front_cons front x (items_at one n rest))
+    ∙ sym (ap (λ (k : ℕ). with_front front (items_at one k bytes)) here ∙ ap (λ (r : Reads A). with_front front (r >>= λ y. items_at one n y.1 >>= λ xs. Ok (y.0 ∷ xs.0, xs.1))) is)
 
 -- all items are read
-pub items_done : {A : Type 0} (one : List ℕ → Reads A) (count place : ℕ) (front : List A) (bytes : List ℕ) → count ≤ place → behind front (items_at one (count - place) bytes) ≡ Ok (front, bytes)
+pub items_done : {A : Type 0} (one : List ℕ → Reads A) (count place : ℕ) (front : List A) (bytes : List ℕ) → count ≤ place → with_front front (items_at one (count - place) bytes) ≡ Ok (front, bytes)
 items_done {A} one count place front bytes all =
     let none : count - place ≡ 0 = omega (arith, all) in
-    ap (λ (k : ℕ). behind front (items_at one k bytes)) none ∙ ap (λ (l : List A). ok_of (l, bytes)) (append-nil front)
+    ap (λ (k : ℕ). with_front front (items_at one k bytes)) none ∙ ap (λ (l : List A). ok_of (l, bytes)) (append-nil front)
 
 -- no items are read yet
-pub items_begun : {A : Type 0} (one : List ℕ → Reads A) (count : ℕ) (bytes : List ℕ) → behind [] (items_at one (count - 0) bytes) ≡ items_at one count bytes
+pub items_begun : {A : Type 0} (one : List ℕ → Reads A) (count : ℕ) (bytes : List ℕ) → with_front [] (items_at one (count - 0) bytes) ≡ items_at one count bytes
 items_begun {A} one count bytes =
     let whole : count - 0 ≡ count = omega arith in
-    ap (λ (k : ℕ). behind [] (items_at one k bytes)) whole ∙ alone (items_at one count bytes)
-  where
-    alone : (r : Reads (List A)) → behind [] r ≡ r
-    alone (Ok (xs, rest)) = refl
-    alone (Err rest) = refl
+    ap (λ (k : ℕ). with_front [] (items_at one k bytes)) whole ∙ front_none (items_at one count bytes)
 
 -- ---- exact readers of grammars that are not empty
 

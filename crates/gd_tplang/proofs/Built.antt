@@ -11,7 +11,7 @@ use Rattle.gd_tplang.proofs.Whole.{template_says}
 use Rattle.gd_tplang.specs.declared.stop.Stop.{Stop}
 use Rattle.gd_tplang.specs.declared.stop.Stop.TheVariants.{Bad, Memory}
 use Rattle.gd_tplang.specs.Stop.{Stopped}
-use Rattle.gd_tplang.specs.Choice.{is_byte, begins, seen_at, word_at}
+use Rattle.gd_grammar.specs.Choice.{is_byte, begins, seen_at, word_at}
 use Rattle.gd_tplang.specs.Steps.{next_at}
 use Rattle.gd_tplang.specs.Written.{Item, test, clause, Items, no_items, item, items_of, template_text, EachFits, Fits, item_at, rest_at, items_at, template_at, template_of}
 use Rattle.gd_tplang.specs.Meaning.{constraints_in, clauses_in, with_clause, meaning}

@@ -1,4 +1,3 @@
-pub mod Good
 pub mod Strings
 pub mod Tests
 pub mod Templates

@@ -5,7 +5,9 @@ use Rattle.gd_grammar.specs.Chain.{◌>>=◌}
 use Rattle.gd_grammar.specs.Grammar.{Reads, text_at, more_at}
 use Rattle.gd_tplang.specs.declared.stop.Stop.{Stop}
 use Rattle.gd_tplang.specs.Stop.{Stopped}
-use Rattle.gd_tplang.specs.Choice.{is_byte, begins, seen_at, behind_at, list_at, with_front}
+use Rattle.gd_grammar.specs.Choice.{is_byte, begins, seen_at, behind_at, list_at, with_front}
+use Rattle.gd_grammar.proofs.Exact.{front_cons}
+use Rattle.gd_grammar.proofs.Loops.{more_ends, more_done}
 use Rattle.gd_tplang.specs.Steps.{next_at}
 use Rattle.gd_tplang.proofs.Texts.{stopped_then}
 
@@ -35,25 +37,13 @@ module _ {A : Type 0} (mark : ℕ) (one : List ℕ → Reads A) where
   more_there n [] there = cc
   more_there n (c ∷ cs) there = subst (λ d. more_at (suc n) mark one (d ∷ cs) ≡ and_more n (one_behind (text_at (mark ∷ []) (d ∷ cs)))) (sym (eqb-true c mark there)) (at_mark n cs (mark == mark) (eq-eqb mark mark refl))
 
-  more_none : (n : ℕ) (bytes : List ℕ) → begins (is_byte mark) bytes ≡ false → more_at n mark one bytes ≡ Ok ([], bytes)
-  more_none zero bytes there = refl
-  more_none (suc n) [] there = refl
-  more_none (suc n) (c ∷ cs) there = ap (λ b. if b then and_more n (one cs) else Ok ([], c ∷ cs)) there
-
-  ok_front : (front : List A) (rest : List ℕ) → with_front front (Ok ([], rest)) ≡ Ok (front, rest)
-  ok_front front rest = ap (λ (l : List A). Ok (l, rest)) (append-nil front)
-
   -- no part more
   pub list_end : (n : ℕ) (front : List A) (rest : List ℕ) (whole : Reads (List A)) → begins (is_byte mark) rest ≡ false → with_front front (more_at n mark one rest) ≡ whole → whole ≡ Ok (front, rest)
-  list_end n front rest whole none left = sym left ∙ ap (with_front front) (more_none n rest none) ∙ ok_front front rest
+  list_end n front rest whole none left = more_ends mark n one front rest whole none left
 
   -- as many as there may be
   pub list_full : (n : ℕ) (front : List A) (rest : List ℕ) (whole : Reads (List A)) → n ≡ 0 → with_front front (more_at n mark one rest) ≡ whole → whole ≡ Ok (front, rest)
-  list_full n front rest whole none left = sym left ∙ ap (λ k. with_front front (more_at k mark one rest)) none ∙ ok_front front rest
-
-  front_cons : (front : List A) (x : A) (r : Reads (List A)) → with_front front (r >>= λ xs. Ok (x ∷ xs.0, xs.1)) ≡ with_front (front ++ x ∷ []) r
-  front_cons front x (Ok xs) = ap (λ (l : List A). Ok (l, xs.1)) (sym (append_assoc front (x ∷ []) xs.0))
-  front_cons front x (Err e) = refl
+  list_full n front rest whole none left = more_done mark n one front rest whole none left
 
   -- one part more
   pub list_more : (n m : ℕ) (front more : List A) (x : A) (rest behind : List ℕ) (whole : Reads (List A)) → n ≡ suc m → begins (is_byte mark) rest ≡ true → next_at mark one rest ≡ Ok (x, behind) → more ≡ front ++ x ∷ []

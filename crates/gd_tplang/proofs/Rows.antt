@@ -5,7 +5,7 @@ use Rattle.gd_base.specs.declared.datum.Datum.TheVariants.{Text}
 use Rattle.gd_prim.specs.declared.Primitive.{Primitive}
 use Rattle.gd_prim.specs.Builtin.{builtin}
 use Rattle.gd_prim.specs.New.{link, newer}
-use Rattle.gd_grammar.specs.Reading.{may_come, after}
+use Rattle.gd_utf8.specs.Utf8.{may_come, after}
 use Rattle.gd_tplang.specs.Written.{tail_at, string_at, int_at, value_at, end_at, bound_at, asked_at, end_test_at, test_at, hop_at, head_at, item_at, rest_at, items_at, template_at}
 use Rattle.gd_tplang.specs.Meaning.{answer}
 

@@ -6,13 +6,14 @@ use Rattle.std.proofs.lemmas.Bool.{leb-true}
 use Rattle.std.proofs.lemmas.Bool.Decides.{nat_tests}
 use Rattle.gd_tree.specs.Json.{escaped, quoted}
 use Rattle.gd_grammar.specs.Grammar.{Reads}
-use Rattle.gd_grammar.specs.Reading.{Due, start, may_come, after, follow, least_after, most_after, between, byte_if}
+use Rattle.gd_grammar.specs.Reading.{between, byte_if}
+use Rattle.gd_utf8.specs.Utf8.{Due, start, may_come, after, follow, least_after, most_after}
 use Rattle.gd_grammar.proofs.Scans.{Then}
 use Rattle.gd_grammar.proofs.Exact.{Mapped, OneByte, Exact-byte}
-use Rattle.gd_grammar.proofs.Utf8Runs.{IsRun, run_of_utf8, utf8_of_run}
-use Rattle.gd_tplang.specs.Choice.{is_byte, either_at, seen_at}
+use Rattle.gd_utf8.proofs.Runs.{IsRun, run_of_utf8, utf8_of_run}
+use Rattle.gd_grammar.specs.Choice.{is_byte, either_at, seen_at}
 use Rattle.gd_tplang.specs.Written.{TextFits, is_escaped, may_stand, escape_at, char_at, quote_at, and_tail_at, tail_at, string_at}
-use Rattle.gd_tplang.proofs.Good.{Good, Good-same, Good-exact, Good-seen, Good-word, Good-behind, Good-either, Good-and, Any, Means, Behind, Either, Head}
+use Rattle.gd_grammar.proofs.Good.{Good, Good-same, Good-exact, Good-seen, Good-word, Good-behind, Good-either, Good-and, Any, Means, Behind, Either, Head}
 
 and_true : (x y : Bool) → (x && y) ≡ true → (x ≡ true) × (y ≡ true)
 and_true true y is = (refl, is)

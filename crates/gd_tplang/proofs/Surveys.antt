@@ -13,7 +13,7 @@ use Rattle.gd_tplang.proofs.Templates.{HeadText, Good-head}
 use Rattle.gd_tplang.specs.declared.stop.Stop.{Stop}
 use Rattle.gd_tplang.specs.declared.stop.Stop.TheVariants.{Bad, Memory}
 use Rattle.gd_tplang.specs.Stop.{Stopped}
-use Rattle.gd_tplang.specs.Choice.{is_byte, begins, seen_at, word_at, behind_at}
+use Rattle.gd_grammar.specs.Choice.{is_byte, begins, seen_at, word_at, behind_at}
 use Rattle.gd_tplang.specs.Written.{Test, Item, test, clause, Items, no_items, item, items_of, head_at, test_at, begins_clause, item_at, rest_at, items_at, template_at}
 use Rattle.gd_tplang.specs.Meaning.{has_bad, is_bad_test}
 use Rattle.gd_tplang.specs.Survey.{Marks, below, marks_of, adds, level_at, finish, goes_on, enters, space_at}

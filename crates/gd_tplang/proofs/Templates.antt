@@ -6,10 +6,10 @@ use Rattle.gd_defs.specs.Query.{Mode, required, optional, forbidden}
 use Rattle.gd_defs.specs.Template.{Hop, links_by, end_here}
 use Rattle.gd_grammar.specs.Grammar.{Reads, IsText, more_at}
 use Rattle.gd_grammar.proofs.Scans.{Then, chain}
-use Rattle.gd_tplang.specs.Choice.{is_byte, seen_at, word_at, behind_at}
+use Rattle.gd_grammar.specs.Choice.{is_byte, seen_at, word_at, behind_at}
 use Rattle.gd_tplang.specs.Written.{Item, test, clause, Items, no_items, item, items_of, count, end_text, mode_text, hop_text, item_text, items_text, further_text, template_text, TestFits, end_at, test_at, hop_at, head_at, begins_clause, item_at, rest_at, items_at, template_at}
 use Rattle.gd_grammar.proofs.Exact.{Mapped}
-use Rattle.gd_tplang.proofs.Good.{Good, Good-same, Good-less, Good-seen, Good-word, Good-behind, Good-then, Good-and, Good-more, Any, Means, Behind, More, Head}
+use Rattle.gd_grammar.proofs.Good.{Good, Good-same, Good-less, Good-seen, Good-word, Good-behind, Good-then, Good-and, Good-more, Any, Means, Behind, More, Head}
 use Rattle.gd_tplang.proofs.Tests.{EndText, Good-end, TestText, Good-test, test_head, test_start, Closing, heads, Good-or}
 
 -- ---- where a clause leads

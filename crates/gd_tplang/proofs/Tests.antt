@@ -12,10 +12,10 @@ use Rattle.gd_prim.specs.declared.End.TheVariants.{Left, Right, Typ, Scope}
 use Rattle.gd_grammar.specs.Grammar.{Reads, IsText, number_at, digits_at, more_at}
 use Rattle.gd_grammar.proofs.Scans.{Begins, Ends, Stops, Found, Then, ok_of, ok_same, ends_nil, head_same, not_equal}
 use Rattle.gd_grammar.proofs.Numbers.{Number, first_digit}
-use Rattle.gd_tplang.specs.Choice.{is_byte, either_at, seen_at, behind_at, list_at}
+use Rattle.gd_grammar.specs.Choice.{is_byte, either_at, seen_at, behind_at, list_at}
 use Rattle.gd_tplang.specs.Written.{Relation, equal, unequal, below, at_most, above, at_least, Test, end_is, is_object, place_in, place_not, value, value_in, value_like, end_text, relation_text, value_text, list_text, test_text, PlaceFits, TextFits, ValueFits, ListFits, TestFits, string_at, positive_at, int_at, value_at, end_at, bound_at, asked_at, begins_end, end_test_at, test_at}
 use Rattle.gd_grammar.proofs.Exact.{Mapped}
-use Rattle.gd_tplang.proofs.Good.{Good, Good-same, Good-less, Good-seen, Good-word, Good-behind, Good-either, Good-then, Good-and, Good-more, Good-number, Any, NoDigit, Means, Behind, More, Head}
+use Rattle.gd_grammar.proofs.Good.{Good, Good-same, Good-less, Good-seen, Good-word, Good-behind, Good-either, Good-then, Good-and, Good-more, Good-number, Any, NoDigit, Means, Behind, More, Head}
 use Rattle.gd_tplang.proofs.Strings.{Quoted, Good-string}
 
 -- ---- numbers that are not 0

@@ -9,11 +9,12 @@ use Rattle.gd_base.specs.declared.text.TextFault.{TextFault}
 use Rattle.gd_base.specs.declared.text.TextFault.TheVariants.{TooLong, NotUtf8}
 use Rattle.gd_grammar.specs.Chain.{◌>>=◌}
 use Rattle.gd_grammar.specs.Grammar.{Reads}
-use Rattle.gd_grammar.specs.Reading.{Due, start, after}
+use Rattle.gd_utf8.specs.Utf8.{Due, start, after}
+use Rattle.gd_grammar.proofs.Exact.{front_cons, front_none}
 use Rattle.gd_tplang.specs.declared.stop.Stop.{Stop}
 use Rattle.gd_tplang.specs.declared.stop.Stop.TheVariants.{Bad, Memory}
 use Rattle.gd_tplang.specs.Stop.{Stopped}
-use Rattle.gd_tplang.specs.Choice.{is_byte, begins, seen_at, with_front}
+use Rattle.gd_grammar.specs.Choice.{is_byte, begins, seen_at, with_front}
 use Rattle.gd_tplang.specs.Written.{char_at, quote_at, and_tail_at, tail_at}
 use Rattle.gd_tplang.proofs.Strings.{tail_fits}
 
@@ -49,9 +50,9 @@ text_goes n s rest is = by (s.due == 0) (begins (is_byte 34) rest) is
     by true false e = refl
     by false b e = refl
 
-front_cons : (front : List ℕ) (b : ℕ) (r : Reads (List ℕ)) → with_front front (r >>= λ t. Ok (b ∷ t.0, t.1)) ≡ with_front (front ++ b ∷ []) r
-front_cons front b (Ok (t, rest)) = ap (λ (x : List ℕ). Ok (x, rest)) (sym (append_assoc front (b ∷ []) t))
-front_cons front b (Err rest) = refl
+-- no byte is read yet
+pub text_begun : (front : List ℕ) (s : Due) (bytes : List ℕ) → front ≡ [] → s ≡ start → with_front front (tail_at (4096 - 0) s bytes) ≡ tail_at 4096 start bytes
+text_begun front s bytes none begun = (λ i. with_front (none i) (tail_at 4096 (begun i) bytes)) ∙ front_none (tail_at 4096 start bytes)
 
 -- one byte more
 pub text_more : (at : ℕ) (s t : Due) (front more rest : List ℕ) (b : ℕ) (behind : List ℕ) (whole : Reads (List ℕ)) → at < 4096 → ends_here s rest ≡ false → char_at (4096 - 1 - at) s rest ≡ Ok (b, behind) → t ≡ after s b → more ≡ front ++ b ∷ []
@@ -79,19 +80,6 @@ pub text_full : (at : ℕ) (s : Due) (rest : List ℕ) → 4096 ≤ at → tail_
 unfolding tail_at
 text_full at s rest full = let none : 4096 - at ≡ 0 = omega (arith, full) in ap (λ k. tail_at k s rest) none
 
--- UTF-8 of at most 4,096 bytes is a text
-pub is_text : (t : List ℕ) → length t ≤ 4096 → IsUtf8 t → text_of t ≡ Ok t
-is_text t short utf8 = ap (λ (b : Bool). text_by b (is_utf8 t)) (not_longer (length t) short) ∙ ap (λ (b : Bool). text_by false b) (is_utf8-from_IsUtf8 t utf8)
-  where
-    text_by : Bool → Bool → Result (List ℕ) TextFault
-    text_by a b = if a then Err TooLong else (if b then Ok t else Err (NotUtf8 (utf8_valid_len t)))
-
-    not_longer : (n : ℕ) → n ≤ 4096 → nat_lt 4096 n ≡ false
-    not_longer n h = grind (arith, nat_tests)
-
--- what is read is a text
-pub text_read : (bytes t rest : List ℕ) → tail_at 4096 start bytes ≡ Ok (t, rest) → text_of t ≡ Ok t
-text_read bytes t rest is = let (utf8, few, each) = tail_fits bytes t rest is in is_text t few utf8
-
-pub no_fault : (t : List ℕ) (fault : TextFault) → text_of t ≡ Ok t → text_of t ≡ Err fault → ⊥
-no_fault t fault is other = cc
+-- what is read is UTF-8, and short
+pub text_is : (bytes t rest : List ℕ) → tail_at 4096 start bytes ≡ Ok (t, rest) → (length t ≤ 4096) × (is_utf8 t ≡ true)
+text_is bytes t rest is = let (utf8, few, each) = tail_fits bytes t rest is in (few, is_utf8-from_IsUtf8 t utf8)

@@ -7,7 +7,7 @@ use Rattle.gd_grammar.specs.Chain.{◌>>=◌}
 use Rattle.gd_grammar.specs.Grammar.{Reads, text_at}
 use Rattle.gd_tplang.specs.declared.stop.Stop.{Stop}
 use Rattle.gd_tplang.specs.Stop.{Stopped}
-use Rattle.gd_tplang.specs.Choice.{is_byte, begins}
+use Rattle.gd_grammar.specs.Choice.{is_byte, begins}
 use Rattle.gd_tplang.specs.Written.{Test, head_at, test_at, begins_clause}
 use Rattle.gd_tplang.specs.Meaning.{is_bad_test}
 use Rattle.gd_tplang.specs.Survey.{Marks, Walk, marks, top, others, finish, enters, space_at, IsOpen, Enough}

@@ -1,6 +1,4 @@
-pub mod Choice
 pub mod Written
-pub mod Dues
 pub mod Seen
 pub mod Steps
 pub mod Stop

@@ -2,7 +2,7 @@
 use Rattle.std.specs.Prelude.{ℕ, List, [], ◌∷◌, codes}
 use Rattle.gd_grammar.specs.Chain.{◌>>=◌}
 use Rattle.gd_grammar.specs.Grammar.{Reads, text_at}
-use Rattle.gd_tplang.specs.Choice.{behind_at}
+use Rattle.gd_grammar.specs.Choice.{behind_at}
 use Rattle.gd_tplang.specs.Written.{Item, clause, Items, head_at}
 
 -- reads a mark and an item behind it

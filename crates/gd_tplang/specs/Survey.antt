@@ -3,7 +3,7 @@ use Rattle.std.specs.Prelude.{ℕ, zero, suc, ◌+◌, ◌-◌, ◌≤◌, ◌�
 use Rattle.gd_grammar.specs.Chain.{◌>>=◌}
 use Rattle.gd_grammar.specs.Grammar.{Reads, text_at, ended}
 use Rattle.gd_defs.specs.Template.{depth, clauses_depth}
-use Rattle.gd_tplang.specs.Choice.{seen_at}
+use Rattle.gd_grammar.specs.Choice.{seen_at}
 use Rattle.gd_tplang.specs.Written.{Item, Items, item, item_at, rest_at, items_at, template_at}
 use Rattle.gd_tplang.specs.Meaning.{clauses_in, has_bad, meaning}
 

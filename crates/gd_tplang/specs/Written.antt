@@ -10,11 +10,12 @@ use Rattle.gd_prim.specs.declared.End.TheVariants.{Left, Right, Typ, Scope}
 use Rattle.gd_tree.specs.Json.{compact}
 use Rattle.gd_grammar.specs.Chain.{◌>>=◌}
 use Rattle.gd_grammar.specs.Grammar.{Reads, number_at, more_at, whole, IsText, IsFaultAt}
-use Rattle.gd_grammar.specs.Reading.{Due, start, may_come, after, byte_if}
+use Rattle.gd_grammar.specs.Reading.{byte_if}
+use Rattle.gd_utf8.specs.Utf8.{Due, start, may_come, after}
 use Rattle.gd_defs.specs.Data.{datum_json}
 use Rattle.gd_defs.specs.Query.{Mode, required, optional, forbidden}
 use Rattle.gd_defs.specs.Template.{Hop, links_by, end_here}
-use Rattle.gd_tplang.specs.Choice.{is_byte, either_at, seen_at, word_at, behind_at, list_at}
+use Rattle.gd_grammar.specs.Choice.{is_byte, either_at, seen_at, word_at, behind_at, list_at}
 
 -- how a value stands to another
 pub data Relation : Type 0 where

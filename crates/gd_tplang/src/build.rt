@@ -6,7 +6,7 @@ ghost use Rattle.gd_template.specs.Built.{view};
 ghost use Rattle.gd_template.specs.Seen.{constraint_of};
 ghost use Rattle.gd_template.specs.View.{clauses_view, parts as parts_of};
 ghost use Rattle.gd_tplang.specs.Building.{IsBuildable, gathered, nothing, with_item, with_items};
-ghost use Rattle.gd_tplang.specs.Choice.{seen_at, word_at};
+ghost use Rattle.gd_grammar.specs.Choice.{seen_at, word_at};
 ghost use Rattle.gd_tplang.specs.Meaning.{compared, constraints_of, meaning};
 ghost use Rattle.gd_tplang.specs.Seen.{head_of, relation_of, test_of};
 ghost use Rattle.gd_tplang.specs.Steps.{clause_at, next_at};

@@ -1,7 +1,7 @@
 //! Bytes and words.
 ghost use Rattle.std.specs.Prelude.{◌≡◌, ◌∷◌, []};
 ghost use Rattle.gd_grammar.specs.Grammar.{text_at};
-ghost use Rattle.gd_tplang.specs.Choice.{is_byte, begins};
+ghost use Rattle.gd_grammar.specs.Choice.{is_byte, begins};
 ghost use Rattle.gd_tplang.specs.Stop.{Finds};
 
 use crate::stop::Stop;

@@ -3,7 +3,7 @@ ghost use Rattle.std.specs.Prelude.{◌≡◌, codes};
 ghost use Rattle.gd_defs.specs.Query as query;
 ghost use Rattle.gd_defs.specs.Template as defs;
 ghost use Rattle.gd_template.specs.View.{mode_of, hop_of};
-ghost use Rattle.gd_tplang.specs.Choice.{begins, behind_at, seen_at};
+ghost use Rattle.gd_grammar.specs.Choice.{begins, behind_at, seen_at};
 ghost use Rattle.gd_tplang.specs.Seen.{head_of};
 ghost use Rattle.gd_tplang.specs.Stop.{Finds};
 ghost use Rattle.gd_tplang.specs.Written as written;

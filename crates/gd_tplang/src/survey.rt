@@ -3,7 +3,7 @@
 //! each open template, so that deep texts need no deep stack.
 ghost use Rattle.std.specs.Prelude.{◌≡◌, ◌∷◌, [], ◌||◌, ◌+◌, ◌<◌, ◌≤◌, ℕ, suc, true, false, List};
 ghost use Rattle.std.specs.Prelude.{max, length, OnOk, MatchBool, MatchResult, Ok};
-ghost use Rattle.gd_tplang.specs.Choice.{begins, is_byte};
+ghost use Rattle.gd_grammar.specs.Choice.{begins, is_byte};
 ghost use Rattle.gd_tplang.specs.Meaning.{is_bad_test};
 ghost use Rattle.gd_tplang.specs.Seen.{test_of};
 ghost use Rattle.gd_tplang.specs.Stop.{Finds, Stopped};

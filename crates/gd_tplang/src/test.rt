@@ -2,8 +2,8 @@
 ghost use Rattle.std.specs.Prelude.{◌≡◌, codes};
 ghost use Rattle.gd_prim.specs.Limits.{max_prims};
 ghost use Rattle.gd_grammar.specs.Grammar.{number_at};
-ghost use Rattle.gd_tplang.specs.Choice.{begins, either_at, is_byte, word_at, behind_at, seen_at};
-ghost use Rattle.gd_tplang.specs.Choice.{list_at};
+ghost use Rattle.gd_grammar.specs.Choice.{begins, either_at, is_byte, word_at, behind_at, seen_at};
+ghost use Rattle.gd_grammar.specs.Choice.{list_at};
 ghost use Rattle.gd_tplang.specs.Seen.{relation_of, test_of};
 ghost use Rattle.gd_tplang.specs.Stop.{Finds};
 ghost use Rattle.gd_tplang.specs.Written as written;

@@ -3,7 +3,7 @@ ghost use Rattle.std.specs.Prelude.{◌≡◌, ◌-◌, ◌<◌, ◌≤◌, ◌^
 ghost use Rattle.gd_base.specs.declared.datum.Datum.TheVariants as datum;
 ghost use Rattle.gd_prim.specs.Limits.{max_prims};
 ghost use Rattle.gd_grammar.specs.Grammar.{number_at};
-ghost use Rattle.gd_tplang.specs.Choice.{word_at, behind_at, seen_at, list_at};
+ghost use Rattle.gd_grammar.specs.Choice.{word_at, behind_at, seen_at, list_at};
 ghost use Rattle.gd_tplang.specs.Stop.{Finds};
 ghost use Rattle.gd_tplang.specs.Written as written;
 ghost use Rattle.gd_tplang.specs.Steps.{next_at};

@@ -3,7 +3,8 @@ use Rattle.std.proofs.lemmas.Result.{err_from_is_err_and}
 use Rattle.gd_prim.specs.declared.Batch.{Batch}
 use Rattle.gd_grammar.specs.Reading.{items_at}
 use Rattle.gd_codec.specs.Groups.{batch_at}
-use Rattle.gd_grammar.proofs.Exact.{behind, items_more}
+use Rattle.gd_grammar.specs.Choice.{with_front}
+use Rattle.gd_grammar.proofs.Exact.{items_more}
 use Rattle.gd_codec.proofs.Stops.{items_stop, stopped_same}
 use Rattle.gd_codec.proofs.group.batches.Goals as goal
 
@@ -17,5 +18,5 @@ returns-in_err-batch c =
 pub loop-place-preserved : goal.loop-place-preserved
 loop-place-preserved c =
     let l = c.loop-place in
-    ap (λ (items : List Batch). behind items (items_at batch_at (c.args.count - (l._place + 1)) c.in_ok-batch.behind.now)) c.in_ok-push.ensures.items
+    ap (λ (items : List Batch). with_front items (items_at batch_at (c.args.count - (l._place + 1)) c.in_ok-batch.behind.now)) c.in_ok-push.ensures.items
     ∙ items_more batch_at c.args.count l._place l.batches.items l.rest.now c.in_ok-batch.batch c.in_ok-batch.behind.now c.loop-place-test.true c.in_ok-batch.ensures ∙ l.invariant

@@ -1,7 +1,8 @@
 use Rattle.std.proofs.Common.{◌≡◌, ◌+◌, ◌-◌, ◌++◌, ◌∷◌, [], arith, length, length-append, ap, ℕ, List, Option}
 use Rattle.gd_bytes.specs.Cursor.{place_at}
 use Rattle.gd_grammar.specs.Grammar.{more_at}
-use Rattle.gd_frozen.proofs.Loops.{more_ends, more_step, more_done, more_stops}
+use Rattle.gd_grammar.proofs.Loops.{more_ends, more_step, more_done}
+use Rattle.gd_frozen.proofs.Loops.{more_stops}
 use Rattle.gd_frozen.proofs.row.keys.Goals as goal
 
 pub returns-in-None : goal.returns-in-None

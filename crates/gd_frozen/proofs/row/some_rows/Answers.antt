@@ -4,7 +4,8 @@ use Rattle.gd_grammar.specs.Mark.{Mark}
 use Rattle.gd_bytes.specs.FrozenRead.{row_at, some_at}
 use Rattle.gd_frozen.specs.declared.frozen.RowAt.{RowAt}
 use Rattle.gd_frozen.specs.Meaning.{row_of}
-use Rattle.gd_frozen.proofs.Loops.{more_ends, more_step, more_done, more_halts, stop_halts, map_more}
+use Rattle.gd_grammar.proofs.Loops.{more_ends, more_step, more_done}
+use Rattle.gd_frozen.proofs.Loops.{more_halts, stop_halts, map_more}
 use Rattle.gd_frozen.specs.declared.halt.Halt.TheVariants as halt
 use Rattle.gd_frozen.proofs.row.some_rows.Goals as goal
 

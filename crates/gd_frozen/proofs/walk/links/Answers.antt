@@ -4,7 +4,8 @@ use Rattle.gd_grammar.specs.Grammar.{number_at}
 use Rattle.gd_prim.specs.Limits.{max_prims}
 use Rattle.gd_bytes.specs.FrozenRead.{some_at}
 use Rattle.gd_frozen.specs.declared.halt.Halt.TheVariants as halt
-use Rattle.gd_frozen.proofs.Loops.{more_ends, more_step, more_done, more_halts, stop_halts}
+use Rattle.gd_grammar.proofs.Loops.{more_ends, more_step, more_done}
+use Rattle.gd_frozen.proofs.Loops.{more_halts, stop_halts}
 use Rattle.gd_frozen.proofs.walk.links.Goals as goal
 
 pub returns-in-None : goal.returns-in-None

@@ -1,7 +1,7 @@
 use Rattle.std.proofs.Common.{◌≡◌, ◌∙◌, ◌-◌, ◌+◌, sym, ap, subst, arith, suc, Ok}
 use Rattle.std.proofs.lemmas.Result.{err_from_is_err_and}
 use Rattle.gd_tplang.specs.Building.{gathered, with_items}
-use Rattle.gd_tplang.specs.Choice.{seen_at}
+use Rattle.gd_grammar.specs.Choice.{seen_at}
 use Rattle.gd_tplang.specs.Meaning.{meaning}
 use Rattle.gd_tplang.specs.Stop.{Finds, Stopped}
 use Rattle.gd_tplang.specs.Written.{rest_at, items_at, template_at}

@@ -1,6 +1,6 @@
 use Rattle.std.proofs.Common.{◌≡◌, ◌*◌, ◌+◌, ◌-◌}
 use Rattle.gd_tplang.specs.Building.{gathered, with_items}
-use Rattle.gd_tplang.specs.Choice.{seen_at}
+use Rattle.gd_grammar.specs.Choice.{seen_at}
 use Rattle.gd_tplang.specs.Written.{rest_at, template_at}
 use Rattle.gd_tplang.proofs.build.+build.Given as goal
 

@@ -1,6 +1,6 @@
 use Rattle.std.proofs.Common.{subst}
 use Rattle.gd_template.specs.Built.{view}
-use Rattle.gd_tplang.specs.Choice.{seen_at}
+use Rattle.gd_grammar.specs.Choice.{seen_at}
 use Rattle.gd_tplang.specs.Meaning.{meaning}
 use Rattle.gd_tplang.specs.Stop.{Stopped}
 use Rattle.gd_tplang.specs.Written.{template_at}

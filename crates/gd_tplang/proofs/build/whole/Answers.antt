@@ -2,7 +2,7 @@ use Rattle.std.proofs.Common.{◌≡◌, ◌∙◌, ◌≤◌, sym, ap, subst, O
 use Rattle.std.proofs.lemmas.Result.{err_from_is_err_and}
 use Rattle.gd_defs.specs.Template as defs
 use Rattle.gd_tplang.specs.Building.{gathered, with_items}
-use Rattle.gd_tplang.specs.Choice.{seen_at}
+use Rattle.gd_grammar.specs.Choice.{seen_at}
 use Rattle.gd_tplang.specs.Stop.{Stopped}
 use Rattle.gd_tplang.specs.Written.{items_at, template_at}
 use Rattle.gd_tplang.proofs.Built.{template_made, template_items_stop, template_bracket_stop}

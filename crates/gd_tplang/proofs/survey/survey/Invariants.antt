@@ -1,5 +1,5 @@
 use Rattle.std.proofs.Common.{◌≡◌, length}
-use Rattle.gd_tplang.specs.Choice.{seen_at}
+use Rattle.gd_grammar.specs.Choice.{seen_at}
 use Rattle.gd_tplang.specs.Survey.{Enough, finish, marks, marks_of}
 use Rattle.gd_tplang.specs.Written.{template_at}
 use Rattle.gd_tplang.proofs.survey.survey.Given as goal

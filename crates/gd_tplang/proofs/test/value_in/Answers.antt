@@ -1,6 +1,6 @@
 use Rattle.std.proofs.lemmas.Result.{err_from_is_err_and}
 use Rattle.std.specs.Prelude.{codes}
-use Rattle.gd_tplang.specs.Choice.{list_at}
+use Rattle.gd_grammar.specs.Choice.{list_at}
 use Rattle.gd_tplang.specs.Written as written
 use Rattle.gd_tplang.proofs.Lists.{behind_stops}
 use Rattle.gd_tplang.proofs.test.value_in.Goals as goal

@@ -2,7 +2,7 @@ use Rattle.std.proofs.Common.{◌∙◌, ◌-◌, ◌+◌, ◌++◌, ◌∷◌, 
 use Rattle.std.proofs.lemmas.Result.{err_from_is_err_and}
 use Rattle.gd_grammar.specs.Grammar.{number_at}
 use Rattle.gd_prim.specs.Limits.{max_prims}
-use Rattle.gd_tplang.specs.Choice.{list_at}
+use Rattle.gd_grammar.specs.Choice.{list_at}
 use Rattle.gd_tplang.proofs.Lists.{list_end, list_full, list_more, list_stop}
 use Rattle.gd_tplang.proofs.value.places.Goals as goal
 

@@ -1,7 +1,7 @@
 use Rattle.std.proofs.Common.{◌∙◌, ◌-◌, ◌+◌, sym, arith}
 use Rattle.std.proofs.lemmas.Result.{err_from_is_err_and}
 use Rattle.gd_tplang.specs.Written.{value_at}
-use Rattle.gd_tplang.specs.Choice.{list_at}
+use Rattle.gd_grammar.specs.Choice.{list_at}
 use Rattle.gd_tplang.proofs.Lists.{list_end, list_full, list_more, list_stop}
 use Rattle.gd_tplang.proofs.value.values.Goals as goal
 

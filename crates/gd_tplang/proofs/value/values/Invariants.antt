@@ -1,7 +1,7 @@
 use Rattle.std.proofs.Common.{◌≡◌, ◌-◌}
 use Rattle.gd_grammar.specs.Grammar.{more_at}
 use Rattle.gd_tplang.specs.Written.{value_at}
-use Rattle.gd_tplang.specs.Choice.{with_front, list_at}
+use Rattle.gd_grammar.specs.Choice.{with_front, list_at}
 use Rattle.gd_tplang.proofs.value.values.Given as goal
 
 abbrev pub invariant-loop-part : goal.invariant-loop-part

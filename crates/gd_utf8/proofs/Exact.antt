@@ -6,15 +6,17 @@ use Rattle.std.proofs.lemmas.Bool.Decides.{nat_tests}
 use Rattle.gd_grammar.specs.Chain.{◌>>=◌}
 use Rattle.gd_grammar.specs.Grammar.{Reads}
 use Rattle.gd_grammar.proofs.Scans.{Then, Only, ok_of}
-use Rattle.gd_grammar.specs.Reading.{Due, start, between, follow, least_after, most_after, may_come, after, byte_if, utf8_from, utf8_at}
-use Rattle.gd_grammar.proofs.Exact.{Exact, Exact-then, Exact-only, Exact-byte, Exact-same, Exact-mapped, OneByte, byte_found, Some_text, Mapped, mapped}
-use Rattle.gd_grammar.proofs.Utf8Runs.{IsRun, run_of_utf8, utf8_of_run}
+use Rattle.gd_grammar.specs.Choice.{with_front}
+use Rattle.gd_grammar.specs.Reading.{between, byte_if}
+use Rattle.gd_utf8.specs.Utf8.{Due, start, follow, least_after, most_after, may_come, after, utf8_from, utf8_at}
+use Rattle.gd_grammar.proofs.Exact.{Exact, Exact-then, Exact-only, Exact-byte, Exact-same, Exact-mapped, OneByte, byte_found, Some_text, Mapped, mapped, front_cons, front_none}
+use Rattle.gd_utf8.proofs.Runs.{IsRun, run_of_utf8, utf8_of_run}
 
-and_true : (x y : Bool) → (x && y) ≡ true → (x ≡ true) × (y ≡ true)
+pub and_true : (x y : Bool) → (x && y) ≡ true → (x ≡ true) × (y ≡ true)
 and_true true y is = (refl, is)
 and_true false y is = cc
 
-and_both : (x y : Bool) → x ≡ true → y ≡ true → (x && y) ≡ true
+pub and_both : (x y : Bool) → x ≡ true → y ≡ true → (x && y) ≡ true
 and_both x y p q = ap (λ (t : Bool). t && y) p ∙ q
 
 le_of : (a b : ℕ) → nat_le a b ≡ true → a ≤ b
@@ -24,9 +26,9 @@ order_after : (b : ℕ) → least_after b ≤ most_after b
 order_after b = grind (arith, nat_tests)
 
 -- so many bytes more can end between two characters
-record IsAlive (n : ℕ) (s : Due) : Type 0 where
-  due : s.due ≤ n
-  order : s.least ≤ s.most
+pub record IsAlive (n : ℕ) (s : Due) : Type 0 where
+  pub due : s.due ≤ n
+  pub order : s.least ≤ s.most
 
 -- a byte that may come next
 some_byte : (n : ℕ) (s : Due) → IsAlive (suc n) s → (b : ℕ) × (may_come n s b ≡ true)
@@ -41,7 +43,7 @@ some_byte n s alive = by (s.due == 0) refl
 abbrev next_by : Due → ℕ → Bool → Due
 next_by s b t = if t then record { due = follow b; least = least_after b; most = most_after b } else record { due = s.due - 1; least = 128; most = 191 }
 
-alive_after : (n : ℕ) (s : Due) (b : ℕ) → may_come n s b ≡ true → IsAlive (suc n) s → IsAlive n (after s b)
+pub alive_after : (n : ℕ) (s : Due) (b : ℕ) → may_come n s b ≡ true → IsAlive (suc n) s → IsAlive n (after s b)
 unfolding may_come after
 alive_after n s b comes alive = by (s.due == 0) refl
   where
@@ -94,7 +96,7 @@ length_run : (n : ℕ) (s : Due) (w : List ℕ) → IsRun n s w → length w ≡
 length_run zero s w run = ap length run
 length_run (suc n) s w (b, u, comes, run, is) = let l = length_run n (after s b) u run in ap length is ∙ omega (arith, l)
 
-alive_start : (n : ℕ) → IsAlive n start
+pub alive_start : (n : ℕ) → IsAlive n start
 alive_start n = record { due = omega arith; order = omega arith }
 
 run_utf8 : (n : ℕ) (t w : List ℕ) → Run n start t w → Utf8 n t w
@@ -110,14 +112,6 @@ pub utf8_some : (n : ℕ) → Some_text (Utf8 n)
 utf8_some n = let (w, run) = some_run n start (alive_start n) in (w, w, run_utf8 n w w (refl, run))
 
 -- ---- the code's loop
-
--- what is read, behind what was read before
-abbrev pub with_front : List ℕ → Reads (List ℕ) → Reads (List ℕ)
-with_front front r = r >>= λ x. Ok (front ++ x.0, x.1)
-
-front_cons : (front : List ℕ) (b : ℕ) (r : Reads (List ℕ)) → with_front front (r >>= λ t. Ok (b ∷ t.0, t.1)) ≡ with_front (front ++ b ∷ []) r
-front_cons front b (Ok (t, rest)) = ap (λ (x : List ℕ). Ok (x, rest)) (sym (append_assoc front (b ∷ []) t))
-front_cons front b (Err rest) = refl
 
 -- the byte that was read stands at this index
 pub next_at : (test : ℕ → Bool) (bytes : List ℕ) (at b : ℕ) (behind : List ℕ) → byte_if test (drop at bytes) ≡ Ok (b, behind) → (at < length bytes) × (behind ≡ drop (at + 1) bytes) × (take (at + 1) bytes ≡ take at bytes ++ b ∷ [])
@@ -160,11 +154,7 @@ utf8_done bytes count at s many =
 pub utf8_begun : (bytes : List ℕ) (count : ℕ) → with_front (take 0 bytes) (utf8_from (count - 0) start (drop 0 bytes)) ≡ utf8_at count bytes
 utf8_begun bytes count =
     let whole : count - 0 ≡ count = omega arith in
-    ap (λ (k : ℕ). with_front (take 0 bytes) (utf8_from k start (drop 0 bytes))) whole ∙ alone (utf8_from count start bytes)
-  where
-    alone : (r : Reads (List ℕ)) → with_front [] r ≡ r
-    alone (Ok (t, rest)) = refl
-    alone (Err rest) = refl
+    ap (λ (k : ℕ). with_front (take 0 bytes) (utf8_from k start (drop 0 bytes))) whole ∙ front_none (utf8_from count start bytes)
 
 -- what was read is UTF-8 of that length
 pub utf8_read : (count : ℕ) (bytes t rest : List ℕ) → utf8_at count bytes ≡ Ok (t, rest) → (length t ≡ count) × IsUtf8 t

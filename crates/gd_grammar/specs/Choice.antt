@@ -12,6 +12,10 @@ abbrev pub begins : (ℕ → Bool) → List ℕ → Bool
 begins test [] = false
 begins test (c ∷ cs) = test c
 
+-- the next byte is this one
+abbrev pub is_next : ℕ → List ℕ → Bool
+is_next mark bytes = begins (is_byte mark) bytes
+
 -- reads by the one where the next byte passes the test, else by the other
 abbrev pub either_at : {A : Type 0} → (ℕ → Bool) → (List ℕ → Reads A) → (List ℕ → Reads A) → List ℕ → Reads A
 either_at test one other bytes = if begins test bytes then one bytes else other bytes

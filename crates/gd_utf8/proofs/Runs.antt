@@ -7,7 +7,7 @@ use Rattle.std.proofs.lemmas.List.{append-nil}
 use Rattle.std.proofs.lemmas.Bool.Decides.{nat_tests}
 use Rattle.std.proofs.lemmas.Str.{IsUtf8-append}
 use lib.Utf8.{scalar, scalars, encode, encodes, next, scalar_cases}
-use Rattle.gd_grammar.specs.Reading.{Due, start, may_come, after, follow, least_after, most_after}
+use Rattle.gd_utf8.specs.Utf8.{Due, start, may_come, after, follow, least_after, most_after}
 
 -- these bytes come one after another, so many, from what is due at first to between two characters
 abbrev pub IsRun : ℕ → Due → List ℕ → Type 0

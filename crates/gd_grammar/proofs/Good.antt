@@ -8,7 +8,7 @@ use Rattle.gd_grammar.proofs.Scans.{Begins, Ends, Stops, Found, Scans, Then, cha
 use Rattle.gd_grammar.proofs.Numbers.{Word, Number, word_ends, number_ends, Scans-word, Scans-number}
 use Rattle.gd_grammar.proofs.Exact.{Exact, Some_text, Mapped, exact_scans}
 use Rattle.gd_grammar.proofs.Steady.{same_front}
-use Rattle.gd_tplang.specs.Choice.{either_at, seen_at, word_at, behind_at}
+use Rattle.gd_grammar.specs.Choice.{either_at, seen_at, word_at, behind_at}
 
 pub record Good {A : Type 0} (P : ℕ → Type 0) (spells : A → List ℕ → Type 0) (read : List ℕ → Reads A) : Type 0 where
   pub scans : Scans spells read

@@ -1,7 +1,0 @@
--- What the code knows of a character that it reads.
-use Rattle.gd_grammar.specs.Reading as reading
-use Rattle.gd_codec.specs.declared.text.Due.{Due}
-
--- the same, as a definition has it
-abbrev pub due_of : Due → reading.Due
-due_of s = record { due = s.due; least = s.least; most = s.most }
