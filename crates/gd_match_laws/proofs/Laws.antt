@@ -1,7 +1,8 @@
 -- The laws, proved.
-use Rattle.gd_match_laws.specs.Laws.{RunsKeep, RunsGive, RunsEnd, HeavyStays, ScansStay, ScansRefuse, ReadingsPrint, CountsPrint, BuildingRefuses, WalksTell}
+use Rattle.gd_match_laws.specs.Laws.{RunsKeep, RunsGive, RunsEnd, CandidatesRun, HeavyStays, ScansStay, ScansRefuse, ReadingsPrint, CountsPrint, BuildingRefuses, WalksTell}
 use Rattle.gd_match_laws.proofs.Scans.{run-keeps, run-gives, heavy-so-far}
 use Rattle.gd_match_laws.proofs.Reached.{fitting-to-end}
+use Rattle.gd_match_laws.proofs.AtOnce.{at-once}
 use Rattle.gd_match_laws.proofs.Bodies.{scanning-too-wide, building-too-wide}
 use Rattle.gd_match_laws.proofs.Suspended.{suspended}
 use Rattle.gd_match_laws.proofs.Whole.{whole-reading, whole-count, printing-told}
@@ -15,6 +16,9 @@ runs_give prims order t s cs e ended runs = run-gives prims order t s e cs ended
 pub runs_end : RunsEnd
 runs_end prims members order t s rises fits =
     let to = fitting-to-end prims members order t rises s fits in record { last = to.0; runs = to.1; ended = record { frames = to.2; places = to.3 } }
+
+pub candidates_run : CandidatesRun
+candidates_run prims order t s c i none found = at-once prims order t s c i none found
 
 pub heavy_stays : HeavyStays
 heavy_stays prims order t s f fs is heavy = heavy-so-far prims order t s f fs is heavy

@@ -7,6 +7,7 @@ pub mod Links
 pub mod Kept
 pub mod Bodies
 pub mod Reached
+pub mod AtOnce
 pub mod Suspended
 pub mod Whole
 pub mod Walks

@@ -3,8 +3,8 @@
 //! statement from `specs/Laws.antt`.
 #![tactic(auto)]
 
-ghost use Rattle.gd_match_laws.specs.Laws.{BuildingRefuses, CountsPrint, CurrentMoves, HeavyStays};
-ghost use Rattle.gd_match_laws.specs.Laws.{LastMoves, ReadingsPrint, RunsEnd, RunsGive, RunsKeep};
+ghost use Rattle.gd_match_laws.specs.Laws.{BuildingRefuses, CandidatesRun, CountsPrint, CurrentMoves};
+ghost use Rattle.gd_match_laws.specs.Laws.{HeavyStays, LastMoves, ReadingsPrint, RunsEnd, RunsGive, RunsKeep};
 ghost use Rattle.gd_match_laws.specs.Laws.{ScansRefuse, ScansStay, WalksTell};
 
 /// A move of the last of frames is one of all of them.
@@ -30,6 +30,11 @@ pub fn runs_give()
 /// From each position that fits its template there is a run to the end.
 pub fn runs_end()
     ensures { RunsEnd }
+{}
+
+/// A candidate of which all is known at once is passed over by a run that gives it as it is.
+pub fn candidates_run()
+    ensures { CandidatesRun }
 {}
 
 /// A weight that is too much before its candidate ends stays so.

@@ -62,7 +62,7 @@ module _ (prims : List Primitive) (q : Asked) (w : Kept) where
   not_over : (n : ℕ) → n ≤ 65_536 → nat_lt 65_536 n ≡ false
   not_over n few = grind (arith, nat_tests)
 
-  left_light : (zs : List ℕ) → ((z : ℕ) → In z zs → ChangesNothing prims q w z) → list_any weighs_too_much (map (candidate prims (template_of q)) zs) ≡ false
+  pub left_light : (zs : List ℕ) → ((z : ℕ) → In z zs → ChangesNothing prims q w z) → list_any weighs_too_much (map (candidate prims (template_of q)) zs) ≡ false
   left_light [] nothing = refl
   left_light (z ∷ zs) nothing =
       ap (λ b. b || list_any weighs_too_much (map (candidate prims (template_of q)) zs)) (not_over (weight prims (template_of q) z) (nothing z (inl refl)).0)
@@ -76,7 +76,7 @@ module _ (prims : List Primitive) (q : Asked) (w : Kept) where
       subst (λ o. HasSeen w (offered ++ valued prims q o ∷ map (valued prims q) rest)) (sym (place_of-tree prims (template_of q) z))
       (subst (HasSeen w) (append_assoc offered (valued prims q z ∷ []) (map (valued prims q) rest)) (later (offered ++ valued prims q z ∷ []) more))
 
-  left_seen : (zs : List ℕ) → ((z : ℕ) → In z zs → ChangesNothing prims q w z) → (offered : List Row) → HasSeen w offered → HasSeen w (offered ++ map (valued prims q) (answering (map (candidate prims (template_of q)) zs)))
+  pub left_seen : (zs : List ℕ) → ((z : ℕ) → In z zs → ChangesNothing prims q w z) → (offered : List Row) → HasSeen w offered → HasSeen w (offered ++ map (valued prims q) (answering (map (candidate prims (template_of q)) zs)))
   left_seen [] nothing offered seen = subst (HasSeen w) (sym (append-nil offered)) seen
   left_seen (z ∷ zs) nothing offered seen =
       first_seen z (answering (map (candidate prims (template_of q)) zs)) (is_answer prims (template_of q) z) (λ more has. left_seen zs (λ x there. nothing x (inr there)) more has) offered seen ((nothing z (inl refl)).1 offered seen)
@@ -85,7 +85,7 @@ module _ (prims : List Primitive) (q : Asked) (w : Kept) where
 
 module _ (prims : List Primitive) (q : Asked) (order : ScanOrder) (after : Option Mark) where
   -- a scan whose candidates left are light and change nothing may go to its end
-  ends_with : (s : Scan) (w : Kept) → Rising nat_cmp (map (λ (c : ℕ × ℕ). c.0) order) → (has : HasScanned prims q after order s w) → list_any weighs_too_much (owed_by prims (template_of q) order s) ≡ false
+  pub ends_with : (s : Scan) (w : Kept) → Rising nat_cmp (map (λ (c : ℕ × ℕ). c.0) order) → (has : HasScanned prims q after order s w) → list_any weighs_too_much (owed_by prims (template_of q) order s) ≡ false
       → ((offered : List Row) → HasSeen w offered → HasSeen w (offered ++ map (valued prims q) (answering (owed_by prims (template_of q) order s))))
       → (e : Scan) × (HasScanned prims q after order e w × AtEnd prims order (template_of q) e)
   ends_with s w rises has light seen = (

@@ -11,6 +11,7 @@ pub mod Full
 pub mod Defined
 pub mod Fewer
 pub mod Early
+pub mod AtOnce
 pub mod Visited
 pub mod Gathered
 pub mod Laws

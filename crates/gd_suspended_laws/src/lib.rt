@@ -7,7 +7,8 @@ ghost use Rattle.gd_suspended_laws.specs.Laws.{BuildsGo, EverythingIs, FewerAre,
 ghost use Rattle.gd_suspended_laws.specs.Laws.{HeavyBuildsRefuse, HeavyPagesRefuse};
 ghost use Rattle.gd_suspended_laws.specs.Laws.{HeavyScansRefuse, LinksAreDefined, ManyRefuse};
 ghost use Rattle.gd_suspended_laws.specs.Laws.{NamedAre, OrdersAre, PagesPrint, PrintsOwe};
-ghost use Rattle.gd_suspended_laws.specs.Laws.{ScansEndEarly, ScansKeep, ScansOwe, StartsOwe};
+ghost use Rattle.gd_suspended_laws.specs.Laws.{ScansEndEarly, ScansEndHere, ScansKeep, ScansOwe, ScansPass};
+ghost use Rattle.gd_suspended_laws.specs.Laws.{StartsOwe};
 ghost use Rattle.gd_suspended_laws.specs.Laws.{ThenBuilds, ThenCounts, ThenPrints, TreesTellKeys};
 ghost use Rattle.gd_suspended_laws.specs.Laws.{VisitsEnd};
 
@@ -72,6 +73,16 @@ pub fn scans_end_early()
 /// with the window that it has.
 pub fn visits_end()
     ensures { VisitsEnd }
+{}
+
+/// Where all is known of the next candidate, the scan may go on behind it.
+pub fn scans_pass()
+    ensures { ScansPass }
+{}
+
+/// Where none of the candidates that are left would change anything, the scan may end.
+pub fn scans_end_here()
+    ensures { ScansEndHere }
 {}
 
 /// The rows that a scan keeps are read again from their marks.
