@@ -2,17 +2,20 @@
 use gd_words::help::help_text;
 
 /// What the help names.
-static NAMED: [&str; 11] = [
+static NAMED: [&str; 14] = [
     "serve",
     "replay",
     "dump",
     "restore",
     "follow",
     "templates",
+    "gen",
     "--file",
     "--workers",
     "--budget",
     "--from",
+    "--number",
+    "--count",
     "threads",
 ];
 

@@ -119,6 +119,32 @@ from = record {
   fills_passes = λ x xs rows h. rw (not_dashes x xs h, not_long x xs h, not_short x xs h) refl;
 }
 
+number : Steps (codes "number")
+unfolding clap_on_literals
+number = record {
+  same = refl;
+  known = refl;
+  attached = λ v rows p. refl;
+  attached_passes = λ v rows p. refl;
+  opens = λ rows p. refl;
+  opens_passes = λ rows p. refl;
+  fills = λ x xs rows h. rw (not_dashes x xs h, not_long x xs h, not_short x xs h) refl;
+  fills_passes = λ x xs rows h. rw (not_dashes x xs h, not_long x xs h, not_short x xs h) refl;
+}
+
+count : Steps (codes "count")
+unfolding clap_on_literals
+count = record {
+  same = refl;
+  known = refl;
+  attached = λ v rows p. refl;
+  attached_passes = λ v rows p. refl;
+  opens = λ rows p. refl;
+  opens_passes = λ rows p. refl;
+  fills = λ x xs rows h. rw (not_dashes x xs h, not_long x xs h, not_short x xs h) refl;
+  fills_passes = λ x xs rows h. rw (not_dashes x xs h, not_long x xs h, not_short x xs h) refl;
+}
+
 -- the parser is one whose matches are exact
 pub simple : is_simple parser ≡ true
 unfolding clap_on_literals
@@ -141,13 +167,19 @@ use_once name v rows none = rw none refl
 
 -- each option has its steps
 pub steps : (name : Text) → is_name parser_options name ≡ true → Steps name
-steps name known = elim (or_cases (bytes_eq name (codes "file")) (is_name (codes "workers" ∷ codes "budget" ∷ codes "from" ∷ []) name) known) [
+steps name known = elim (or_cases (bytes_eq name (codes "file")) (is_name (codes "workers" ∷ codes "budget" ∷ codes "from" ∷ codes "number" ∷ codes "count" ∷ []) name) known) [
   | inl e ↦ subst Steps (sym (same_text _ _ e)) file
-  | inr others ↦ elim (or_cases (bytes_eq name (codes "workers")) (is_name (codes "budget" ∷ codes "from" ∷ []) name) others) [
+  | inr others ↦ elim (or_cases (bytes_eq name (codes "workers")) (is_name (codes "budget" ∷ codes "from" ∷ codes "number" ∷ codes "count" ∷ []) name) others) [
     | inl e ↦ subst Steps (sym (same_text _ _ e)) workers
-    | inr more ↦ elim (or_cases (bytes_eq name (codes "budget")) (is_name (codes "from" ∷ []) name) more) [
+    | inr more ↦ elim (or_cases (bytes_eq name (codes "budget")) (is_name (codes "from" ∷ codes "number" ∷ codes "count" ∷ []) name) more) [
       | inl e ↦ subst Steps (sym (same_text _ _ e)) budget
-      | inr last ↦ elim (or_cases (bytes_eq name (codes "from")) false last) [ inl e ↦ subst Steps (sym (same_text _ _ e)) from | inr never ↦ cc ]
+      | inr later ↦ elim (or_cases (bytes_eq name (codes "from")) (is_name (codes "number" ∷ codes "count" ∷ []) name) later) [
+        | inl e ↦ subst Steps (sym (same_text _ _ e)) from
+        | inr further ↦ elim (or_cases (bytes_eq name (codes "number")) (is_name (codes "count" ∷ []) name) further) [
+          | inl e ↦ subst Steps (sym (same_text _ _ e)) number
+          | inr last ↦ elim (or_cases (bytes_eq name (codes "count")) false last) [ inl e ↦ subst Steps (sym (same_text _ _ e)) count | inr never ↦ cc ]
+        ]
+      ]
     ]
   ]
 ]

@@ -163,9 +163,11 @@ walks names (word ∷ rest) None given before rows p within spelt known once rea
 without_defaults : (rs : List Row) → fold with_default rs rules ≡ rs
 unfolding clap_on_literals
 without_defaults rs =
-    ap (λ now. with_default (with_default (with_default now workers_rule) budget_rule) from_rule) (same file_rule refl rs)
-    ∙ ap (λ now. with_default (with_default now budget_rule) from_rule) (same workers_rule refl rs)
-    ∙ ap (λ now. with_default now from_rule) (same budget_rule refl rs) ∙ same from_rule refl rs
+    ap (λ now. with_default (with_default (with_default (with_default (with_default now workers_rule) budget_rule) from_rule) number_rule) count_rule) (same file_rule refl rs)
+    ∙ ap (λ now. with_default (with_default (with_default (with_default now budget_rule) from_rule) number_rule) count_rule) (same workers_rule refl rs)
+    ∙ ap (λ now. with_default (with_default (with_default now from_rule) number_rule) count_rule) (same budget_rule refl rs)
+    ∙ ap (λ now. with_default (with_default now number_rule) count_rule) (same from_rule refl rs)
+    ∙ ap (λ now. with_default now count_rule) (same number_rule refl rs) ∙ same count_rule refl rs
   where
     file_rule : Rule
     file_rule = rule (codes "file")
@@ -178,6 +180,12 @@ without_defaults rs =
 
     from_rule : Rule
     from_rule = rule (codes "from")
+
+    number_rule : Rule
+    number_rule = rule (codes "number")
+
+    count_rule : Rule
+    count_rule = rule (codes "count")
 
     chosen_same : (b : Bool) (xs : List Row) → cond b xs xs ≡ xs
     chosen_same true xs = refl

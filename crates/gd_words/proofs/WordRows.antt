@@ -67,7 +67,32 @@ pub answered : command_of (codes "templates" ∷ []) ≡ Some (command.Templates
 unfolding command_of options_of settings option_of
 answered = refl
 
+pub generated : command_of (codes "gen" ∷ []) ≡ Some (command.Generate (record { number = 0; count = 1000 }))
+unfolding command_of options_of settings option_of
+generated = refl
+
+pub generated_by_number : command_of (codes "gen" ∷ codes "--count=200000" ∷ codes "--number" ∷ codes "4294967295" ∷ []) ≡ Some (command.Generate (record { number = 4294967295; count = 200000 }))
+unfolding command_of options_of settings option_of
+generated_by_number = refl
+
+-- no nodes, too many, a number of more than 32 bits, and a file, which it does not have
+pub generated_nothing : command_of (codes "gen" ∷ codes "--count" ∷ codes "0" ∷ []) ≡ None
+unfolding command_of options_of settings option_of
+generated_nothing = refl
+
+pub generated_too_many : command_of (codes "gen" ∷ codes "--count" ∷ codes "200001" ∷ []) ≡ None
+unfolding command_of options_of settings option_of
+generated_too_many = refl
+
+pub generated_by_33_bits : command_of (codes "gen" ∷ codes "--number" ∷ codes "4294967296" ∷ []) ≡ None
+unfolding command_of options_of settings option_of
+generated_by_33_bits = refl
+
+pub generated_in_file : command_of (codes "gen" ∷ codes "--file" ∷ codes "a" ∷ []) ≡ None
+unfolding command_of options_of settings option_of
+generated_in_file = refl
+
 -- a verb that is none of them
-pub no_verb : command_of (codes "gen" ∷ []) ≡ None
+pub no_verb : command_of (codes "generate" ∷ []) ≡ None
 unfolding command_of
 no_verb = refl

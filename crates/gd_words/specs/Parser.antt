@@ -16,12 +16,16 @@ bare = record {
 
 -- the options that the parser knows: those of all verbs
 abbrev pub parser_options : Names
-parser_options = codes "file" ∷ codes "workers" ∷ codes "budget" ∷ codes "from" ∷ []
+parser_options = codes "file" ∷ codes "workers" ∷ codes "budget" ∷ codes "from" ∷ codes "number" ∷ codes "count" ∷ []
 
 -- with the options of `serve`
 abbrev pub serving : App
 serving = with_rule (with_rule (with_rule bare (long_rule (codes "file"))) (long_rule (codes "workers"))) (long_rule (codes "budget"))
 
+-- with those of `gen`
+abbrev pub generating : App → App
+generating app = with_rule (with_rule app (long_rule (codes "number"))) (long_rule (codes "count"))
+
 -- the parser of the options, whatever the verb
 abbrev pub parser : App
-parser = with_rule serving (long_rule (codes "from"))
+parser = generating (with_rule serving (long_rule (codes "from")))

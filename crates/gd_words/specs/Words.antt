@@ -9,6 +9,7 @@ use Rattle.gd_words.specs.declared.verbs.Command.TheVariants as command
 use Rattle.gd_words.specs.declared.verbs.Serve.{Serve}
 use Rattle.gd_words.specs.declared.verbs.Place.{Place}
 use Rattle.gd_words.specs.declared.verbs.Dump.{Dump}
+use Rattle.gd_words.specs.declared.verbs.Generate.{Generate}
 use Rattle.gd_words.specs.Options.{Names, Setting, value_of, options_of}
 
 -- 1 to 10 digits, without a sign
@@ -59,6 +60,17 @@ dump_of given = option_map (λ from. record {
   from = from;
 }) (number_or 0 0 4194303 (value_of (codes "from") given))
 
+-- the options of `gen`
+abbrev pub generate_options : Names
+generate_options = codes "number" ∷ codes "count" ∷ []
+
+-- `gen` with these settings: by a number of 32 bits, else 0, and for 1 to 200,000 nodes, else 1,000
+abbrev pub generate_of : List Setting → Option Generate
+generate_of given = option_and_then (λ number. option_map (λ count. record {
+  number = number;
+  count = count;
+}) (number_or 1000 1 200000 (value_of (codes "count") given))) (number_or 0 0 4294967295 (value_of (codes "number") given))
+
 -- the command that words give: a verb, and then its options
 unfoldable pub command_of : List (List ℕ) → Option Command
 command_of [] = None
@@ -68,4 +80,5 @@ command_of (verb ∷ words) = if bytes_eq verb (codes "serve")
     else (if bytes_eq verb (codes "dump") then option_map (λ dump. command.Dump dump) (option_and_then dump_of (options_of dump_options words))
     else (if bytes_eq verb (codes "restore") then option_map (λ place. command.Restore place) (place_in words)
     else (if bytes_eq verb (codes "follow") then option_map (λ place. command.Follow place) (place_in words)
-    else (if bytes_eq verb (codes "templates") then option_map (λ place. command.Templates place) (place_in words) else None)))))
+    else (if bytes_eq verb (codes "templates") then option_map (λ place. command.Templates place) (place_in words)
+    else (if bytes_eq verb (codes "gen") then option_map (λ generate. command.Generate generate) (option_and_then generate_of (options_of generate_options words)) else None))))))

@@ -11,6 +11,7 @@ Usage: graphd serve [OPTIONS]
        graphd restore [--file PATH]
        graphd follow [--file PATH]
        graphd templates [--file PATH]
+       graphd gen [--number N] [--count N]
 
 serve      reads lines of JSON from standard input, each a read or a write of
            a session, and prints one line of JSON for each
@@ -23,6 +24,8 @@ restore    reads such a text from standard input, and stores its batches
 follow     runs a node that answers asks for groups of batches, takes the
            groups that it is given, and answers reads: a line of JSON each
 templates  reads a template a line, and prints what answers it
+gen        makes requests by a number, serves them in memory, and prints one
+           line of JSON to which the replies come
 
 Options, each at most once, as --name value or --name=value:
   --file PATH     keep the store in this file; without it, in memory
@@ -31,11 +34,14 @@ Options, each at most once, as --name value or --name=value:
   --budget N      serve: 1 to 1000000 steps for a slice of a read, 10000 if
                   not given
   --from N        dump: the number of the first batch, 0 if not given
+  --number N      gen: 0 to 4294967295, 0 if not given
+  --count N       gen: 1 to 200000 nodes, 1000 if not given
 
 Examples:
   graphd serve --file store.graphd --budget=5000 < requests.txt
   graphd replay --file store.graphd < events.txt
   graphd dump --file store.graphd > store.txt
   graphd restore --file copy.graphd < store.txt
+  graphd gen --number 7 --count 20000
 "
 }

@@ -5,7 +5,7 @@ ghost use Rattle.std.specs.List.{list_all};
 ghost use Rattle.clap.specs.Words.{app_of, with_rule};
 ghost use Rattle.gd_words.specs.Options.{Setting, is_name, options_of, value_of};
 ghost use Rattle.gd_words.specs.Parser.{long_rule, parser_options, serving as serving_app};
-ghost use Rattle.gd_words.specs.Parser.{parser as parser_app};
+ghost use Rattle.gd_words.specs.Parser.{parser as parser_app, generating as generating_app};
 
 use crate::grammar::are_options;
 use clap::error::ErrorKind;
@@ -20,6 +20,8 @@ pub struct Values<'a> {
     pub workers: Option<&'a str>,
     pub budget: Option<&'a str>,
     pub from: Option<&'a str>,
+    pub number: Option<&'a str>,
+    pub count: Option<&'a str>,
 }
 
 /// The parser with one more option.
@@ -47,12 +49,21 @@ fn serving<'a>(alloc: Global) -> Result<Command<'a>, AllocError>
     with_option(alloc, with_workers, "budget")
 }
 
+/// A parser with the options of `gen` besides.
+fn generating<'a>(alloc: Global, parser: Command<'a>) -> Result<Command<'a>, AllocError>
+    ensures { IfOk result (λ c. app_of c ≡ generating_app (app_of parser.entry)) }
+{
+    let with_number = with_option(alloc, parser, "number")?;
+    with_option(alloc, with_number, "count")
+}
+
 /// The parser of the options of all verbs.
 fn parser<'a>(alloc: Global) -> Result<Command<'a>, AllocError>
     ensures { IfOk result (λ c. app_of c ≡ parser_app) }
 {
     let with_budget = serving(alloc)?;
-    with_option(alloc, with_budget, "from")
+    let with_from = with_option(alloc, with_budget, "from")?;
+    generating(alloc, with_from)
 }
 
 /// The values of the options with these names that the words spell, each at most once. The names
@@ -70,7 +81,9 @@ pub fn values_of<'a>(
         → (option_map (λ t. t.now) v.file ≡ value_of (codes "file") given)
         × (option_map (λ t. t.now) v.workers ≡ value_of (codes "workers") given)
         × (option_map (λ t. t.now) v.budget ≡ value_of (codes "budget") given)
-        × (option_map (λ t. t.now) v.from ≡ value_of (codes "from") given))) }
+        × (option_map (λ t. t.now) v.from ≡ value_of (codes "from") given)
+        × (option_map (λ t. t.now) v.number ≡ value_of (codes "number") given)
+        × (option_map (λ t. t.now) v.count ≡ value_of (codes "count") given))) }
 {
     if !are_options(names, words) {
         return Ok(None);
@@ -81,6 +94,8 @@ pub fn values_of<'a>(
             workers: matches.get_str("workers"),
             budget: matches.get_str("budget"),
             from: matches.get_str("from"),
+            number: matches.get_str("number"),
+            count: matches.get_str("count"),
         })),
         Err(error) => match error.kind() {
             ErrorKind::OutOfMemory => Err(Memory),

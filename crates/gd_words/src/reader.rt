@@ -3,24 +3,29 @@ ghost use Rattle.std.specs.Prelude.{◌≡◌, ◌≤◌, ℕ, List, map, option
 ghost use Rattle.std.specs.Prelude.{option_map, All};
 ghost use Rattle.gd_words.specs.Options.{options_of};
 ghost use Rattle.gd_words.specs.Words.{serve_options, serve_of, dump_options, dump_of};
-ghost use Rattle.gd_words.specs.Words.{place_options, place_in, command_of};
+ghost use Rattle.gd_words.specs.Words.{place_options, place_in, command_of, generate_options};
+ghost use Rattle.gd_words.specs.Words.{generate_of, number_or as number_or_of};
 
 use crate::number::number_or;
 use crate::parsing::values_of;
-use crate::verbs::{Command, Dump, Place, Serve};
+use crate::verbs::{Command, Dump, Generate, MOST_NODES, NodeCount, Place, Serve};
 use gd_base::memory::Memory;
 use gd_base::text::Text;
 use std::alloc::Global;
 
-const WORKERS: u32 = 4;
+/// How many workers `serve` has where its words name none.
+pub const WORKERS: u32 = 4;
 
 const MOST_WORKERS: u32 = 16;
 
-const BUDGET: u32 = 10_000;
+/// How many steps a slice of a read may take under `serve` where its words name none.
+pub const BUDGET: u32 = 10_000;
 
 const MOST_BUDGET: u32 = 1_000_000;
 
 const MOST_FROM: u32 = 4_194_303;
+
+const NODES: u32 = 1_000;
 
 /// The words as strings.
 fn strings<'a>(alloc: Global, words: &'a [Text]) -> Result<Vec<&'a str>, Memory>
@@ -35,11 +40,13 @@ fn strings<'a>(alloc: Global, words: &'a [Text]) -> Result<Vec<&'a str>, Memory>
 }
 
 /// The command that the words after the program's name give: a verb, and then its options in any
-/// order, each at most once, as `--name value` or `--name=value`. Each verb has `--file PATH`;
-/// `serve` has also `--workers N` (1 to 16, else 4) and `--budget N` (1 to 1,000,000, else 10,000),
-/// `dump` also `--from N` (0 to 4,194,303, else 0); `replay`, `restore`, `follow` and `templates`
-/// have no other. A value is not empty, and as a word of its own does not begin with `-`; a number
-/// is 1 to 10 digits. None: the words are not of this grammar. `Memory`: an allocation was refused.
+/// order, each at most once, as `--name value` or `--name=value`. Each verb but `gen` has
+/// `--file PATH`; `serve` has also `--workers N` (1 to 16, else 4) and `--budget N` (1 to 1,000,000,
+/// else 10,000), `dump` also `--from N` (0 to 4,194,303, else 0); `replay`, `restore`, `follow` and
+/// `templates` have no other; `gen` has `--number N` (0 to 4,294,967,295, else 0) and `--count N`
+/// (1 to 200,000, else 1,000). A value is not empty, and as a word of its own does not begin with
+/// `-`; a number is 1 to 10 digits. None: the words are not of this grammar. `Memory`: an
+/// allocation was refused.
 #[tactic(auto, unfolding(crate::specs::Words::command_of))]
 pub fn command(alloc: Global, words: &[Text]) -> Result<Option<Command>, Memory>
     ensures { IfOk result (λ command. command ≡ command_of words.now) }
@@ -55,6 +62,7 @@ pub fn command(alloc: Global, words: &[Text]) -> Result<Option<Command>, Memory>
         "restore" => Ok(place(alloc, &options)?.map(Command::Restore)),
         "follow" => Ok(place(alloc, &options)?.map(Command::Follow)),
         "templates" => Ok(place(alloc, &options)?.map(Command::Templates)),
+        "gen" => Ok(generate(alloc, &options)?.map(Command::Generate)),
         _ => Ok(None),
     }
 }
@@ -132,6 +140,39 @@ fn place(alloc: Global, words: &[&str]) -> Result<Option<Place>, Memory>
     };
     let file = file_of(alloc, values.file)?;
     Ok(Some(Place { file }))
+}
+
+/// The options of `gen`.
+fn generate_names() -> [&'static str; 2]
+    ensures { map (λ n. n.now) result ≡ generate_options }
+{
+    ["number", "count"]
+}
+
+/// How many nodes a value asks for, or the default where there is none.
+fn node_count(value: Option<&str>) -> Option<NodeCount>
+    ensures { result ≡ number_or_of 1000 1 200_000 (option_map (λ v. v.now) value.entry) }
+{
+    let nodes = number_or(NODES, 1, MOST_NODES, value)?;
+    Some(NodeCount::new(nodes))
+}
+
+/// `gen` with the options that the words spell.
+fn generate(alloc: Global, words: &[&str]) -> Result<Option<Generate>, Memory>
+    ensures { IfOk result (λ generate. generate ≡ option_and_then generate_of
+        (options_of generate_options (map (λ w. w.now) words.now))) }
+{
+    let names = generate_names();
+    let Some(values) = values_of(alloc, &names, words)? else {
+        return Ok(None);
+    };
+    let Some(number) = number_or(0, 0, u32::MAX, values.number) else {
+        return Ok(None);
+    };
+    let Some(count) = node_count(values.count) else {
+        return Ok(None);
+    };
+    Ok(Some(Generate { number, count }))
 }
 
 /// The path of the file, if it is given.

@@ -1,8 +1,12 @@
 //! What a command line can ask for.
-ghost use Rattle.std.specs.Prelude.{◌≡◌, option_map};
+ghost use Rattle.std.specs.Prelude.{◌≡◌, ◌≤◌, option_map};
 ghost use Rattle.gd_words.specs.Verbs.{file_of};
 
 use gd_base::text::Text;
+use std::marker::Model;
+
+/// The most nodes that may be asked for.
+pub const MOST_NODES: u32 = 200_000;
 
 /// Serve lines and rounds.
 #[derive(Debug, PartialEq, Eq, Drop)]
@@ -31,6 +35,53 @@ pub struct Dump {
     pub from: u32,
 }
 
+/// A number of nodes, 1 to `MOST_NODES`. Contracts see the number.
+#[derive(Clone, Copy, Debug, PartialEq, Eq)]
+pub struct NodeCount {
+    nodes: u32,
+}
+
+impl Model for NodeCount {
+    ghost use Rattle.std.specs.Prelude.{ℕ, ◌≤◌};
+
+    ghost Value = { ℕ };
+
+    ghost view = { λ count. count.nodes };
+
+    ghost inverse = { λ nodes. record { nodes = nodes } };
+
+    ghost invariant = { λ count. (1 ≤ count.nodes) × (count.nodes ≤ 200_000) };
+}
+
+impl NodeCount {
+    /// So many nodes.
+    pub fn new(nodes: u32) -> NodeCount
+        requires some { 1 ≤ nodes }
+        requires within { nodes ≤ MOST_NODES }
+        ensures { result ≡ nodes }
+    {
+        NodeCount { nodes }
+    }
+
+    /// How many nodes these are.
+    pub fn nodes(self) -> u32
+        ensures nodes { result ≡ self }
+        ensures some { 1 ≤ result }
+        ensures within { result ≤ MOST_NODES }
+    {
+        self.nodes
+    }
+}
+
+/// Generate requests, and tell what the replies to them come to.
+#[derive(Debug, PartialEq, Eq, Drop)]
+pub struct Generate {
+    /// The number from which names and links are drawn.
+    pub number: u32,
+    /// How many nodes are made.
+    pub count: NodeCount,
+}
+
 /// A verb with its options.
 #[derive(Debug, PartialEq, Eq, Drop)]
 pub enum Command {
@@ -44,6 +95,7 @@ pub enum Command {
     Follow(Place),
     /// Answer templates, a line each.
     Templates(Place),
+    Generate(Generate),
 }
 
 impl Command {
@@ -58,6 +110,7 @@ impl Command {
             Command::Restore(place) => place.file.as_ref(),
             Command::Follow(place) => place.file.as_ref(),
             Command::Templates(place) => place.file.as_ref(),
+            Command::Generate(_) => None,
         }
     }
 }

@@ -25,6 +25,8 @@ returns-in-Ok-clause-values c = λ given e.
       c.get_str-in-Ok.ensures ∙ first_value-rows (found_of m) (codes "workers") ∙ value (codes "workers"),
       c.get_str-in-Ok-2.ensures ∙ first_value-rows (found_of m) (codes "budget") ∙ value (codes "budget"),
       c.get_str-in-Ok-3.ensures ∙ first_value-rows (found_of m) (codes "from") ∙ value (codes "from"),
+      c.get_str-in-Ok-4.ensures ∙ first_value-rows (found_of m) (codes "number") ∙ value (codes "number"),
+      c.get_str-in-Ok-5.ensures ∙ first_value-rows (found_of m) (codes "count") ∙ value (codes "count"),
     )
 
 pub unreachable-requires : goal.unreachable-requires
