@@ -9,7 +9,7 @@ use Rattle.gd_journal.specs.declared.fault.JournalFault.{JournalFault}
 use Rattle.gd_journal.specs.declared.fault.JournalFault.TheVariants as journal
 use Rattle.gd_runs.specs.Legal.{History}
 use Rattle.gd_runs.specs.Explained.{Run}
-use Rattle.gd_words.specs.Verbs.{Verb, serves, replays, dumps, restores, follows, answers}
+use Rattle.gd_words.specs.Verbs.{Verb, serves, replays, dumps, restores, follows, answers, generates}
 use Rattle.gd_replay.specs.Stops.{Leaves as LeavesEvents}
 use Rattle.gd_top.specs.declared.status.Status.{Status}
 use Rattle.gd_top.specs.declared.status.Status.TheVariants as status
@@ -25,6 +25,7 @@ use Rattle.gd_top.proofs.Dumped.{dump_weaker, shelf_dumps}
 use Rattle.gd_top.proofs.Restored.{restores_weaker, shelf_restores}
 use Rattle.gd_top.proofs.Patterned.{answers_weaker, shelf_answers}
 use Rattle.gd_top.proofs.Followed.{node_weaker, shelf_node}
+use Rattle.gd_top.proofs.Generated.{summary_weaker, shelf_summary}
 use Rattle.gd_top.proofs.Replayed.{events_weaker, shelf_prints, empty_loads, rose_nowhere}
 
 module _ (s : Status) (may : ℕ → Bool) (idle idle' : Type 0) (still : idle → idle') (left now old new : Option (List ℕ)) where
@@ -46,6 +47,7 @@ module _ (s : Status) (may : ℕ → Bool) (idle idle' : Type 0) (still : idle �
   printed_weaker follows told kept images fewer rises further same to rose p =
       node_weaker (Loads told) (Loads kept) (LeavesNode told images) (LeavesNode kept fewer) rises further (loads_same kept told same) (λ node leaves file known c is. leaves file (same ∙ known) c (to c is)) rose old new s idle idle' left still p
   printed_weaker answers told kept images fewer rises further same to rose p = answers_weaker (Loads told) (Loads kept) (loads_same kept told same) old new s idle idle' left still p
+  printed_weaker (generates number count) told kept images fewer rises further same to rose p = summary_weaker may (Loads told) (Loads kept) rises further (loads_same kept told same) rose number count old new s idle idle' still p
 
   -- the disk of a path
   pub printed_at : (v : Verb) (content : List ℕ → Option (List ℕ)) (images : List ℕ → List ℕ → Type 0) (path : List ℕ) (rises : ℕ → Type 0)
@@ -56,6 +58,7 @@ module _ (s : Status) (may : ℕ → Bool) (idle idle' : Type 0) (still : idle �
   printed_at restores content images path rises p = p
   printed_at follows content images path rises p = p
   printed_at answers content images path rises p = p
+  printed_at (generates number count) content images path rises p = p
 
   -- a disk in memory, of which nothing is left
   pub printed_in_memory : (v : Verb) (content : List ℕ → Option (List ℕ)) (images : List ℕ → List ℕ → Type 0)
@@ -72,6 +75,7 @@ module _ (s : Status) (may : ℕ → Bool) (idle idle' : Type 0) (still : idle �
   printed_in_memory follows content images p =
       node_weaker (Loads (Some [])) (BeginsWith content None) (LeavesNode (Some []) (λ c. ⊥)) (LeavesNodeAt content images None) (RoseBy 0 0) (λ n. n ≡ 0) (empty_loads (Some []) refl) (λ node leaves. tt) rose_nowhere old new s idle idle' left still p
   printed_in_memory answers content images p = answers_weaker (Loads (Some [])) (BeginsWith content None) (empty_loads (Some []) refl) old new s idle idle' left still p
+  printed_in_memory (generates number count) content images p = summary_weaker may (Loads (Some [])) (BeginsWith content None) (RoseBy 0 0) (λ n. n ≡ 0) (empty_loads (Some []) refl) rose_nowhere number count old new s idle idle' still p
 
 -- ---- a store that was not opened
 
@@ -95,6 +99,7 @@ module _ (may : ℕ → Bool) (rises : ℕ → Type 0) (idle : Type 0) (left now
   printed_refused restores f told images i = shelf_restores (Loads told) (LeavesBatches told images) idle left f i
   printed_refused follows f told images i = shelf_node (Loads told) (LeavesNode told images) rises idle left old new f i
   printed_refused answers f told images i = shelf_answers (Loads told) idle left old new f i
+  printed_refused (generates number count) f told images i = shelf_summary may (Loads told) rises idle number count old new f i
 
   -- there was no memory for it
   pub printed_nothing : (v : Verb) (told : Option (List ℕ)) (images : List ℕ → Type 0) → idle → PrintsOver v status.Memory may told images rises idle left now old new
@@ -108,3 +113,4 @@ module _ (may : ℕ → Bool) (rises : ℕ → Type 0) (idle : Type 0) (left now
   printed_no_words restores content images path i = shelf_restores (BeginsWith content path) (LeavesBatchesAt content images path) idle left shelf.Memory i
   printed_no_words follows content images path i = shelf_node (BeginsWith content path) (LeavesNodeAt content images path) rises idle left old new shelf.Memory i
   printed_no_words answers content images path i = shelf_answers (BeginsWith content path) idle left old new shelf.Memory i
+  printed_no_words (generates number count) content images path i = shelf_summary may (BeginsWith content path) rises idle number count old new shelf.Memory i

@@ -14,5 +14,6 @@ pub mod Dumped
 pub mod Restored
 pub mod Patterned
 pub mod Followed
+pub mod Generated
 pub mod Framed
 pub mod Commands

@@ -14,7 +14,7 @@ use Rattle.gd_top.proofs.Settled.{holds_fewer}
 
 module _ (may : ℕ → Bool) (begins begins' : List Batch → Type 0) (leaves leaves' : History → List Run → Type 0) (rises rises' : ℕ → Type 0)
     (begun : (loaded : List Batch) → begins loaded → begins' loaded) (left : (h : History) (runs : List Run) → leaves h runs → leaves' h runs) (rose : (n : ℕ) → rises n → rises' n) where
-  accounts : (given : List Numbered) (output : List ℕ) → Accounts may begins leaves rises given output → Accounts may begins' leaves' rises' given output
+  pub accounts : (given : List Numbered) (output : List ℕ) → Accounts may begins leaves rises given output → Accounts may begins' leaves' rises' given output
   accounts given output a = record {
     loaded = a.loaded;
     history = a.history;

@@ -3,6 +3,7 @@ pub mod Answers
 pub mod Dumps
 pub mod Ends
 pub mod Follows
+pub mod Generates
 pub mod Held
 pub mod Kept
 pub mod Lines
@@ -11,4 +12,5 @@ pub mod Replays
 pub mod Restores
 pub mod Serves
 pub mod Stops
+pub mod Summed
 pub mod Verbs

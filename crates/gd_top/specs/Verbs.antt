@@ -2,11 +2,12 @@
 use Rattle.std.specs.Prelude.{ℕ, List, Bool, Option, IsTrue}
 use Rattle.std.specs.Option.{is_some}
 use Rattle.gd_runs.specs.Owed.{MembersOf}
-use Rattle.gd_words.specs.Verbs.{Verb, serves, replays, dumps, restores, follows, answers}
+use Rattle.gd_words.specs.Verbs.{Verb, serves, replays, dumps, restores, follows, answers, generates}
 use Rattle.gd_replay.specs.Stops.{Leaves as LeavesEvents}
 use Rattle.gd_top.specs.declared.status.Status.{Status}
 use Rattle.gd_top.specs.Dumps.{PrintsDump}
 use Rattle.gd_top.specs.Follows.{LeavesNode, LeavesNodeAt, PrintsNode}
+use Rattle.gd_top.specs.Generates.{PrintsSummary}
 use Rattle.gd_top.specs.Held.{Loads, Leaves, BeginsWith, EndsWith}
 use Rattle.gd_top.specs.Answers.{PrintsAnswers}
 use Rattle.gd_top.specs.Replays.{is_told_at, LeavesAt, PrintsEvents}
@@ -22,6 +23,7 @@ PrintsOver (dumps from) s may told images rises unbegun left left_now held_old h
 PrintsOver restores s may told images rises unbegun left left_now held_old held_new = RestoresText s (Loads told) (LeavesBatches told images) unbegun left
 PrintsOver answers s may told images rises unbegun left left_now held_old held_new = PrintsAnswers s (Loads told) unbegun left held_old held_new
 PrintsOver follows s may told images rises unbegun left left_now held_old held_new = PrintsNode s (Loads told) (LeavesNode told images) rises unbegun left held_old held_new
+PrintsOver (generates number count) s may told images rises unbegun left left_now held_old held_new = PrintsSummary s may (Loads told) rises unbegun number count held_old held_new
 
 -- what a verb printed over the file at a path of a shelf, by what it held before and what a stop leaves afterwards, or without a file over a store in memory
 abbrev pub PrintsAt : Verb → Status → (ℕ → Bool) → (List ℕ → Option (List ℕ)) → (List ℕ → List ℕ → Type 0) → Option (List ℕ) → (ℕ → Type 0) → Type 0 → (left left_now held_old held_new : Option (List ℕ)) → Type 0
@@ -32,3 +34,4 @@ PrintsAt (dumps from) s may content images path rises unbegun left left_now held
 PrintsAt restores s may content images path rises unbegun left left_now held_old held_new = RestoresText s (BeginsWith content path) (LeavesBatchesAt content images path) unbegun left
 PrintsAt answers s may content images path rises unbegun left left_now held_old held_new = PrintsAnswers s (BeginsWith content path) unbegun left held_old held_new
 PrintsAt follows s may content images path rises unbegun left left_now held_old held_new = PrintsNode s (BeginsWith content path) (LeavesNodeAt content images path) rises unbegun left held_old held_new
+PrintsAt (generates number count) s may content images path rises unbegun left left_now held_old held_new = PrintsSummary s may (BeginsWith content path) rises unbegun number count held_old held_new

@@ -3,6 +3,7 @@
 
 mod dump;
 mod follow;
+mod generate;
 pub mod opening;
 pub mod pace;
 pub mod printing;

@@ -13,6 +13,7 @@ ghost use Rattle.gd_top.specs.Verbs.{PrintsOver, PrintsAt};
 
 use crate::dump::dump_over;
 use crate::follow::follow_over;
+use crate::generate::generate_over;
 use crate::pace::Pace;
 use crate::replay::replay_over;
 use crate::restore::restore_over;
@@ -84,6 +85,7 @@ fn run_over<
         Command::Restore(_) => restore_over(alloc, disk, source),
         Command::Follow(_) => follow_over(alloc, disk, source, sink),
         Command::Templates(_) => templates_over(alloc, disk, source, sink),
+        Command::Generate(generate) => generate_over(rt, alloc, disk, generate, sink, clock, gate),
     }
 }
 

@@ -1,6 +1,6 @@
 //! The top call.
 ghost use Rattle.std.specs.Prelude.{◌≡◌, ◌≢◌, ◌<◌, ◌⊎◌, ◌^◌, ℕ, List, length, true, false, None};
-ghost use Rattle.std.specs.Prelude.{Some, IsSomeAnd};
+ghost use Rattle.std.specs.Prelude.{Some, IsSomeAnd, []};
 ghost use Rattle.std.specs.Io.KnownBytes.{IsAtEnd};
 ghost use Rattle.gd_base.specs.Counts.{Rose};
 ghost use Rattle.gd_bytes.specs.Disk.{HoldsSame};
@@ -15,6 +15,7 @@ ghost use Rattle.gd_top.specs.Dumps.{PrintsDump};
 ghost use Rattle.gd_top.specs.Ends.{IsHindered, IsIdle, SendsRounds, RisesAt, is_of_text};
 ghost use Rattle.gd_top.specs.Ends.{may_tell};
 ghost use Rattle.gd_top.specs.Follows.{LeavesNodeAt, PrintsNode};
+ghost use Rattle.gd_top.specs.Generates.{PrintsSummary};
 ghost use Rattle.gd_top.specs.Held.{BeginsWith, EndsWith, MayMeanAt, DoesMean, IsSoundAt, told_at};
 ghost use Rattle.gd_top.specs.Kept.{Keeps, StaysAt};
 ghost use Rattle.gd_top.specs.Replays.{is_told_at, LeavesAt, PrintsEvents};
@@ -44,8 +45,10 @@ use std::thread::Threads;
 /// so. The sink is flushed at the end of each round. The status says how the run ended. With the
 /// words `replay` and its option it opens the store so too, reads the input to its end, line by
 /// line, carries each line out as an event of the core, on one thread, and prints its reply line;
-/// the sink is flushed at the end. The device of the file is put back on the shelf, however it
-/// ended.
+/// the sink is flushed at the end. With the words `gen` and its options it reads no input and opens
+/// no file: it serves the lines that a number and a count of nodes stand for over an empty store in
+/// memory, prints the one line to which the replies come, and flushes the sink. The device of the
+/// file is put back on the shelf, however it ended.
 pub fn graphd<
     R: Threads + Wait + Sync,
     S: Source,
@@ -149,6 +152,16 @@ pub fn graphd<
         × StaysAt (F.content shelf.old) (F.content shelf.new) (F.images shelf.old)
         (F.images shelf.new) (path_of words.now))
         (S.left source.old) (K.held sink.old) (K.held sink.new) }
+
+    // Words that generate requests. What was printed is one line, and a newline: what an output comes
+    // to that one legal history explains for the lines of the number and so many nodes. It begins
+    // with no batches, and no line of the output tells a failure of the disk. Where the sink failed
+    // a front of that was printed; without memory, also for a reply, nothing. The run ends in no
+    // other way.
+    ensures generates { (number count : ℕ)
+        → verb_of words.now ≡ Some (verb.generates number count) → PrintsSummary result
+        (C.may clock) (λ loaded. loaded ≡ []) (λ faults. faults ≡ 0) ⊥ number count
+        (K.held sink.old) (K.held sink.new) }
 
     // What follows here holds with every verb. A run that is done has read its input to the end;
     // one whose verb reads none leaves the source alone.

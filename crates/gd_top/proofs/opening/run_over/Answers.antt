@@ -1,10 +1,14 @@
 use Rattle.std.proofs.Common.{◌≡◌, ◌∙◌, ap, sym, true, false, refl}
 use Rattle.gd_words.specs.declared.verbs.Command.{Command}
-use Rattle.gd_words.specs.Verbs.{serves, replays, dumps, restores, follows, answers, verb_in, reads_input, prints_output}
+use Rattle.gd_words.specs.Verbs.{serves, replays, dumps, restores, follows, answers, generates, verb_in, reads_input, prints_output}
+use Rattle.gd_top.specs.Ends.{IsIdle}
 use Rattle.gd_top.specs.Held.{Loads}
+use Rattle.gd_top.specs.Kept.{StaysTold}
 use Rattle.gd_top.specs.Restores.{LeavesBatches}
 use Rattle.gd_top.proofs.Caused.{causes_weaker}
+use Rattle.gd_base.specs.Counts.{RoseBy}
 use Rattle.gd_top.proofs.Dumped.{dump_weaker}
+use Rattle.gd_top.proofs.Generated.{summary_weaker}
 use Rattle.gd_top.proofs.Restored.{restores_weaker}
 use Rattle.gd_top.proofs.opening.run_over.Goals as goal
 
@@ -127,3 +131,33 @@ returns-in-Follow-clause-no_output g c is = let other : true ≡ false = sym (ap
 
 pub returns-in-Follow-clause-tells : goal.returns-in-Follow-clause-tells
 returns-in-Follow-clause-tells g c = rw c.in-Follow.is c.follow_over.ensures.tells
+
+-- ---- gen
+
+pub returns-in-Generate-clause-prints : goal.returns-in-Generate-clause-prints
+returns-in-Generate-clause-prints g c =
+    let d = g.D.Disk in
+    let run = c.generate_over in
+    let source = c.args.source.now in
+    let sink = c.args.sink.now in
+    let told = d.content c.args.disk in
+    let rises = RoseBy (d.faults c.args.disk) (d.faults run.result.1) in
+    let unbegun = IsIdle source source sink run.new.sink × StaysTold told (d.content run.result.1) (d.images c.args.disk) (d.images run.result.1) in
+    rw c.in-Generate.is
+    (summary_weaker (g.C.Clock.may c.args.clock) (Loads told) (Loads told) rises rises (λ loaded begun. begun) (λ n rose. rose)
+    c.in-Generate.generate.number c.in-Generate.generate.count (g.K.Sink.held sink) (g.K.Sink.held run.new.sink) run.result.0 ⊥ unbegun (λ never. absurd never) run.ensures.prints)
+
+pub returns-in-Generate-clause-causes : goal.returns-in-Generate-clause-causes
+returns-in-Generate-clause-causes g c = causes_weaker c.generate_over.result.0 _ _ _ _ _ _ _ _ _ _ (λ none. absurd none) (λ sink. sink) (λ none. absurd none) (λ none. absurd none) c.generate_over.ensures.causes
+
+pub returns-in-Generate-clause-at_end : goal.returns-in-Generate-clause-at_end
+returns-in-Generate-clause-at_end g c is done = let other : false ≡ true = sym (ap (λ (command : Command). reads_input (verb_in command)) c.in-Generate.is) ∙ is in absurd (cc)
+
+pub returns-in-Generate-clause-no_output : goal.returns-in-Generate-clause-no_output
+returns-in-Generate-clause-no_output g c is = let other : true ≡ false = sym (ap (λ (command : Command). prints_output (verb_in command)) c.in-Generate.is) ∙ is in absurd (cc)
+
+pub returns-in-Generate-clause-rounds_sent : goal.returns-in-Generate-clause-rounds_sent
+returns-in-Generate-clause-rounds_sent g c is = let other : generates c.in-Generate.generate.number c.in-Generate.generate.count ≡ serves = sym (ap (λ (command : Command). verb_in command) c.in-Generate.is) ∙ is in absurd (cc)
+
+pub returns-in-Generate-clause-tells : goal.returns-in-Generate-clause-tells
+returns-in-Generate-clause-tells g c = rw c.in-Generate.is c.generate_over.ensures.tells

@@ -1,5 +1,6 @@
 use Rattle.std.proofs.Common.{◌≡◌, ap, Some, None, rules, arith, refl, sym, inl, ◌∙◌}
 use Rattle.std.proofs.lemmas.Grind.{common_steps}
+use Rattle.std.proofs.KnownBytes.{Keeps-refl}
 use Rattle.gd_words.specs.Words.{command_of}
 use Rattle.gd_words.specs.Verbs as verb
 use Rattle.gd_words.specs.Verbs.{Verb, verb_in, file_of, path_of, reads_input, prints_output}
@@ -9,6 +10,7 @@ use Rattle.gd_top.proofs.Caused.{not_usage}
 use Rattle.gd_top.proofs.Commands.{verb_known, verb_is, path_known, none_known}
 use Rattle.gd_top.proofs.Complete.{complete}
 use Rattle.gd_top.proofs.Framed.{printed_no_words}
+use Rattle.gd_top.proofs.Generated.{summary_known, none_printed, untouched_keeps}
 use Rattle.gd_top.proofs.Kept.{stays_untouched}
 use Rattle.gd_top.proofs.program.graphd.Goals as goal
 
@@ -217,6 +219,28 @@ returns-in-Err-clause-follows g c is =
     let images = f.images c.args.shelf.now in
     printed_no_words (g.C.Clock.may c.args.clock) (RisesAt path faults faults) (IsIdle source source sink sink × StaysAt content content images images path) (g.S.Source.left source) (g.S.Source.left source) (g.K.Sink.held sink) (g.K.Sink.held sink) verb.follows
     content images path (record { source = refl; sink = refl }, stays_untouched content images path)
+
+-- ---- gen
+
+pub returns-in-Ok-Some-clause-generates : goal.returns-in-Ok-Some-clause-generates
+returns-in-Ok-Some-clause-generates g c number count is =
+    let run = c.run in
+    let f = g.F.Shelf in
+    let source = c.args.source.now in
+    let sink = c.args.sink.now in
+    let words : command_of c.args.words.now ≡ Some c.in-Ok-Some.command = first_of (search rules, grind (arith, common_steps)) in
+    summary_known number count run.result (g.C.Clock.may c.args.clock) (f.content c.args.shelf.now) (f.images run.new.shelf) (f.faults c.args.shelf.now) (f.faults run.new.shelf)
+    (λ path. IsIdle source run.new.source sink run.new.sink × StaysAt (f.content c.args.shelf.now) (f.content run.new.shelf) (f.images c.args.shelf.now) (f.images run.new.shelf) path)
+    (g.S.Source.left source) (g.S.Source.left run.new.source) (g.K.Sink.held sink) (g.K.Sink.held run.new.sink) c.in-Ok-Some.command (verb_is (verb.generates number count) c.args.words.now c.in-Ok-Some.command words is)
+    (λ still. untouched_keeps g.K.Sink.held sink run.new.sink still.0.sink) run.ensures.prints run.ensures.tells run.ensures.disk_steady run.ensures.causes.not_store_told run.ensures.causes.damaged_told
+
+pub returns-in-Ok-None-clause-generates : goal.returns-in-Ok-None-clause-generates
+returns-in-Ok-None-clause-generates g c number count is =
+    let words : command_of c.args.words.now ≡ None = first_of (search rules, grind (arith, common_steps)) in
+    absurd (none_known (verb.generates number count) c.args.words.now words is)
+
+pub returns-in-Err-clause-generates : goal.returns-in-Err-clause-generates
+returns-in-Err-clause-generates g c number count is = none_printed _ _ _ _ number count _ _ (Keeps-refl (g.K.Sink.held c.args.sink.now))
 
 -- ---- any verb
 
