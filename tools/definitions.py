@@ -68,7 +68,7 @@ CRATES = [
       "Asked/Tests", "Asked/Parts", "Asked/Forms", "Asked", "Rows", "Lines", "Reply",
       "Change", "Write/Parts", "Write/Links", "Write/Carried", "Write",
       "Template", "Plan", "Cost"], True),
-    ("gd_json", "The JSON that bytes are.", ["Reading"], False),
+    ("gd_json", "The JSON that bytes are.", ["Reading", "View"], None),
     ("gd_bytes", "Bytes: texts of cursors and of frozen readings, groups of batches, files, and what a disk leaves.",
      ["Cursor", "Group", "File", "Disk", "Frozen", "FrozenRead"], True),
     ("gd_journal", "The file of a journal: which payloads it stands for, and what a journal is between two calls.",
@@ -99,7 +99,9 @@ CRATES = [
     ("gd_following", "The lines of a node, and what it prints for them.", ["Parts", "Lines", "Replies", "Follows", "Runs"], False),
     ("gd_tplang", "Templates as texts, and what a line of one is answered.", ["Written", "Meaning", "Printed", "Choice"], False),
     ("gd_patterns", "Lines of templates, answered over one list.", ["Patterns"], False),
-    ("gd_top", "The top call: which words it takes, what it finds in a file and leaves there, what it prints for its input, and how it ends.", ["Words", "Ends", "Held", "Kept", "Serves", "Replays", "Dumps", "Restores", "Follows", "Answers"], False),
+    ("gd_outside", "A sink that fails on the way.", ["Gains"], False),
+    ("gd_gen", "Generated requests: the lines of a number and a count, and the line to which an output comes.", ["Draws", "Lines", "Replies", "Summary"], False),
+    ("gd_top", "The top call: which words it takes, what it finds in a file and leaves there, what it prints for its input, and how it ends.", ["Words", "Ends", "Held", "Kept", "Serves", "Replays", "Dumps", "Restores", "Follows", "Answers", "Generates"], False),
 ]
 
 # comments that lean on the definition above them, said in full
