@@ -3,4 +3,4 @@ pub mod Runs
 pub mod Taken
 pub mod Written
 pub mod Outcomes
-pub mod Stores
+pub mod Lines

@@ -1,11 +1,10 @@
 //! Dumps of stores.
 ghost use Rattle.std.specs.Prelude.{◌≡◌, ◌≤◌, ◌<◌, ◌++◌, ℕ, List, Some, Err, drop, flat_map};
-ghost use Rattle.std.specs.Prelude.{length, slice_get, IsTrue, IfOk, OnOk, OnErr, IfErr};
+ghost use Rattle.std.specs.Prelude.{length, slice_get, IfOk, OnOk, OnErr, IfErr};
 ghost use Rattle.std.specs.List.{AllByRecursion};
 ghost use Rattle.std.specs.Io.KnownBytes.{Appends};
 ghost use Rattle.gd_base.specs.Counts.{Rose};
 ghost use Rattle.gd_prim.specs.declared.Batch.{Batch};
-ghost use Rattle.gd_prim.specs.WellFormed.{may_hold};
 ghost use Rattle.gd_dump_laws.specs.Dump as dump;
 ghost use Rattle.gd_outside.specs.Gains.{GainsFront};
 ghost use Rattle.gd_dump_laws.specs.Dumping.{dump_from};
@@ -14,10 +13,10 @@ ghost use Rattle.gd_dump.specs.declared.stop.DumpFault.TheVariants as DumpFault;
 
 use crate::stop::DumpFault;
 use crate::text::{push_batch, push_end, push_head};
+use gd_batches::prims::batch_prims;
 use gd_outside::Failed;
 use gd_outside::printing::write_all;
 use gd_outside::sink::Sink;
-use gd_prim::Primitive;
 use gd_store::store::Store;
 use std::alloc::Global;
 
@@ -59,17 +58,6 @@ fn send_end<K: Sink>(alloc: Global, count: u32, sink: &mut K) -> Result<(), Dump
     let mut text = Vec::new(alloc);
     push_end(&mut text, count)?;
     send(sink, text.as_slice())
-}
-
-/// The primitives of the n-th batch.
-fn batch_prims(store: &Store, n: u32) -> &[Primitive]
-    requires there { n < length store.now }
-    requires small { n < 4_194_303 }
-    ensures prims { (b : Batch) → slice_get store.now n ≡ Some b → result.now ≡ b.prims }
-    ensures held { AllByRecursion (λ p. IsTrue (may_hold p.value)) result.now }
-{
-    let prims = store.primitives();
-    &prims[store.below(n).len()..store.below(n + 1).len()]
 }
 
 /// Sends the lines of the n-th batch on.

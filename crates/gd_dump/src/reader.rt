@@ -35,6 +35,7 @@ impl Batches {
         self.batches.as_slice()
     }
 
+    /// Whether there are none. It takes no memory.
     pub fn is_empty(&self) -> bool
         ensures { IsTrue result ↔ (self.now ≡ []) }
     {

@@ -5,7 +5,8 @@ use Rattle.std.proofs.KnownBytes.{Appends-trans}
 use Rattle.gd_dump_laws.specs.Dump.{batch_text}
 use Rattle.gd_outside.specs.Gains.{GainsFront}
 use Rattle.gd_outside.proofs.Fronts.{at_err, front_first, front_second}
-use Rattle.gd_dump.proofs.Stores.{Lines, there_is, drop_one, each_joined, lines_one, lines_rest}
+use Rattle.gd_batches.proofs.Histories.{there_is, drop_one, each_joined}
+use Rattle.gd_dump.proofs.Lines.{Lines, lines_one, lines_rest}
 use Rattle.gd_dump.proofs.dump.send_batches.Goals as goal
 
 pub returns-in_err-send_batch-clause-front : goal.returns-in_err-send_batch-clause-front

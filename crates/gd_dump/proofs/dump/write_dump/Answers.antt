@@ -6,7 +6,8 @@ use Rattle.gd_dump_laws.specs.Dump.{batch_text, dump_head, dump_end}
 use Rattle.gd_outside.specs.Gains.{GainsFront}
 use Rattle.gd_outside.proofs.Fronts.{at_err, front_first, front_second}
 use Rattle.gd_dump.proofs.Outcomes.{at_ok, err_so, ok_so}
-use Rattle.gd_dump.proofs.Stores.{IsKept, history_kept, each_behind, batches_fit}
+use Rattle.gd_batches.proofs.Histories.{IsKept, history_kept, each_behind}
+use Rattle.gd_dump.proofs.Lines.{batches_fit}
 use Rattle.gd_dump.proofs.dump.write_dump.Goals as goal
 
 pub returns-in_err-send_head-clause-front : goal.returns-in_err-send_head-clause-front
