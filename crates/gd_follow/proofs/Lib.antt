@@ -1,3 +1,3 @@
-pub mod Stores
+pub mod Runs
 pub mod Nodes
 pub mod Moments
