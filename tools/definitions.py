@@ -50,6 +50,7 @@ The page is made as the first one is, and in the same order. Of a file that the 
 # with True the other files follow, and of one with None only what the clauses of the top call rest on
 CRATES = [
     ("gd_grammar", "Words for grammars of texts, which know nothing of the store.", ["Chain", "Maybe", "Grammar", "Reading", "Options", "Mark"], True),
+    ("gd_utf8", "UTF-8 as an automaton over bytes, as readers of groups, dumps and templates have it.", ["Utf8"], False),
     ("gd_tree", "Trees: JSON values as every request and reply has them, and trees of places.",
      ["Hex", "Json", "Look", "Bounds", "JsonCode", "Trees"], True),
     ("gd_base", "The order of data, and counts.", ["Order", "Counts"], False),
