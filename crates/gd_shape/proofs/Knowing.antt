@@ -114,5 +114,5 @@ few_missing ids zero = omega arith
 few_missing ids (suc n) = one_at_most (known_at ids n) (missing n ids) n (few_missing ids n)
 
 -- so no more steps are left than at first
-pub most_left : (ids : List (ℕ × List ℕ)) (n places : ℕ) → places ≤ 262_144 → places + 1025 * missing n ids ≤ 262_144 + 1025 * n
+pub most_left : (ids : List (ℕ × List ℕ)) (n places : ℕ) → places ≤ 262_144 → places + 785 * missing n ids ≤ 262_144 + 785 * n
 most_left ids n places few = let less : missing n ids ≤ n = few_missing ids n in omega (arith, few, less)

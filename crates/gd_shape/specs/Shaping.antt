@@ -46,9 +46,9 @@ abbrev pub body_print : List Primitive → Asked → PageBody → Result tree.Js
 body_print prims q (body.Trees trees) = page_shape prims q (list_of (trees_view trees)) []
 body_print prims q (body.Count n) = Ok (count_json n)
 
--- steps that are left, at most: one for each place that is still to be counted, and 1,025 for each object below n whose id is not known
+-- steps that are left, at most: one for each place that is still to be counted, and 785 for each object below n whose id is not known
 abbrev pub steps_left : ℕ → Shape → ℕ
-steps_left n s = s.places + 1025 * missing n s.ids
+steps_left n s = s.places + 785 * missing n s.ids
 
 -- the same of a page that may have come to a fault, after which none are left
 abbrev pub shape_left : ℕ → Shape → ℕ
@@ -56,7 +56,7 @@ shape_left n s = if s.stopped then 0 else steps_left n s
 
 -- no more than these are left at first
 abbrev pub shape_most : ℕ → ℕ
-shape_most n = 262_144 + 1025 * n
+shape_most n = 262_144 + 785 * n
 
 -- the ids that were found are of this list
 pub record IsOf (prims : List Primitive) (s : Shape) : Type 0 where

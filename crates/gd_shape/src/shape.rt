@@ -132,7 +132,7 @@ fn unknown(objects: &mut Vec<Id>, ids: &Known) -> Option<Id>
     None
 }
 
-/// Finds the id of an object that is not known: at most 1,025 steps.
+/// Finds the id of an object that is not known: at most 785 steps.
 #[tactic(auto, using(crate::proofs::Knowing::some_missing))]
 fn find_id<L>(
     alloc: Global,
@@ -145,7 +145,7 @@ fn find_id<L>(
     ensures known { IsKnownOf (prims_of view.now) ids.old → IsKnownOf (prims_of view.now) ids.new }
     ensures one { OnOk result ((n : ℕ) → 2 ^ 32 ≤ n → missing n ids.new + 1 ≡ missing n ids.old) }
     ensures some { (n : ℕ) → 2 ^ 32 ≤ n → 1 ≤ missing n ids.old }
-    ensures work { steps.new ≤ steps.old + 1025 }
+    ensures work { steps.new ≤ steps.old + 785 }
     ensures later { steps.old ≤ steps.new }
     ensures counted { Rose steps.old steps.new }
 {
@@ -261,7 +261,7 @@ impl Shape {
         }
     }
 
-    /// Counts a place, or finds an id: at most 1,025 steps.
+    /// Counts a place, or finds an id: at most 785 steps.
     fn look<L>(
         &mut self,
         alloc: Global,
@@ -275,7 +275,7 @@ impl Shape {
         ensures within { (n : ℕ) → 2 ^ 32 ≤ n → steps.new ≤ steps.old + steps_left n self.old }
         ensures less { OnOk result ((n : ℕ) → 2 ^ 32 ≤ n → steps.new + steps_left n self.new
             ≤ steps.old + steps_left n self.old) }
-        ensures work { steps.new ≤ steps.old + 1025 }
+        ensures work { steps.new ≤ steps.old + 785 }
         ensures later { steps.old ≤ steps.new }
         ensures counted { Rose steps.old steps.new }
     {
