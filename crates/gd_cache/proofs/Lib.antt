@@ -1,0 +1,10 @@
+pub mod Absent
+pub mod Answered
+pub mod Commas
+pub mod Compact
+pub mod Counted
+pub mod Keys
+pub mod Lines
+pub mod Parts
+pub mod Rows
+pub mod Told
