@@ -4,7 +4,10 @@ use Rattle.std.specs.Prelude.{nat_le}
 use Rattle.std.specs.List.{AllByRecursion}
 use Rattle.std.specs.Option.{option_map_or}
 use Rattle.std.proofs.lemmas.Bool.{leb-true, le-leb, ltb-false, ltb-true}
+use Rattle.std.specs.Coded.{coded_ℕ, coded_list}
+use Rattle.std.proofs.Math.Logic.{∥∥₁_elim}
 use Rattle.std.proofs.lemmas.List.{take-append-le}
+use base.Stored.{Coded-set}
 use mathlib.Core.List.{IsPrefix}
 use Rattle.gd_prim.specs.declared.Batch.{Batch}
 use Rattle.gd_prim.specs.declared.Primitive.{Primitive}
@@ -261,8 +264,9 @@ answers_are_kept batches n k q within ok =
       right = λ text key. record {
         within = omega (arith, below, within);
         right = λ r other m low there i fits.
-            let same = keys_tell text q r key other in
-            reply_line batches m d i r there ∙ ap (λ s. answer_line d i (read_answer (prims_at batches d) d s)) (sym same) ∙ of.line i fits;
+            let prop = Coded-set (coded_list coded_ℕ) (reply_of batches m i r) (kept_text d i of.kept) in
+            ∥∥₁_elim key prop (λ one. ∥∥₁_elim other prop (λ two.
+            reply_line batches m d i r there ∙ ap (λ s. answer_line d i (read_answer (prims_at batches d) d s)) (sym (keys_tell text q r one two)) ∙ of.line i fits));
       };
     }
 

@@ -21,7 +21,7 @@ both_true true b is = (refl, is)
 both_true false b is = cc
 
 -- keys that are the same are one
-one_key : (a b : ReplyKey) → same_key a b ≡ true → a ≡ b
+pub one_key : (a b : ReplyKey) → same_key a b ≡ true → a ≡ b
 one_key a b is =
     let (texts, datelines) = both_true (pointwise nat_eq a.text b.text) (nat_eq a.dateline b.dateline) is in
     let text = same_text a.text b.text (sym texts) in

@@ -14,7 +14,7 @@ use Rattle.gd_defs.specs.Query.{Fault}
 use Rattle.gd_defs.specs.Write.{WriteRequest}
 use Rattle.gd_runs.specs.Request.{ReadSet, Line, LineFault, read, write, bad_form, bad_line, session_of, read_of, write_of, line_of}
 use Rattle.gd_runs.specs.Input.{line_too_long, max_line, as_line, value_line, line_from}
-use Rattle.gd_cache.specs.Asked.{read_text, key_of, IsKeyOf}
+use Rattle.gd_cache.specs.Asked.{read_text, key_of, IsTextOf}
 use Rattle.gd_cache.specs.Laws.{KeysTell}
 use Rattle.gd_cache.proofs.Compact.{printed_same}
 
@@ -103,7 +103,7 @@ record Prints (text : List ℕ) (q : ReadSet) : Type 0 where
 key_text : (bytes : List ℕ) (j : Json) (t : List ℕ) → json_from bytes ≡ Ok j → key_of bytes ≡ Some t → read_text j ≡ Some t
 key_text bytes j t from is = rw from at is
 
-prints : (t : List ℕ) (q : ReadSet) → IsKeyOf t q → Prints t q
+prints : (t : List ℕ) (q : ReadSet) → IsTextOf t q → Prints t q
 prints t q key =
     let of = are_of key.bytes key.session q key.asks in
     let bounded = json_is_bounded key.bytes of.value of.spelled in

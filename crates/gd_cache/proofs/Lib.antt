@@ -3,6 +3,7 @@ pub mod Answered
 pub mod Commas
 pub mod Compact
 pub mod Counted
+pub mod Found
 pub mod Keys
 pub mod Lines
 pub mod Parts

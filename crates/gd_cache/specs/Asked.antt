@@ -20,12 +20,16 @@ key_of bytes = by (json_from bytes)
     by (Ok j) = read_text j
     by (Err f) = None
 
--- a text is the key of a read: it is that of a line which asks this
-pub record IsKeyOf (text : List ℕ) (q : ReadSet) : Type 0 where
+-- the text of a line that asks this read
+pub record IsTextOf (text : List ℕ) (q : ReadSet) : Type 0 where
   pub bytes : List ℕ
   pub session : ℕ
   pub asks : line_from bytes ≡ Ok (read session q)
   pub key : key_of bytes ≡ Some text
+
+-- a text is the key of a read: it is that of some line which asks this
+abbrev pub IsKeyOf : List ℕ → ReadSet → Type 0
+IsKeyOf text q = ∥ IsTextOf text q ∥₁
 
 -- the dateline of a cursor over so many batches, none where the text is no cursor or is ahead of them
 abbrev pub of_cursor : ℕ → Result Cursor ℕ → Option ℕ

@@ -3,13 +3,13 @@ use Rattle.std.specs.Prelude.{◌≡◌, ℕ, ◌≤◌, List, length, true}
 use mathlib.Core.List.{IsPrefix}
 use Rattle.gd_prim.specs.declared.Batch.{Batch}
 use Rattle.gd_runs.specs.Request.{ReadSet, reply_of}
-use Rattle.gd_cache.specs.Asked.{IsKeyOf}
+use Rattle.gd_cache.specs.Asked.{IsTextOf}
 use Rattle.gd_cache.specs.Right.{KeepsRight, is_ok, IsAnswered}
 use Rattle.gd_cache.specs.Shown.{Shown}
 
--- one text is the key of one read
+-- one text is that of one read
 abbrev pub KeysTell : Type 0
-KeysTell = (text : List ℕ) (q r : ReadSet) → IsKeyOf text q → IsKeyOf text r → q ≡ r
+KeysTell = (text : List ℕ) (q r : ReadSet) → IsTextOf text q → IsTextOf text r → q ≡ r
 
 -- what is kept rightly is right over all batches that begin with those over which it was
 abbrev pub KeptLater : Type 0

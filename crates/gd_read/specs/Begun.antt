@@ -4,7 +4,7 @@ use Rattle.gd_defs.specs.Asked as defs
 use Rattle.gd_defs.specs.Lines.{Refusal, refusal, bad_cursor, cursor_ahead}
 use Rattle.gd_defs.specs.Reply.{unknown_refusal}
 use Rattle.gd_bytes.specs.Cursor.{Cursor, cursor_of}
-use Rattle.gd_runs.specs.Request.{CursorAsk, page_after}
+use Rattle.gd_runs.specs.Request.{CursorAsk, page_after, ReadSet, one_query, queries}
 use Rattle.gd_fault.specs.Fault.{code_view}
 use Rattle.gd_read.specs.declared.fault.ReadFault.{ReadFault}
 use Rattle.gd_read.specs.declared.fault.ReadFault.TheVariants as fault
@@ -38,6 +38,19 @@ asked_from latest _ = Ok None
 abbrev pub dateline_from : ℕ → Option Cursor → ℕ
 dateline_from latest None = latest
 dateline_from latest (Some c) = c.dateline
+
+-- the dateline of a page, where the latest one is this, or the refusal of its cursor
+abbrev pub page_dateline : ℕ → CursorAsk → Result ℕ (ℕ × Refusal)
+page_dateline latest ask = by (asked_from latest ask)
+  where
+    by : Result (Option Cursor) (ℕ × Refusal) → Result ℕ (ℕ × Refusal)
+    by (Ok after) = Ok (dateline_from latest after)
+    by (Err f) = Err f
+
+-- the dateline of a read, where the latest one is this, or the refusal of its cursor; of several queries it is that one
+abbrev pub read_dateline : ℕ → ReadSet → Result ℕ (ℕ × Refusal)
+read_dateline latest (one_query r) = page_dateline latest r.cursor
+read_dateline latest (queries rs) = Ok latest
 
 -- the call gives what is expected, or a refusal, in whose place want of memory may come
 abbrev pub Begins : {A B : Type 0} → ℕ → (A → B) → Result B (ℕ × Refusal) → Result A ReadFault → Type 0

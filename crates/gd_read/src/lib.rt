@@ -7,6 +7,7 @@ mod building;
 pub mod candidates;
 mod checking;
 mod cursors;
+pub mod dateline;
 pub mod fault;
 mod first;
 mod gathering;

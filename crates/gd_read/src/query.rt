@@ -85,7 +85,7 @@ fn cursor_in(latest: u32, text: &JsonText) -> Result<Cursor, ReadFault>
 }
 
 /// The cursor from which a read asks, if there is one.
-fn cursor_asked(latest: u32, ask: &CursorAsk) -> Result<Option<Cursor>, ReadFault>
+pub(crate) fn cursor_asked(latest: u32, ask: &CursorAsk) -> Result<Option<Cursor>, ReadFault>
     ensures given { Begins latest (λ after. option_map meant after)
         (asked_from latest (cursor_view ask.now)) result }
     ensures below { IfOk result (λ after. dateline_from latest (option_map meant after) ≤ latest) }
@@ -98,7 +98,7 @@ fn cursor_asked(latest: u32, ask: &CursorAsk) -> Result<Option<Cursor>, ReadFaul
 }
 
 /// The dateline of a cursor, or else the latest one.
-fn dateline_behind(latest: u32, after: &Option<Cursor>) -> u32
+pub(crate) fn dateline_behind(latest: u32, after: &Option<Cursor>) -> u32
     ensures { result ≡ dateline_from latest (option_map meant after.now) }
 {
     match after {
