@@ -36,7 +36,7 @@ module _ (may : ℕ → Bool) (h : History) (n : ℕ) (before : Option Entry) (n
 
     -- it is stored and shown
     pub step_stored : (g : History) (m : ℕ) (d : Option Entry) → g ≡ with_entry h e → m ≡ size h + 1 → d ≡ None
-        → (s : State) → Settles s (state h n before s.sessions) → WriteKeeps may s line bytes w (kept_stored at (view next.answer)) (state g m d s.sessions)
+        → (s : State) → Settles s (state h n before s.sessions) → WriteKeeps may s line bytes w (kept_stored at (view next.answer.value)) (state g m d s.sessions)
     step_stored g m d same shown ended s ends =
         subst (λ (j : Json). WriteKeeps may s line bytes w (kept_stored at j) (state g m d s.sessions)) (sym can.same)
         (subst (λ (k : ℕ). WriteKeeps may s line bytes w (kept_stored k e.result) (state g m d s.sessions)) (sym is) (keeps_stored may s line bytes w h n s.sessions e g m d (writable s ends) same shown ended))

@@ -102,7 +102,7 @@ module _ {D C : Type 0} (content : D → Option (List ℕ)) (moment : D → ℕ)
           step = step_stored (may clock) ledger.history (length copies.shown) ledger.doubt none line bytes w m next can given at is after.history (length shows.shown) after.doubt
               (ap (λ (l : LedgerValue D). l.history) is_after) (grown_size copies.all shows.shown ledger.history batch aligned shown) (ap (λ (l : LedgerValue D). l.doubt) is_after);
           refusal = tt;
-          along = along_quiet ledger copies clock line after shows clock (outcome.Stored at next.answer next.reply) (can.reply_is ∙ ap (λ (k : ℕ). ok_line (k + 1) line (view next.answer)) (sym is)) refl table refl backs;
+          along = along_quiet ledger copies clock line after shows clock (outcome.Stored at next.answer next.reply) (can.reply_is ∙ ap (λ (k : ℕ). ok_line (k + 1) line (view next.answer.value)) (sym is)) refl table refl backs;
         }
 
         -- it is stored, and not shown yet

@@ -40,7 +40,7 @@ module _ {D : Type 0} (content : D → Option (List ℕ)) (images : D → List �
 
   -- a batch and an entry more, and nothing in doubt
   pub ledger_more : (held next : Stored D) (loaded : ℕ) (es : List Entry) (kept more : ℕ) (was : Option legal.Entry) (x : Entry) (b : Batch) → IsLedger content images held loaded es kept was
-      → kept + more ≤ max_history → more ≡ kept_bytes x.bytes (view x.answer) → next.batches ≡ held.batches ++ b ∷ [] → next.log.doubt ≡ None → HoldsNow next None
+      → kept + more ≤ max_history → more ≡ kept_bytes x.bytes (view x.answer.value) → next.batches ≡ held.batches ++ b ∷ [] → next.log.doubt ≡ None → HoldsNow next None
       → IsLedger content images next loaded (es ++ x ∷ []) (kept + more) None
   ledger_more held next loaded es kept more was x b inv room counted grown none holds = record {
     count = let old = inv.count in let one = length-append es (x ∷ []) in let two = length-append held.batches (b ∷ []) in let now = ap length grown in omega (arith, old, one, two, now);

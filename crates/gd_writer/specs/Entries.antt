@@ -8,7 +8,7 @@ use Rattle.gd_writer.specs.declared.entry.Entry.{Entry}
 
 -- the entry of a history that this is, with its batch
 abbrev pub entry_view : Entry → Batch → legal.Entry
-entry_view e batch = record { line = e.line; bytes = e.bytes; request = write_view e.request; moment = e.moment; batch = batch; result = view e.answer }
+entry_view e batch = record { line = e.line; bytes = e.bytes; request = write_view e.request.value; moment = e.moment; batch = batch; result = view e.answer.value }
 
 -- entries with their batches, in order
 abbrev pub entries_of : List Entry → List Batch → List legal.Entry

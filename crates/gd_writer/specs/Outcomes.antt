@@ -14,7 +14,7 @@ use Rattle.gd_writer.specs.declared.outcome.WriteOf.{WriteOf}
 
 -- what is kept, as the definitions have it
 abbrev pub kept_view : Outcome → Kept
-kept_view (outcome.Stored entry answer reply) = kept_stored entry (view answer)
+kept_view (outcome.Stored entry answer reply) = kept_stored entry (view answer.value)
 kept_view (outcome.Late entry) = kept_late entry
 kept_view (outcome.Refused f at reply) = kept_refused (fault_of f.value) at
 kept_view (outcome.Doubt at) = kept_doubt at
@@ -27,7 +27,7 @@ told_view w = told_of w.line (kept_view w.outcome)
 
 -- the reply line of what is stored, or was refused, is there
 abbrev pub IsTold : ℕ → Outcome → Type 0
-IsTold line (outcome.Stored entry answer reply) = reply.items ≡ ok_line (entry + 1) line (view answer)
+IsTold line (outcome.Stored entry answer reply) = reply.items ≡ ok_line (entry + 1) line (view answer.value)
 IsTold line (outcome.Refused f at reply) = reply.items ≡ err_line at line (change_refusal (fault_of f.value))
 IsTold line _ = Unit {0}
 

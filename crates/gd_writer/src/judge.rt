@@ -48,7 +48,7 @@ pub(crate) struct Asked<'a> {
 #[derive(Drop)]
 pub(crate) struct Next {
     pub(crate) made: Made,
-    pub(crate) answer: Json,
+    pub(crate) answer: Snapshot<Json>,
     pub(crate) reply: Vec<u8>,
 }
 
@@ -179,8 +179,9 @@ fn judge_done<D: Disk>(
         };
         return refused(alloc, ledger, asked, moment, fault);
     }
-    let request = asked.request.copy()?;
-    let stored = answer.copy()?;
+    let request = Snapshot::of(asked.request);
+    let stored = Snapshot::of(&answer);
+    let told = Snapshot::of(&answer);
     let entry = Entry {
         line: asked.line,
         bytes: asked.bytes,
@@ -190,7 +191,7 @@ fn judge_done<D: Disk>(
     };
     Ok(Verdict::Storable(Next {
         made: Made { entry, batch, kept },
-        answer,
+        answer: told,
         reply: reply.bytes,
     }))
 }

@@ -13,5 +13,5 @@ pub(crate) struct Made {
     pub(crate) entry: Entry,
     pub(crate) batch: Batch,
     pub(crate) kept: u64,
-    ghost counted: { kept ≡ kept_bytes entry.bytes (view entry.answer) },
+    ghost counted: { kept ≡ kept_bytes entry.bytes (view entry.answer.value) },
 }

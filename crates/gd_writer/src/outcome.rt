@@ -6,10 +6,11 @@ use std::snapshot::Snapshot;
 /// What a write line came to. Contracts see it as the definitions have it, `kept_view`.
 #[derive(Drop)]
 pub enum Outcome {
-    /// It is this entry, which is shown: its result, and the reply line that says so.
+    /// It is this entry, which is shown: its result, which clauses alone read, and the reply line that
+    /// says so.
     Stored {
         entry: u32,
-        answer: Json,
+        answer: Snapshot<Json>,
         reply: Vec<u8>,
     },
     /// It is this entry, which is not shown yet.

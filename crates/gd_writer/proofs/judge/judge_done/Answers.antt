@@ -1,8 +1,7 @@
 use Rattle.std.proofs.Common.{◌+◌, ◌≤◌, ℕ, Ok, refl, sym, ap, ◌∙◌, arith}
-use Rattle.gd_tree.specs.Json.{Json}
 use Rattle.gd_json.specs.View.{view}
 use Rattle.gd_defs.specs.Lines.{ok_line}
-use Rattle.gd_runs.specs.Legal.{history_bytes, kept_bytes, max_history}
+use Rattle.gd_runs.specs.Legal.{size, history_bytes, kept_bytes, max_history}
 use Rattle.gd_mql.specs.Requests.{write_view}
 use Rattle.gd_writer.proofs.Judged.{full_line, done_line}
 use Rattle.gd_writer.proofs.judge.judge_done.Goals as goal
@@ -22,13 +21,13 @@ returns g c =
     let outcome = c.in_ok-reply.ensures.outcome in
     let room : history_bytes h + kept_bytes c.args.asked.bytes j ≤ max_history = omega (arith, counted, sum, outcome, c.if-count-gt-HISTORY_LIMIT.false) in
     record {
-      does = done_line h (write_view c.args.asked.request.now) c.args.moment c.args.asked.bytes c.args.batch j c.requires.does room ∙ ap (λ (x : Json). Ok (c.args.batch, x)) (sym c.in_ok-stored.ensures);
-      same = sym c.in_ok-stored.ensures;
+      does = done_line h (write_view c.args.asked.request.now) c.args.moment c.args.asked.bytes c.args.batch j c.requires.does room ∙ ap (λ x. Ok (c.args.batch, view x)) (sym c.of-stored.ensures);
+      same = ap view (c.of-told.ensures ∙ sym c.of-stored.ensures);
       line_is = refl;
       bytes_is = refl;
       moment_is = refl;
-      request_is = c.in_ok-request.ensures;
+      request_is = ap write_view c.of-request.ensures;
       may = c.requires.may;
       room = omega (arith, counted, c.if-count-gt-HISTORY_LIMIT.false);
-      reply_is = c.in_ok-reply.ensures.line ∙ ap (λ (n : ℕ). ok_line (n + 1) c.args.asked.line j) c.requests.ensures.count;
+      reply_is = c.in_ok-reply.ensures.line ∙ ap (λ (n : ℕ). ok_line (n + 1) c.args.asked.line j) c.requests.ensures.count ∙ ap (λ x. ok_line (size h + 1) c.args.asked.line (view x)) (sym c.of-told.ensures);
     }
