@@ -18,7 +18,7 @@ use Rattle.gd_read.specs.declared.stage.Round.TheVariants.{Answer, Going}
 use Rattle.gd_read.proofs.Left.{same_most, round_less}
 
 -- LAW: a fault of a scan, behind which nothing is left
-pub scan_fault : (a d p r s : ℕ) → s + 0 + 64 * 0 ≤ r + 64 * a → s + 0 ≤ r + (64 * a + d + 1 + p)
+pub scan_fault : (a d p r s : ℕ) → s + 0 + 48 * 0 ≤ r + 48 * a → s + 0 ≤ r + (48 * a + d + 1 + p)
 scan_fault a d p r s covers = omega (arith, covers)
 
 -- ---- counting

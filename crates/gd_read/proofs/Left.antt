@@ -74,20 +74,20 @@ asked_all l k j a r s u v m b one less more most = omega (arith, one, less, more
 
 -- LAW: the scan behind asking, of whose places it is not asked again
 pub asked_maybe : (n : ℕ) (batches : List Batch) (w : Kept) (c : Checking) (x : Scanning) → x.plan ≡ c.plan → x.matcher ≡ c.matcher → x.places ≡ None
-    → scanning_left n batches w x ≤ 64 * matcher_ahead batches (template_of (asked_view c.plan)) c.matcher + 0 + 1 + page_most n batches (template_of (asked_view c.plan)) w.limit
+    → scanning_left n batches w x ≤ 48 * matcher_ahead batches (template_of (asked_view c.plan)) c.matcher + 0 + 1 + page_most n batches (template_of (asked_view c.plan)) w.limit
 asked_maybe n batches w c x plan matcher places = by _ _ _ _ _
     (ap (λ (p : Found). page_most n batches (template_of (asked_view p)) w.limit) plan)
     (ap (λ (p : Found). matcher_ahead batches (template_of (asked_view p)) x.matcher) plan ∙ ap (matcher_ahead batches (template_of (asked_view c.plan))) matcher)
     (ap asks_left places)
   where
-    by : (p q a b d : ℕ) → p ≡ q → a ≡ b → d ≡ 0 → 64 * a + d + 1 + p ≤ 64 * b + 0 + 1 + q
+    by : (p q a b d : ℕ) → p ≡ q → a ≡ b → d ≡ 0 → 48 * a + d + 1 + p ≤ 48 * b + 0 + 1 + q
     by p q a b d page ahead none = omega (arith, page, ahead, none)
 
 -- ---- what is still to begin
 
 -- printing is a part of building
 pub prints_most : (n : ℕ) (batches : List Batch) (t : Template) → shape_most n ≤ building_most n batches t
-prints_most n batches t = by (64 * scan_most batches t) (shape_most n)
+prints_most n batches t = by (48 * scan_most batches t) (shape_most n)
   where
     by : (a m : ℕ) → m ≤ a + 1 + m
     by a m = omega arith
@@ -101,7 +101,7 @@ builds_most n batches t limit = by (1024 * limit) (building_most n batches t)
 
 -- and a page of a scan
 pub pages_most : (n : ℕ) (batches : List Batch) (t : Template) (l limit k : ℕ) → l ≡ limit → page_most n batches t l ≤ scanning_most n batches t limit k
-pages_most n batches t l limit k same = by (64 * scan_most batches t) (2 * k) _ _ (ap (page_most n batches t) same)
+pages_most n batches t l limit k same = by (48 * scan_most batches t) (2 * k) _ _ (ap (page_most n batches t) same)
   where
     by : (a b p m : ℕ) → p ≡ m → p ≤ a + b + 5 + m
     by a b p m is = omega (arith, is)
@@ -137,21 +137,21 @@ scan_left n batches w u plan x k limit same ahead few =
     t : Template
     t = template_of (asked_view plan)
 
-    by : (z a s d p q : ℕ) → z ≡ 64 * a + d + 1 + p → a ≤ s → d ≤ 2 * k + 4 → p ≡ q → z ≤ 64 * s + 2 * k + 5 + q
+    by : (z a s d p q : ℕ) → z ≡ 48 * a + d + 1 + p → a ≤ s → d ≤ 2 * k + 4 → p ≡ q → z ≤ 48 * s + 2 * k + 5 + q
     by z a s d p q is ahead few page = omega (arith, is, ahead, few, page)
 
 -- ---- a matcher
 
 -- LAW: a candidate was given, and at most five steps more were taken
-pub found_on : (a b d p q r s u : ℕ) → s + 0 + 64 * (1 + b) ≤ r + 64 * a → u ≤ s + 5 → p ≡ q → u + (64 * b + d + 1 + p) ≤ r + (64 * a + d + 1 + q)
+pub found_on : (a b d p q r s u : ℕ) → s + 0 + 48 * (1 + b) ≤ r + 48 * a → u ≤ s + 5 → p ≡ q → u + (48 * b + d + 1 + p) ≤ r + (48 * a + d + 1 + q)
 found_on a b d p q r s u ahead few page = omega (arith, ahead, few, page)
 
 -- LAW: none is left, and one step more was taken
-pub done_all : (a d m b r s u : ℕ) → s + 0 + 64 * 0 ≤ r + 64 * a → u ≤ s + 1 → m ≤ b → u + m ≤ r + (64 * a + d + 1 + b)
+pub done_all : (a d m b r s u : ℕ) → s + 0 + 48 * 0 ≤ r + 48 * a → u ≤ s + 1 → m ≤ b → u + m ≤ r + (48 * a + d + 1 + b)
 done_all a d m b r s u ahead more most = omega (arith, ahead, more, most)
 
 -- LAW: it goes on
-pub goes_on : (a b d m r s : ℕ) → s + 0 + 64 * b ≤ r + 64 * a → s + (64 * b + d + 1 + m) ≤ r + (64 * a + d + 1 + m)
+pub goes_on : (a b d m r s : ℕ) → s + 0 + 48 * b ≤ r + 48 * a → s + (48 * b + d + 1 + m) ≤ r + (48 * a + d + 1 + m)
 goes_on a b d m r s ahead = omega (arith, ahead)
 
 -- what is said, by the steps
@@ -179,23 +179,23 @@ build_found n batches b c m r s u plan matcher covers few = by _ _ _ (shape_most
     (ap (λ (p : Found). matcher_ahead batches (template_of (asked_view p)) c.matcher) plan ∙ ap (matcher_ahead batches (template_of (asked_view b.plan))) matcher)
     covers
   where
-    by : (a x y p : ℕ) → x ≡ y → s + 0 + 64 * (1 + y) ≤ r + 64 * a → u + (64 * x + 1 + p) ≤ r + (64 * a + 1 + p)
+    by : (a x y p : ℕ) → x ≡ y → s + 0 + 48 * (1 + y) ≤ r + 48 * a → u + (48 * x + 1 + p) ≤ r + (48 * a + 1 + p)
     by a x y p same ahead = omega (arith, same, ahead, few)
 
 -- LAW: no tree is left, and one step more was taken; the page is printed
-pub build_done : (a m r s u : ℕ) → s + 0 + 64 * 0 ≤ r + 64 * a → u ≤ s + 1 → u + m ≤ r + (64 * a + 1 + m)
+pub build_done : (a m r s u : ℕ) → s + 0 + 48 * 0 ≤ r + 48 * a → u ≤ s + 1 → u + m ≤ r + (48 * a + 1 + m)
 build_done a m r s u ahead more = omega (arith, ahead, more)
 
 -- LAW: it goes on
-pub build_on : (a b m r s : ℕ) → s + 0 + 64 * b ≤ r + 64 * a → s + (64 * b + 1 + m) ≤ r + (64 * a + 1 + m)
+pub build_on : (a b m r s : ℕ) → s + 0 + 48 * b ≤ r + 48 * a → s + (48 * b + 1 + m) ≤ r + (48 * a + 1 + m)
 build_on a b m r s ahead = omega (arith, ahead)
 
 -- LAW: a fault, behind which nothing is left
-pub build_fault : (a m r s : ℕ) → s + 0 + 64 * 0 ≤ r + 64 * a → s + 0 ≤ r + (64 * a + 1 + m)
+pub build_fault : (a m r s : ℕ) → s + 0 + 48 * 0 ≤ r + 48 * a → s + 0 ≤ r + (48 * a + 1 + m)
 build_fault a m r s covers = omega (arith, covers)
 
 -- LAW: it begins
-pub build_begun : (a s m : ℕ) → a ≤ s → 64 * a + 1 + m ≤ 64 * s + 1 + m
+pub build_begun : (a s m : ℕ) → a ≤ s → 48 * a + 1 + m ≤ 48 * s + 1 + m
 build_begun a s m ahead = omega (arith, ahead)
 
 -- LAW: what lies ahead of the rows of the page

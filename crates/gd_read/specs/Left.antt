@@ -36,7 +36,7 @@ IsPastIds n = 2 ^ 32 ≤ n
 
 -- the trees of a page, built by a matcher that has settled nothing, and their printing
 abbrev pub building_most : ℕ → List Batch → Template → ℕ
-building_most n batches t = 64 * scan_most batches t + 1 + shape_most n
+building_most n batches t = 48 * scan_most batches t + 1 + shape_most n
 
 -- a page of so many rows: its trees gathered, or else built
 abbrev pub page_most : ℕ → List Batch → Template → ℕ → ℕ
@@ -49,7 +49,7 @@ asks_left (Some ps) = 2 * length ps.items + 4
 
 -- a scan of so many places at most, and its page
 abbrev pub scanning_most : ℕ → List Batch → Template → ℕ → ℕ → ℕ
-scanning_most n batches t limit k = 64 * scan_most batches t + 2 * k + 5 + page_most n batches t limit
+scanning_most n batches t limit k = 48 * scan_most batches t + 2 * k + 5 + page_most n batches t limit
 
 -- ---- a stage
 
@@ -61,12 +61,12 @@ visiting_left n batches w v =
 
 -- what lies ahead of the matcher, asking of the places, and the page
 abbrev pub scanning_left : ℕ → List Batch → Kept → Scanning → ℕ
-scanning_left n batches w r = 64 * matcher_ahead batches (template_of (asked_view r.plan)) r.matcher + asks_left r.places + 1 + page_most n batches (template_of (asked_view r.plan)) w.limit
+scanning_left n batches w r = 48 * matcher_ahead batches (template_of (asked_view r.plan)) r.matcher + asks_left r.places + 1 + page_most n batches (template_of (asked_view r.plan)) w.limit
 
 -- what lies ahead of the matcher, the places of which it was not asked yet, and the page
 abbrev pub checking_left : ℕ → List Batch → Kept → Checking → ℕ
 checking_left n batches w c =
-    64 * matcher_ahead batches (template_of (asked_view c.plan)) c.matcher + (2 * (length c.places.items - c.next) + 4) + 1
+    48 * matcher_ahead batches (template_of (asked_view c.plan)) c.matcher + (2 * (length c.places.items - c.next) + 4) + 1
     + page_most n batches (template_of (asked_view c.plan)) w.limit
 
 -- the rows that were not looked at yet, and the building of all trees in their place
@@ -75,7 +75,7 @@ gathering_left n batches w g = 1024 * (w.limit - g.next) + 1024 + building_most 
 
 -- what lies ahead of the matcher, and the printing
 abbrev pub building_left : ℕ → List Batch → Building → ℕ
-building_left n batches b = 64 * matcher_ahead batches (template_of (asked_view b.plan)) b.matcher + 1 + shape_most n
+building_left n batches b = 48 * matcher_ahead batches (template_of (asked_view b.plan)) b.matcher + 1 + shape_most n
 
 -- ---- all of them
 
