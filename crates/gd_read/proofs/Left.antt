@@ -42,7 +42,7 @@ page_within w k o is = by _ _ (length-map (page_rows w) (λ (r : defs.Row). r.ob
 -- ---- rows and places, one after the other
 
 -- LAW: one more was looked at; the steps that it took are paid, and one more
-pub one_passed : (l k g s u r : ℕ) → k < l → u ≤ s + 901 → s + g + 1024 * (l - k) ≤ r → u + (g + 1) + 1024 * (l - (k + 1)) ≤ r
+pub one_passed : (l k g s u r : ℕ) → k < l → u ≤ s + 944 → s + g + 1024 * (l - k) ≤ r → u + (g + 1) + 1024 * (l - (k + 1)) ≤ r
 one_passed l k g s u r within few less = omega (arith, within, few, less)
 
 -- LAW: where the budget is spent, one was looked at
@@ -55,7 +55,7 @@ pub passed_on : (l k j r s u m b : ℕ) → s ≤ r + 1 → u + 1 + 1024 * (l - 
 passed_on l k j r s u m b one less most = omega (arith, one, less, most)
 
 -- LAW: a round behind them
-pub passed_all : (l k j r s u v m b : ℕ) → s ≤ r + 1 → u + 1024 * (l - j) ≤ s + 901 + 1024 * (l - k) → v ≤ u + 1 → m ≤ b → v + m ≤ r + (1024 * (l - k) + 1024 + b)
+pub passed_all : (l k j r s u v m b : ℕ) → s ≤ r + 1 → u + 1024 * (l - j) ≤ s + 944 + 1024 * (l - k) → v ≤ u + 1 → m ≤ b → v + m ≤ r + (1024 * (l - k) + 1024 + b)
 passed_all l k j r s u v m b one less more most = omega (arith, one, less, more, most)
 
 -- ---- asking of places

@@ -14,3 +14,4 @@ pub mod Several
 pub mod Reading
 pub mod Left
 pub mod Session
+pub mod Lightness

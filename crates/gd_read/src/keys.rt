@@ -1,6 +1,6 @@
 //! Rows with their sort keys.
-ghost use Rattle.std.specs.Prelude.{◌≡◌, ◌≤◌, IfOk, drop, length, map, pos};
-ghost use Rattle.gd_prim.specs.History.{AreTimed};
+ghost use Rattle.std.specs.Prelude.{◌≡◌, ◌+◌, ◌≤◌, IfOk, IfSome, drop, length, map, max, pos};
+ghost use Rattle.gd_prim.specs.History.{prims_of, AreTimed};
 ghost use Rattle.gd_prim.specs.Live as live;
 ghost use Rattle.gd_defs.specs.Rows as defs;
 ghost use Rattle.gd_defs.specs.Reply as reply;
@@ -12,21 +12,34 @@ use crate::answers::first_answer;
 use gd_base::datum::{Datum, Precision};
 use gd_base::id::Id;
 use gd_base::memory::Memory;
+use gd_base::steps::Steps;
+use gd_iter_core::budget::Budget;
 use gd_plan::asked::SortKey;
 use gd_prim::Primitive;
-use gd_trees::linked::LinkedPrims;
+use gd_store::view::View;
 use gd_window::keys::{Key, Keys4};
 use gd_window::order::Order;
 use gd_window::row::Row;
 use std::alloc::Global;
 
-/// The place at which a sort key of an object stands, if it has one.
-fn key_place(linked: &LinkedPrims, key: &SortKey, object: Id) -> Option<Id>
-    ensures { result ≡ defs.key_place linked.now object (sort_key_view key.now) }
+/// The place at which a sort key of an object stands, if it has one. None: the allowance was spent
+/// before that was known.
+fn key_place<L>(
+    view: &View<'_>,
+    key: &SortKey,
+    object: Id,
+    whole: Budget,
+    steps: &mut Steps<L>,
+) -> Option<Option<Id>>
+    requires begun { whole.before ≤ steps.old }
+    ensures place { IfSome result (λ o. o
+        ≡ defs.key_place (prims_of view.now) object (sort_key_view key.now)) }
+    ensures within { steps.new ≤ max steps.old (whole.before + whole.size + 22) }
+    ensures later { steps.old ≤ steps.new }
 {
     match key {
-        SortKey::Guid { .. } | SortKey::Timestamp { .. } => Some(object),
-        SortKey::Value { property, .. } => first_answer(linked, property, object),
+        SortKey::Guid { .. } | SortKey::Timestamp { .. } => Some(Some(object)),
+        SortKey::Value { property, .. } => first_answer(view, property, object, whole, steps),
     }
 }
 
@@ -92,45 +105,63 @@ fn key_at(prims: &[Primitive], key: &SortKey, place: Option<Id>) -> Result<Key, 
     }
 }
 
-/// The sort keys of an object.
-fn keys_of(
+/// The sort keys of an object. None: the allowance was spent before they were known.
+fn keys_of<L>(
     alloc: Global,
-    linked: &LinkedPrims,
+    view: &View<'_>,
     sort: &[SortKey],
     object: Id,
-) -> Result<Vec<Key>, Memory>
-    requires { AreTimed linked.now }
-    ensures keys { IfOk result (λ keys. keys.items ≡ map (own_key linked.now object)
-        (map sort_key_view sort.now)) }
-    ensures count { IfOk result (λ keys. length keys.items ≡ length sort.now) }
+    whole: Budget,
+    steps: &mut Steps<L>,
+) -> Result<Option<Vec<Key>>, Memory>
+    requires begun { whole.before ≤ steps.old }
+    requires timed { AreTimed (prims_of view.now) }
+    ensures keys { IfOk result (λ known. IfSome known (λ keys. keys.items
+        ≡ map (own_key (prims_of view.now) object) (map sort_key_view sort.now))) }
+    ensures count { IfOk result (λ known. IfSome known (λ keys. length keys.items
+        ≡ length sort.now)) }
+    ensures within { steps.new ≤ max steps.old (whole.before + whole.size + 22) }
+    ensures later { steps.old ≤ steps.new }
 {
     let mut keys = Vec::with_capacity(alloc, sort.len())?;
     for key in sort {
-        let place = key_place(linked, key, object);
-        keys.push(key_at(linked.prims(), key, place)?)?;
+        let place = match key_place(view, key, object, whole, steps) {
+            Some(place) => place,
+            None => return Ok(None),
+        };
+        keys.push(key_at(view.primitives(), key, place)?)?;
     }
-    Ok(keys)
+    Ok(Some(keys))
 }
 
-/// The row of an object, with the places and the values of its sort keys. `Memory`: an allocation
-/// was refused.
+/// The row of an object, with the places and the values of its sort keys, each look counted. None:
+/// the allowance was spent before they were known; it takes at most 22 steps more. `Memory`: an
+/// allocation was refused.
 #[tactic(auto, using(crate::proofs::KeyLinks::own_keys))]
-pub fn row_of(
+pub fn row_of<L>(
     alloc: Global,
-    linked: &LinkedPrims,
+    view: &View<'_>,
     sort: &[SortKey],
     object: Id,
-) -> Result<Row, Memory>
-    requires timed { AreTimed linked.now }
+    whole: Budget,
+    steps: &mut Steps<L>,
+) -> Result<Option<Row>, Memory>
+    requires begun { whole.before ≤ steps.old }
+    requires timed { AreTimed (prims_of view.now) }
     requires few { length sort.now ≤ 4 }
-    ensures { IfOk result (λ row. row ≡ with_values linked.now (map sort_key_view sort.now)
-        (defs.row_of linked.now (map sort_key_view sort.now) 0 object)) }
+    ensures row { IfOk result (λ known. IfSome known (λ row. row
+        ≡ with_values (prims_of view.now) (map sort_key_view sort.now)
+        (defs.row_of (prims_of view.now) (map sort_key_view sort.now) 0 object))) }
+    ensures within { steps.new ≤ max steps.old (whole.before + whole.size + 22) }
+    ensures later { steps.old ≤ steps.new }
 {
-    let keys = keys_of(alloc, linked, sort, object)?;
-    Ok(Row {
-        keys: Keys4::from_vec(keys),
-        id: object,
-    })
+    match keys_of(alloc, view, sort, object, whole, steps)? {
+        Some(keys) => Ok(Some(Row {
+            keys: Keys4::from_vec(keys),
+            id: object,
+        })),
+        None => Ok(None),
+    }
 }
 
 /// The place of a mark's key, where it lies below the end.

@@ -14,7 +14,6 @@ mod gathering;
 pub mod keys;
 mod printing;
 pub mod query;
-mod reach;
 pub mod reading;
 mod roots;
 mod rows;
