@@ -1,10 +1,13 @@
 -- What a run came to that restores a text to the store of a disk.
-use Rattle.std.specs.Prelude.{ℕ, List, [], ◌∷◌, Option, Result, Ok, Err}
+use Rattle.std.specs.Prelude.{◌≡◌, ℕ, ◌≤◌, List, [], ◌∷◌, Option, Result, Ok, Err, IfErr}
+use Rattle.std.specs.Option.{is_some}
+use Rattle.gd_base.specs.Counts.{Rose}
 use Rattle.gd_prim.specs.declared.Batch.{Batch}
 use Rattle.gd_bytes.specs.File.{MayStandFor}
 use Rattle.gd_dump_laws.specs.Restoring.{Restores, RestoresFront, RestoresDoubt, whole, bad, starts_elsewhere, unfit}
 use Rattle.gd_journal.specs.declared.fault.JournalFault.{JournalFault}
 use Rattle.gd_journal.specs.declared.fault.JournalFault.TheVariants as journal
+use Rattle.gd_log.specs.Stored.{Stored}
 use Rattle.gd_restore.specs.Gathered.{Tells}
 use Rattle.gd_restore.specs.declared.stop.RestoreStop.{RestoreStop}
 use Rattle.gd_restore.specs.declared.stop.RestoreStop.TheVariants as stop
@@ -55,6 +58,12 @@ IsHalt stop.TooMuch disk_failed = ⊥
 IsHalt (stop.Unopened f) disk_failed = ⊥
 IsHalt stop.DiskFault disk_failed = disk_failed
 IsHalt _ disk_failed = Unit {0}
+
+-- What a call does to the disk of a log: its content is told as before, its count of faults never falls, and the disk stops it only where the count rose.
+pub record ActsOn {D : Type 0} (content : D → Option (List ℕ)) (faults : D → ℕ) (result : Result (Unit {0}) RestoreStop) (old new : Stored D) : Type 0 where
+  pub told : is_some (content new.log.disk) ≡ is_some (content old.log.disk)
+  pub later : faults old.log.disk ≤ faults new.log.disk
+  pub cause : IfErr result (λ stop. IsHalt stop (Rose (faults old.log.disk) (faults new.log.disk)))
 
 -- a stop comes only where there is a cause
 abbrev pub StopsBy : RestoreStop → (read_failed disk_failed is_long : Type 0) → Type 0

@@ -1,8 +1,6 @@
 //! Batches of a text are gathered, and appended to a log in groups.
 ghost use Rattle.std.specs.Prelude.{◌≡◌, ◌≤◌, ◌++◌, ◌∷◌, ℕ, List, [], None, length, OnOk, IfErr};
-ghost use Rattle.std.specs.Option.{is_some};
 ghost use Rattle.std.specs.List.{AllByRecursion};
-ghost use Rattle.gd_base.specs.Counts.{Rose};
 ghost use Rattle.gd_prim.specs.declared.Batch.{Batch};
 ghost use Rattle.gd_bytes.specs.Disk.{LeavesOnly};
 ghost use Rattle.gd_bytes.specs.File.{MayStandFor};
@@ -10,7 +8,7 @@ ghost use Rattle.gd_dump_laws.specs.Restoring.{is_full, BeginsWith, Follow};
 ghost use Rattle.gd_log.specs.Stored.{IsEarly};
 ghost use Rattle.gd_restore.specs.Gathered.{Gathers, IsReady, IsRefusal, IsAppended, IsFailure};
 ghost use Rattle.gd_restore.specs.Gathered.{HoldsAs, HoldsAfter, Begins, IsWhole};
-ghost use Rattle.gd_restore.specs.Restores.{Leaves, StopsAs, IsHalt};
+ghost use Rattle.gd_restore.specs.Restores.{Leaves, StopsAs, ActsOn};
 
 use crate::stop::RestoreStop;
 use gd_disk::disk::Disk;
@@ -126,12 +124,7 @@ impl<D: Disk> Gathering<D> {
         ensures moments { HoldsAs D.content D.images self.old.stored None
             → LeavesOnly D.moment D.images D.images_since self.old.stored.log.disk
             self.new.stored.log.disk (MayStandFor self.old.stored.batches (self.old.group ∷ [])) }
-        ensures told { is_some (D.content self.new.stored.log.disk) ≡ is_some
-            (D.content self.old.stored.log.disk) }
-        ensures later { D.faults self.old.stored.log.disk ≤ D.faults self.new.stored.log.disk }
-        ensures cause { IfErr result
-            (λ stop. IsHalt stop (Rose (D.faults self.old.stored.log.disk)
-            (D.faults self.new.stored.log.disk))) }
+        ensures disk { ActsOn D.content D.faults result self.old.stored self.new.stored }
     {
         self.check_group()?;
         match self.log.append(alloc, self.group.as_slice()) {
@@ -158,12 +151,7 @@ impl<D: Disk> Gathering<D> {
             → BeginsWith text (length list) (batches ++ batch ∷ [])
             → StopsAs stop (Leaves D.content D.images self.new.stored.log.disk) list text
             self.new.stored.batches) }
-        ensures told { is_some (D.content self.new.stored.log.disk) ≡ is_some
-            (D.content self.old.stored.log.disk) }
-        ensures later { D.faults self.old.stored.log.disk ≤ D.faults self.new.stored.log.disk }
-        ensures cause { IfErr result
-            (λ stop. IsHalt stop (Rose (D.faults self.old.stored.log.disk)
-            (D.faults self.new.stored.log.disk))) }
+        ensures disk { ActsOn D.content D.faults result self.old.stored self.new.stored }
     {
         match self.group.push(batch) {
             Ok(()) => {}
@@ -192,12 +180,7 @@ impl<D: Disk> Gathering<D> {
             → Begins list text (before ++ batches.items)
             → StopsAs stop (Leaves D.content D.images self.new.stored.log.disk) list text
             self.new.stored.batches) }
-        ensures told { is_some (D.content self.new.stored.log.disk) ≡ is_some
-            (D.content self.old.stored.log.disk) }
-        ensures later { D.faults self.old.stored.log.disk ≤ D.faults self.new.stored.log.disk }
-        ensures cause { IfErr result
-            (λ stop. IsHalt stop (Rose (D.faults self.old.stored.log.disk)
-            (D.faults self.new.stored.log.disk))) }
+        ensures disk { ActsOn D.content D.faults result self.old.stored self.new.stored }
     {
         for batch in batches {
             match self.gather(batch, alloc) {
@@ -219,12 +202,7 @@ impl<D: Disk> Gathering<D> {
             → Gathers D.content D.images list batches self.old → Begins list text batches
             → StopsAs stop (Leaves D.content D.images self.new.stored.log.disk) list text
             self.new.stored.batches) }
-        ensures told { is_some (D.content self.new.stored.log.disk) ≡ is_some
-            (D.content self.old.stored.log.disk) }
-        ensures later { D.faults self.old.stored.log.disk ≤ D.faults self.new.stored.log.disk }
-        ensures cause { IfErr result
-            (λ stop. IsHalt stop (Rose (D.faults self.old.stored.log.disk)
-            (D.faults self.new.stored.log.disk))) }
+        ensures disk { ActsOn D.content D.faults result self.old.stored self.new.stored }
     {
         if self.group.is_empty() {
             return Ok(());

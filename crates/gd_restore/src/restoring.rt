@@ -13,7 +13,7 @@ ghost use Rattle.gd_restore.specs.Dumps.{Loads};
 ghost use Rattle.gd_restore.specs.Gathered.{IsReady, IsReader, Upto, HasBegun, IsChecked, IsOther};
 ghost use Rattle.gd_restore.specs.Gathered.{IsBadBehind, IsFaultBehind, HoldsAs, Tells};
 ghost use Rattle.gd_restore.specs.Restores.{Leaves, StopsAs, EndsAs, RestoresAs, EndsBy, IsHalt};
-ghost use Rattle.gd_restore.specs.Restores.{IfNotOpened};
+ghost use Rattle.gd_restore.specs.Restores.{IfNotOpened, ActsOn};
 
 use crate::gathering::Gathering;
 use crate::stop::RestoreStop;
@@ -106,13 +106,7 @@ fn take<D: Disk>(
         → Upto D.content D.images list seen gathering.old text.old
         → StopsAs stop (Leaves D.content D.images gathering.new.stored.log.disk) list
         ((seen ++ piece.now) ++ left) gathering.new.stored.batches) }
-    ensures told { is_some (D.content gathering.new.stored.log.disk) ≡ is_some
-        (D.content gathering.old.stored.log.disk) }
-    ensures later { D.faults gathering.old.stored.log.disk
-        ≤ D.faults gathering.new.stored.log.disk }
-    ensures cause { IfErr result
-        (λ stop. IsHalt stop (Rose (D.faults gathering.old.stored.log.disk)
-        (D.faults gathering.new.stored.log.disk))) }
+    ensures disk { ActsOn D.content D.faults result gathering.old.stored gathering.new.stored }
 {
     match text.feed(piece) {
         Ok(batches) => match check_first(gathering.have(), text) {
@@ -135,13 +129,7 @@ fn finish<D: Disk>(
         → Upto D.content D.images list seen gathering.old text.now
         → EndsAs result (Leaves D.content D.images gathering.new.stored.log.disk) list seen
         gathering.new.stored.batches }
-    ensures told { is_some (D.content gathering.new.stored.log.disk) ≡ is_some
-        (D.content gathering.old.stored.log.disk) }
-    ensures later { D.faults gathering.old.stored.log.disk
-        ≤ D.faults gathering.new.stored.log.disk }
-    ensures cause { IfErr result
-        (λ stop. IsHalt stop (Rose (D.faults gathering.old.stored.log.disk)
-        (D.faults gathering.new.stored.log.disk))) }
+    ensures disk { ActsOn D.content D.faults result gathering.old.stored gathering.new.stored }
 {
     match text.finish() {
         Ok(()) => match check_first(gathering.have(), text) {

@@ -35,8 +35,8 @@ loop-input-preserved g c =
           (subst (λ l. Keeps before (prepend_known l b)) (sym bytes) c.in-Ok-true.ensures.kept) none (omega (arith, passed, same)) (λ seen p held. c.in-Ok.ensures.upto first.stored.batches seen (p held));
       given = omega (arith, given, passed, long, short);
       bounded = record { buffered = omega (arith, short); taken = omega (arith, bound, passed, long, short) };
-      told = c.in-Ok.ensures.told ∙ inv.told;
-      later = omega (arith, inv.later, c.in-Ok.ensures.later);
+      told = c.in-Ok.ensures.disk.told ∙ inv.told;
+      later = omega (arith, inv.later, c.in-Ok.ensures.disk.later);
       source_later = omega (arith, inv.source_later, c.in-Ok-true.ensures.later);
     }
 

@@ -43,7 +43,7 @@ returns-in-Ok-append_group-clause-gathers g c =
     let log : i.log ≡ s.stored = search rules in
     let have : i.have ≡ s.have = search rules in
     let full : is_full (s.group ++ c.args.batch ∷ []) ≡ true = search rules in
-    let told : is_some (d.content new.stored.log.disk) ≡ is_some (d.content s.stored.log.disk) = c.append_group.ensures.told ∙ ap (λ l. is_some (d.content l.log.disk)) log in
+    let told : is_some (d.content new.stored.log.disk) ≡ is_some (d.content s.stored.log.disk) = c.append_group.ensures.disk.told ∙ ap (λ l. is_some (d.content l.log.disk)) log in
     let ensures = c.in-Ok-append_group.ensures in
     append_gathers d.content d.images s new c.args.batch told c.requires.ready.part full
     (record {
@@ -65,7 +65,7 @@ returns-in-Err-append_group-clause-stops g c =
     let items : c.push.new.self.items ≡ s.group ++ c.args.batch ∷ [] = search rules in
     let log : i.log ≡ s.stored = search rules in
     let have : i.have ≡ s.have = search rules in
-    let told : is_some (d.content new.stored.log.disk) ≡ is_some (d.content s.stored.log.disk) = c.append_group.ensures.told ∙ ap (λ l. is_some (d.content l.log.disk)) log in
+    let told : is_some (d.content new.stored.log.disk) ≡ is_some (d.content s.stored.log.disk) = c.append_group.ensures.disk.told ∙ ap (λ l. is_some (d.content l.log.disk)) log in
     let ensures = c.in-Err-append_group.ensures in
     full_stops d.content d.images s new c.args.batch told e c.requires.ready.part
     (subst (λ h. IsFailure (record { stored = s.stored; have = h; group = s.group ++ c.args.batch ∷ [] }) new e) have
