@@ -40,9 +40,7 @@ fn hex_value(digit: u8) -> u8
 fn second_digit(more: usize, state: Due, first: u8, digit: u8) -> bool
     ensures { result ≡ reading.second_digit more state first digit }
 {
-    is_hex(first)
-        && is_hex(digit)
-        && state.may_come(more, 16 * hex_value(first) + hex_value(digit))
+    is_hex(first) && is_hex(digit) && state.may_come(more, 16 * hex_value(first) + hex_value(digit))
 }
 
 /// Whether the digit may begin a byte of the text.

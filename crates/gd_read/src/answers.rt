@@ -86,12 +86,7 @@ fn holds_expected<L>(
 }
 
 /// Whether a link is one of a property, and holds what that expects in its direction.
-fn holds<L>(
-    view: &View<'_>,
-    property: &Property,
-    link: &Primitive,
-    steps: &mut Steps<L>,
-) -> bool
+fn holds<L>(view: &View<'_>, property: &Property, link: &Primitive, steps: &mut Steps<L>) -> bool
     ensures holds { result ≡ (defs.is_of property.now link.now
         && holds (prims_of view.now) property.now link.now) }
     ensures work { steps.new ≤ steps.old + 3 }
