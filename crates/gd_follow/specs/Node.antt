@@ -1,6 +1,5 @@
 -- What contracts see of a node, and what it answers.
-use Rattle.std.specs.Prelude.{◌≡◌, ◌⊎◌, ℕ, ◌≤◌, List, ◌++◌, length, true, Option, Some, None, IsSome, Result, Ok, Err, IfErr}
-use Rattle.std.specs.Option.{is_some}
+use Rattle.std.specs.Prelude.{◌≡◌, ◌⊎◌, ℕ, List, ◌++◌, length, true, Option, Some, None, IsSome, Result, Ok, Err}
 use Rattle.std.specs.List.{AllByRecursion}
 use Rattle.gd_prim.specs.declared.Batch.{Batch}
 use Rattle.gd_prim.specs.History.{prims_of}
@@ -86,15 +85,3 @@ HoldsNode content images n = Holds (content n.log.disk) (images n.log.disk) n.lo
 -- at every moment from one node to the other a stop leaves what stands for the first, with all or none of its group in doubt, or so for the second
 abbrev pub LeavesNodes : {D : Type 0} → (D → ℕ) → (D → List ℕ → Type 0) → (D → ℕ → List ℕ → Type 0) → NodeValue D → NodeValue D → Type 0
 LeavesNodes moment images images_since old new = LeavesOnly moment images images_since old.log.disk new.log.disk (λ file. StandsForNode (node_of old) file ⊎ StandsForNode (node_of new) file)
-
--- The disk's count does not fall, it goes on to tell its content or not, and goes on to hold the node's list.
-pub record GoesOn {D : Type 0} (content : D → Option (List ℕ)) (images : D → List ℕ → Type 0) (faults : D → ℕ) (old new : NodeValue D) : Type 0 where
-  pub later : faults old.log.disk ≤ faults new.log.disk
-  pub told : is_some (content new.log.disk) ≡ is_some (content old.log.disk)
-  pub holds : HoldsNode content images old → HoldsNode content images new
-
--- What a call does to the disk of a node: it goes on, a failure that refuses a group was counted, and a stop at any moment of it leaves what stands for the node before or after.
-pub record ActsOn {D T : Type 0} (content : D → Option (List ℕ)) (moment : D → ℕ) (images : D → List ℕ → Type 0) (images_since : D → ℕ → List ℕ → Type 0) (faults : D → ℕ) (result : Result T GiveFault) (old new : NodeValue D) : Type 0 where
-  pub on : GoesOn content images faults old new
-  pub cause : IfErr result (HasReason (faults old.log.disk) (faults new.log.disk))
-  pub moments : HoldsNode content images old → LeavesNodes moment images images_since old new

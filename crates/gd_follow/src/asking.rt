@@ -8,9 +8,8 @@ ghost use Rattle.gd_log.specs.Stored.{IsEarly};
 ghost use Rattle.gd_follow.specs.Asks.{IsLongest, Asks, MayBeWritten, IsOfList, IsWithin};
 
 use crate::answer::{AskFault, Asked};
-use crate::batches::batch_at;
+use crate::batches::{batch_at, batch_prims};
 use gd_base::memory::Memory;
-use gd_batches::prims::batch_prims;
 use gd_codec::{Group, primitives_length};
 use gd_prim::Batch;
 use gd_store::store::Store;

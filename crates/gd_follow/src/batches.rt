@@ -1,11 +1,22 @@
 //! The batches of a store, one by one.
-ghost use Rattle.std.specs.Prelude.{◌≡◌, ◌<◌, Some, length, slice_get, IfOk};
+ghost use Rattle.std.specs.Prelude.{◌≡◌, ◌<◌, ◌≤◌, Some, length, slice_get, IfOk};
+ghost use Rattle.gd_prim.specs.declared.Batch.{Batch};
 
 use gd_base::memory::Memory;
-use gd_batches::prims::batch_prims;
 use gd_prim::{Batch, Primitive, Prims};
 use gd_store::store::Store;
 use std::alloc::Global;
+
+/// The primitives of the n-th batch.
+pub(crate) fn batch_prims(store: &Store, n: u32) -> &[Primitive]
+    requires there { n < length store.now }
+    requires small { n < 4_194_303 }
+    ensures prims { (b : Batch) → slice_get store.now n ≡ Some b → result.now ≡ b.prims }
+    ensures few { length result.now ≤ 4_096 }
+{
+    let prims = store.primitives();
+    &prims[store.below(n).len()..store.below(n + 1).len()]
+}
 
 /// The same primitives again.
 fn copies(alloc: Global, prims: &[Primitive]) -> Result<Prims, Memory>

@@ -4,9 +4,9 @@ ghost use Rattle.std.specs.Prelude.{IsTrue, MatchOption};
 ghost use Rattle.gd_prim.specs.declared.Batch.{Batch};
 ghost use Rattle.gd_follow_laws.specs.Given.{Agrees, IsForkAt};
 
+use crate::batches::batch_prims;
 use gd_base::id::Id;
 use gd_base::text::Text;
-use gd_batches::prims::batch_prims;
 use gd_prim::{Batch, Primitive};
 use gd_store::store::Store;
 

@@ -13,8 +13,8 @@ ghost use Rattle.gd_log.specs.Opening.{MeansOneOf, Refuses, IsKept};
 ghost use Rattle.gd_log.specs.Stored.{IsEarly, MayAppend};
 ghost use Rattle.gd_follow_laws.specs.World as world;
 ghost use Rattle.gd_follow.specs.Asks.{Asks, MayBeWritten, IsOfList, IsWithin};
-ghost use Rattle.gd_follow.specs.Node.{node_of, Appended, Answered, Gave, Ends};
-ghost use Rattle.gd_follow.specs.Node.{HoldsNode, ActsOn};
+ghost use Rattle.gd_follow.specs.Node.{node_of, Appended, Answered, Gave, Ends, HasReason};
+ghost use Rattle.gd_follow.specs.Node.{HoldsNode, LeavesNodes};
 
 use crate::answer::{AskFault, Asked, GiveFault, Given};
 use crate::asking::ask;
@@ -132,8 +132,15 @@ impl<D: Disk> Node<D> {
     /// for want of memory.
     fn settle(&mut self) -> Result<(), GiveFault>
         ensures ends { Ends (node_of self.old) result (node_of self.new) }
-        ensures disk { ActsOn D.content D.moment D.images D.images_since D.faults result self.old
-            self.new }
+        ensures cause { IfErr result (HasReason (D.faults self.old.log.disk)
+            (D.faults self.new.log.disk)) }
+        ensures later { D.faults self.old.log.disk ≤ D.faults self.new.log.disk }
+        ensures holds { HoldsNode D.content D.images self.old
+            → HoldsNode D.content D.images self.new }
+        ensures moments { HoldsNode D.content D.images self.old
+            → LeavesNodes D.moment D.images D.images_since self.old self.new }
+        ensures told { is_some (D.content self.new.log.disk)
+            ≡ is_some (D.content self.old.log.disk) }
     {
         match std::mem::replace(&mut self.doubt, None) {
             None => Ok(()),
@@ -159,8 +166,15 @@ impl<D: Disk> Node<D> {
         requires may { MayAppend self.old.list past.items }
         requires certain { self.old.doubt ≡ None }
         ensures appended { Appended self.old.list past.items result (node_of self.new) }
-        ensures disk { ActsOn D.content D.moment D.images D.images_since D.faults result self.old
-            self.new }
+        ensures cause { IfErr result (HasReason (D.faults self.old.log.disk)
+            (D.faults self.new.log.disk)) }
+        ensures later { D.faults self.old.log.disk ≤ D.faults self.new.log.disk }
+        ensures holds { HoldsNode D.content D.images self.old
+            → HoldsNode D.content D.images self.new }
+        ensures moments { HoldsNode D.content D.images self.old
+            → LeavesNodes D.moment D.images D.images_since self.old self.new }
+        ensures told { is_some (D.content self.new.log.disk)
+            ≡ is_some (D.content self.old.log.disk) }
     {
         match self.log.append(self.alloc, past.as_slice()) {
             Ok(()) => Ok(Given::Taken),
@@ -180,8 +194,15 @@ impl<D: Disk> Node<D> {
         requires early { AllByRecursion IsEarly past.now }
         requires certain { self.old.doubt ≡ None }
         ensures appended { Appended self.old.list past.now result (node_of self.new) }
-        ensures disk { ActsOn D.content D.moment D.images D.images_since D.faults result self.old
-            self.new }
+        ensures cause { IfErr result (HasReason (D.faults self.old.log.disk)
+            (D.faults self.new.log.disk)) }
+        ensures later { D.faults self.old.log.disk ≤ D.faults self.new.log.disk }
+        ensures holds { HoldsNode D.content D.images self.old
+            → HoldsNode D.content D.images self.new }
+        ensures moments { HoldsNode D.content D.images self.old
+            → LeavesNodes D.moment D.images D.images_since self.old self.new }
+        ensures told { is_some (D.content self.new.log.disk)
+            ≡ is_some (D.content self.old.log.disk) }
     {
         if let Some(place) = self.log.first_unfit(past)? {
             return Err(GiveFault::Unfit {
@@ -198,8 +219,15 @@ impl<D: Disk> Node<D> {
         requires certain { self.old.doubt ≡ None }
         ensures answered { Answered self.old.list (record { from = from; group = group.now }) result
             (node_of self.new) }
-        ensures disk { ActsOn D.content D.moment D.images D.images_since D.faults result self.old
-            self.new }
+        ensures cause { IfErr result (HasReason (D.faults self.old.log.disk)
+            (D.faults self.new.log.disk)) }
+        ensures later { D.faults self.old.log.disk ≤ D.faults self.new.log.disk }
+        ensures holds { HoldsNode D.content D.images self.old
+            → HoldsNode D.content D.images self.new }
+        ensures moments { HoldsNode D.content D.images self.old
+            → LeavesNodes D.moment D.images D.images_since self.old self.new }
+        ensures told { is_some (D.content self.new.log.disk)
+            ≡ is_some (D.content self.old.log.disk) }
     {
         let entries = self.log.store().requests();
         if from > entries {
@@ -232,8 +260,15 @@ impl<D: Disk> Node<D> {
             (node_of self.new) }
         ensures step { world.Gives (node_of self.old) (record { from = from; group = group.now })
             (node_of self.new) }
-        ensures disk { ActsOn D.content D.moment D.images D.images_since D.faults result self.old
-            self.new }
+        ensures cause { IfErr result (HasReason (D.faults self.old.log.disk)
+            (D.faults self.new.log.disk)) }
+        ensures later { D.faults self.old.log.disk ≤ D.faults self.new.log.disk }
+        ensures holds { HoldsNode D.content D.images self.old
+            → HoldsNode D.content D.images self.new }
+        ensures moments { HoldsNode D.content D.images self.old
+            → LeavesNodes D.moment D.images D.images_since self.old self.new }
+        ensures told { is_some (D.content self.new.log.disk)
+            ≡ is_some (D.content self.old.log.disk) }
     {
         self.settle()?;
         self.take(from, group)

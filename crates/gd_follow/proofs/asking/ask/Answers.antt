@@ -1,8 +1,7 @@
 use Rattle.std.proofs.Common.{◌∙◌, ◌<◌, ◌≤◌, length, refl, sym, subst, arith}
 use Rattle.gd_codec.specs.Writable.{MayWrite}
 use Rattle.gd_follow_laws.specs.World.{IsRun}
-use Rattle.gd_batches.proofs.Histories.{there_is}
-use Rattle.gd_follow.proofs.Runs.{run_may, run_is, too_large}
+use Rattle.gd_follow.proofs.Stores.{there_is, run_may, run_is, too_large}
 use Rattle.gd_follow.proofs.asking.ask.Goals as goal
 
 pub returns-then-count-eq0-clause-asks : goal.returns-then-count-eq0-clause-asks

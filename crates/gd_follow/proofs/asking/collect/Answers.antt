@@ -1,6 +1,6 @@
 use Rattle.std.proofs.Common.{◌∙◌, ◌++◌, ◌∷◌, [], ◌+◌, List, ap, sym, refl}
 use Rattle.gd_prim.specs.declared.Batch.{Batch}
-use Rattle.gd_follow.proofs.Runs.{run_more}
+use Rattle.gd_follow.proofs.Stores.{run_more}
 use Rattle.gd_follow.proofs.asking.collect.Goals as goal
 
 pub loop-place-preserved : goal.loop-place-preserved

@@ -1,8 +1,7 @@
 use Rattle.std.proofs.Common.{◌≡◌, ◌<◌, ◌+◌, length, inr, refl, arith}
 use Rattle.gd_bytes.specs.Group.{spelling}
 use Rattle.gd_follow.specs.Asks.{run_of}
-use Rattle.gd_batches.proofs.Histories.{there_is}
-use Rattle.gd_follow.proofs.Runs.{run_bytes}
+use Rattle.gd_follow.proofs.Stores.{there_is, run_bytes}
 use Rattle.gd_follow.proofs.asking.longest.Goals as goal
 
 pub returns-then-total-gt-PART_LIMIT : goal.returns-then-total-gt-PART_LIMIT

@@ -1,4 +1,3 @@
-use Rattle.std.proofs.Common.{◌∙◌, arith, rules}
 use Rattle.gd_follow_laws.specs.World.{Run}
 use Rattle.gd_follow.specs.Node.{node_of}
 use Rattle.gd_follow.proofs.Moments.{joined}
@@ -13,13 +12,7 @@ returns-clause-step g c =
     let run : Run = record { from = c.args.from; group = c.args.group.now } in
     gave_step (node_of c.args.self.now) (node_of c.take.new.self) run c.take.result (gave_of (node_of c.args.self.now) (node_of c.settle.new.self) (node_of c.take.new.self) run c.take.result c.in_ok-settle.ensures.ends c.take.ensures.answered)
 
-pub returns-clause-disk : goal.returns-clause-disk
-returns-clause-disk g c =
+pub returns-clause-moments : goal.returns-clause-moments
+returns-clause-moments g c holds =
     let (list, settled, is) = c.in_ok-settle.ensures.ends in
-    let first = c.settle.ensures.disk in
-    let second = c.take.ensures.disk in
-    record {
-      on = record { later = omega (arith, first.on.later, second.on.later); told = second.on.told ∙ first.on.told; holds = λ holds. second.on.holds (first.on.holds holds) };
-      cause = search rules;
-      moments = λ holds. joined c.args.self.now.log.disk c.settle.new.self.log.disk c.take.new.self.log.disk (node_of c.args.self.now) (node_of c.settle.new.self) (node_of c.take.new.self) list settled is (first.moments holds) (second.moments (first.on.holds holds));
-    }
+    joined c.args.self.now.log.disk c.settle.new.self.log.disk c.take.new.self.log.disk (node_of c.args.self.now) (node_of c.settle.new.self) (node_of c.take.new.self) list settled is (c.settle.ensures.moments holds) (c.take.ensures.moments (c.settle.ensures.holds holds))

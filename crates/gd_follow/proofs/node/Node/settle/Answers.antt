@@ -15,28 +15,20 @@ returns-in-Ok-clause-ends g c =
     let is : new ≡ (if c.in-Ok._counts then c.self.inside.log.batches ++ c.in-Some.group.items else c.self.inside.log.batches) = search rules in
     (new, settled_list (node_of c.args.self.now) c.self.inside.log.batches c.in-Some.group.items new c.in-Ok._counts list doubt is, ap (λ o. record { list = new; doubt = option_map (λ v. v.items) o }) c.replace.ensures.after)
 
-pub returns-in-Ok-clause-disk : goal.returns-in-Ok-clause-disk
-returns-in-Ok-clause-disk g c = record {
-  on = search rules;
-  cause = search rules;
-  moments = rw (← c.self.view_is) (λ holds.
-      let d = g.D.Disk in
-      let i = c.self.inside in
-      let doubt : option_map (λ v. v.items) i.doubt ≡ Some c.as_slice.result.now = search rules in
-      let held = subst (λ o. Holds (d.content i.log.log.disk) (d.images i.log.log.disk) i.log.log.gate i.log.log.doubt i.log.batches o) doubt holds in
-      let run = subst (λ o. LeavesOnly d.moment d.images d.images_since i.log.log.disk c.settle.new.self.log.disk (MayStandFor i.log.batches (groups_in_doubt o))) (sym doubt) (c.in-Ok.ensures.moments held) in
-      tried i.log.log.disk c.settle.new.self.log.disk (record { list = i.log.batches; doubt = option_map (λ v. v.items) i.doubt }) _ run);
-}
+pub returns-in-Ok-clause-moments : goal.returns-in-Ok-clause-moments
+returns-in-Ok-clause-moments g c = rw (← c.self.view_is) (λ holds.
+    let d = g.D.Disk in
+    let i = c.self.inside in
+    let doubt : option_map (λ v. v.items) i.doubt ≡ Some c.as_slice.result.now = search rules in
+    let held = subst (λ o. Holds (d.content i.log.log.disk) (d.images i.log.log.disk) i.log.log.gate i.log.log.doubt i.log.batches o) doubt holds in
+    let run = subst (λ o. LeavesOnly d.moment d.images d.images_since i.log.log.disk c.settle.new.self.log.disk (MayStandFor i.log.batches (groups_in_doubt o))) (sym doubt) (c.in-Ok.ensures.moments held) in
+    tried i.log.log.disk c.settle.new.self.log.disk (record { list = i.log.batches; doubt = option_map (λ v. v.items) i.doubt }) _ run)
 
-pub returns-after-fault-clause-disk : goal.returns-after-fault-clause-disk
-returns-after-fault-clause-disk g c = record {
-  on = search rules;
-  cause = search rules;
-  moments = rw (← c.self.view_is) (λ holds.
-      let d = g.D.Disk in
-      let i = c.self.inside in
-      let doubt : option_map (λ v. v.items) i.doubt ≡ Some c.as_slice.result.now = search rules in
-      let held = subst (λ o. Holds (d.content i.log.log.disk) (d.images i.log.log.disk) i.log.log.gate i.log.log.doubt i.log.batches o) doubt holds in
-      let run = subst (λ o. LeavesOnly d.moment d.images d.images_since i.log.log.disk c.settle.new.self.log.disk (MayStandFor i.log.batches (groups_in_doubt o))) (sym doubt) (c.in-Err.ensures.moments held) in
-      tried i.log.log.disk c.settle.new.self.log.disk (record { list = i.log.batches; doubt = option_map (λ v. v.items) i.doubt }) (record { list = c.settle.new.self.batches; doubt = Some c.in-Some.group.items }) run);
-}
+pub returns-after-fault-clause-moments : goal.returns-after-fault-clause-moments
+returns-after-fault-clause-moments g c = rw (← c.self.view_is) (λ holds.
+    let d = g.D.Disk in
+    let i = c.self.inside in
+    let doubt : option_map (λ v. v.items) i.doubt ≡ Some c.as_slice.result.now = search rules in
+    let held = subst (λ o. Holds (d.content i.log.log.disk) (d.images i.log.log.disk) i.log.log.gate i.log.log.doubt i.log.batches o) doubt holds in
+    let run = subst (λ o. LeavesOnly d.moment d.images d.images_since i.log.log.disk c.settle.new.self.log.disk (MayStandFor i.log.batches (groups_in_doubt o))) (sym doubt) (c.in-Err.ensures.moments held) in
+    tried i.log.log.disk c.settle.new.self.log.disk (record { list = i.log.batches; doubt = option_map (λ v. v.items) i.doubt }) (record { list = c.settle.new.self.batches; doubt = Some c.in-Some.group.items }) run)
