@@ -33,6 +33,8 @@ SECONDS = os.path.join(TOP, "crates", PROGRAM, "out", "seconds.json")
 ROOM = 3 << 30
 # Crates that are done within so many seconds of the first one were proved before.
 SOON = 10
+# About so many bytes are proved a second, as long as nothing is known of this machine.
+PACE = 1500
 
 
 def crates_of(name: str) -> Dict[str, List[str]]:
@@ -79,12 +81,12 @@ class Times:
         self.seconds: Dict[str, float] = {crate: told[crate] for crate in sizes if isinstance(told.get(crate), (int, float))}
         self.sizes = sizes
 
-    def of(self, crate: str) -> Optional[float]:
-        """What a crate took, or, by its size, what it would have taken; None where nothing is known yet."""
+    def of(self, crate: str) -> float:
+        """What a crate took, or, by its size, what it would have taken."""
         if crate in self.seconds:
             return self.seconds[crate]
         known = sum(self.sizes[each] for each in self.seconds)
-        return self.sizes[crate] * sum(self.seconds.values()) / known if known else None
+        return self.sizes[crate] * sum(self.seconds.values()) / known if known else self.sizes[crate] / PACE
 
     def keep(self) -> None:
         """Keeps what they took for the next run."""
@@ -131,13 +133,11 @@ class Progress:
         self.since[self.since.index(since)] = now
         return max(since, ready)
 
-    def to_go(self) -> Optional[float]:
+    def to_go(self) -> float:
         """About how long it is to go: what is left for each processor, and no less than the longest chain of what is left."""
         now, left, chains = time.monotonic(), 0.0, {}
         for crate in self.upward():
             took = 0.0 if crate in self.ended else self.times.of(crate)
-            if took is None:
-                return None
             left += took
             if took and all(each in self.ended for each in self.needs[crate]):
                 took = max(took - (now - self.ready(crate)), took / 10)
@@ -160,9 +160,8 @@ class Progress:
     def tell(self) -> None:
         """Says how far it is."""
         line = "graphd: %d of %d crates proved, %s" % (len(self.ended), len(self.needs), lasting(time.monotonic() - self.began))
-        left = self.to_go() if len(self.ended) < len(self.needs) else None
-        if left is not None:
-            line += ", about %s to go" % lasting(left)
+        if len(self.ended) < len(self.needs):
+            line += ", about %s to go" % lasting(self.to_go())
         sys.stderr.write("\r\033[K" + line if self.is_terminal else line + "\n")
         sys.stderr.flush()
 

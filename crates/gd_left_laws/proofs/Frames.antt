@@ -19,9 +19,9 @@ use Rattle.gd_order_laws.proofs.Rows.{Apart-rising}
 use Rattle.gd_order_laws.proofs.Sorted.{Each-member, In-filter, In-filtered, Apart-filter}
 use Rattle.gd_scan_laws.proofs.Objects.{both_true, true_both, there_place, passes_there}
 use Rattle.gd_match_laws.specs.Moves.{passing_from, fresh, FrameMoves, begins, passes_over, descends, takes, below_moves, below_ends, next_begins, later_moves, StackMoves, frame_moves}
-use Rattle.gd_work_laws.specs.Turns.{typ_asked, constraints_of, hop_turns, test_turns, build_turns}
+use Rattle.gd_work_laws.specs.Turns.{typ_asked, constraints_of, hop_turns, test_turns, build_turns, judge_turns}
 use Rattle.gd_work_laws.proofs.Sources.{typ_holds}
-use Rattle.gd_left_laws.specs.Left.{place_turns, clause_from, hop_left, stack_left, clauses_left, FrameGoesOn, StackGoesOn, frame_count, stack_count}
+use Rattle.gd_left_laws.specs.Left.{clause_from, hop_left, stack_left, clauses_left, FrameGoesOn, StackGoesOn, frame_count, stack_count}
 use Rattle.gd_left_laws.proofs.Moves.{clause_later, clause_between, clause_all, hop_parts}
 
 -- ---- the first place that passes
@@ -75,7 +75,7 @@ first_taken prims hop t place from to x is =
     let first = first_found prims hop t place from to x is in
     by _ _ _ _ (clause_between prims hop t place from to x (λ typ asked. typed prims t x typ first.passes asked) first.low first.high first.led) (built first.passes)
   where
-    built : passes_template prims t x ≡ true → build_turns prims t x ≤ place_turns prims t x
+    built : passes_template prims t x ≡ true → build_turns prims t x ≤ judge_turns prims t x
     built passes = rw passes (more (test_turns prims t x) (build_turns prims t x))
       where
         more : (a b : ℕ) → b ≤ a + b

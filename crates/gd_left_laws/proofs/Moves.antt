@@ -9,8 +9,8 @@ use Rattle.gd_prim.specs.declared.End.TheVariants.{Typ}
 use Rattle.gd_prim.specs.End.{places_with}
 use Rattle.gd_defs.specs.Template.{Hop, links_by, end_here, Template, led_to}
 use Rattle.gd_order_laws.specs.Window.{In}
-use Rattle.gd_work_laws.specs.Turns.{typ_asked, constraints_of, looked_at, hop_turns}
-use Rattle.gd_left_laws.specs.Left.{links_from, looked_from, place_turns, clause_from, hop_left}
+use Rattle.gd_work_laws.specs.Turns.{typ_asked, constraints_of, looked_at, hop_turns, judge_turns}
+use Rattle.gd_left_laws.specs.Left.{links_from, looked_from, clause_from, hop_left}
 
 -- ---- from a place on
 
@@ -126,7 +126,7 @@ module _ (prims : List Primitive) where
 
   -- going on in a clause leaves no more
   pub clause_later : (hop : Hop) (t : Template) (place from to : ℕ) → from ≤ to → clause_from prims hop t place to ≤ clause_from prims hop t place from
-  clause_later hop t place from to less = by _ _ _ _ (looked_later hop t place from to less) (sum_later (place_turns prims t) from to (led_to prims hop place) less)
+  clause_later hop t place from to less = by _ _ _ _ (looked_later hop t place from to less) (sum_later (judge_turns prims t) from to (led_to prims hop place) less)
     where
       by : (a b c d : ℕ) → a ≤ b → c ≤ d → a + c ≤ b + d
       by a b c d one two = omega (arith, one, two)
@@ -146,8 +146,8 @@ module _ (prims : List Primitive) where
 
   -- a place that is taken has its turns
   pub clause_between : (hop : Hop) (t : Template) (place from to x : ℕ) → ((typ : ℕ) → typ_asked (constraints_of t) ≡ Some typ → In x (places_with Typ typ prims)) → from ≤ x → x < to → In x (led_to prims hop place)
-      → clause_from prims hop t place to + (1 + place_turns prims t x) ≤ clause_from prims hop t place from
-  clause_between hop t place from to x typed low high here = by _ _ _ _ _ (looked_between hop t place from to x typed low high here) (sum_between (place_turns prims t) from to x (led_to prims hop place) low high here)
+      → clause_from prims hop t place to + (1 + judge_turns prims t x) ≤ clause_from prims hop t place from
+  clause_between hop t place from to x typed low high here = by _ _ _ _ _ (looked_between hop t place from to x typed low high here) (sum_between (judge_turns prims t) from to x (led_to prims hop place) low high here)
     where
       by : (a b c d n : ℕ) → a + 1 ≤ b → c + n ≤ d → a + c + (1 + n) ≤ b + d
       by a b c d n one two = omega (arith, one, two)
@@ -172,9 +172,9 @@ module _ (prims : List Primitive) where
           one false is = ap length (all_from (places_with e place prims)) ∙ other _ _ (ltb-false _ _ is)
 
   -- from its start on a clause has all its turns
-  pub clause_all : (hop : Hop) (t : Template) (place : ℕ) → clause_from prims hop t place 0 ≡ looked_at prims hop t place + sum_by (place_turns prims t) (led_to prims hop place)
-  clause_all hop t place = ap (λ n. n + sum_by (place_turns prims t) (filter (nat_le 0) (led_to prims hop place))) (looked_all hop t place)
-      ∙ ap (λ l. looked_at prims hop t place + sum_by (place_turns prims t) l) (all_from (led_to prims hop place))
+  pub clause_all : (hop : Hop) (t : Template) (place : ℕ) → clause_from prims hop t place 0 ≡ looked_at prims hop t place + sum_by (judge_turns prims t) (led_to prims hop place)
+  clause_all hop t place = ap (λ n. n + sum_by (judge_turns prims t) (filter (nat_le 0) (led_to prims hop place))) (looked_all hop t place)
+      ∙ ap (λ l. looked_at prims hop t place + sum_by (judge_turns prims t) l) (all_from (led_to prims hop place))
 
 pub hop_parts : (hop : Hop) → 1 + hop_left hop ≤ hop_turns hop
 hop_parts (links_by e) = omega arith

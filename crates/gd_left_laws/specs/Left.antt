@@ -16,7 +16,7 @@ use Rattle.gd_order_laws.specs.Window.{In, Rising}
 use Rattle.gd_runs.specs.Owed.{ScanOrder, Candidate}
 use Rattle.gd_runs.specs.RootSets.{RootSet, everything, named_places, links_of}
 use Rattle.gd_match_laws.specs.Moves.{FrameMoves, begins, passes_over, descends, takes, below_moves, below_ends, next_begins, later_moves, StackMoves, frame_moves, ScanMoves, scan_passes_over, picks, frames_move, gives, Runs, stays, moves}
-use Rattle.gd_work_laws.specs.Turns.{typ_asked, constraints_of, test_turns, build_turns, clauses_build_turns}
+use Rattle.gd_work_laws.specs.Turns.{typ_asked, constraints_of, build_turns, clauses_build_turns, judge_turns}
 use Rattle.gd_work_laws.specs.Scan.{candidate_turns, first_turns}
 
 -- ---- a clause
@@ -32,13 +32,9 @@ abbrev pub looked_from : List Primitive → Hop → Template → ℕ → ℕ →
 looked_from prims (links_by e) t place from = links_from prims e (typ_asked (constraints_of t)) place from
 looked_from prims (end_here e) t place from = length (filter (nat_le from) (led_to prims (end_here e) place))
 
--- the turns of a place to which a clause leads: its test, and its tree where it passes
-abbrev pub place_turns : List Primitive → Template → ℕ → ℕ
-place_turns prims t x = test_turns prims t x + (if passes_template prims t x then build_turns prims t x else 0)
-
 -- what is left of a clause from a place on
 abbrev pub clause_from : List Primitive → Hop → Template → ℕ → ℕ → ℕ
-clause_from prims hop t place from = looked_from prims hop t place from + sum_by (place_turns prims t) (filter (nat_le from) (led_to prims hop place))
+clause_from prims hop t place from = looked_from prims hop t place from + sum_by (judge_turns prims t) (filter (nat_le from) (led_to prims hop place))
 
 -- the turns of a clause that has begun besides those of its places
 abbrev pub hop_left : Hop → ℕ

@@ -1,8 +1,7 @@
 -- Readings that begin.
-use Rattle.std.proofs.Common.{◌≡◌, ◌≢◌, ℕ, zero, suc, ◌<◌, ◌≤◌, List, [], ◌∷◌, Bool, true, false, length, take, Option, Some, None, Result, Ok, Err, Vec, Global, refl, ap, sym, subst, ◌∙◌, arith}
-use Rattle.std.specs.Prelude.{IfOk, MatchResult, nat_lt, is_none, option_map}
+use Rattle.std.proofs.Common.{◌≡◌, ◌≢◌, ℕ, ◌<◌, ◌≤◌, List, [], Bool, true, false, length, take, Option, Some, None, Result, Ok, Err, refl, ap, sym, subst, ◌∙◌, arith}
+use Rattle.std.specs.Prelude.{MatchResult, nat_lt, is_none, option_map}
 use Rattle.std.proofs.lemmas.List.{take_all, length-take-le}
-use Rattle.gd_base.specs.declared.memory.Memory.{Memory}
 use Rattle.gd_prim.specs.declared.Batch.{Batch}
 use Rattle.gd_prim.specs.declared.Primitive.{Primitive}
 use Rattle.gd_prim.specs.History.{prims_of, prims_at, AreHeld}

@@ -1,11 +1,12 @@
 -- What is left of a reading falls, round by round.
-use Rattle.std.proofs.Common.{◌≡◌, ℕ, ◌+◌, ◌*◌, ◌-◌, ◌^◌, ◌<◌, ◌≤◌, List, Result, Ok, Err, sym, subst, arith}
+use Rattle.std.proofs.Common.{◌≡◌, ℕ, ◌+◌, ◌-◌, ◌^◌, ◌<◌, ◌≤◌, List, Result, Ok, Err, sym, subst, arith}
 use Rattle.std.specs.Prelude.{IfOk, min}
 use Rattle.gd_base.specs.Counts.{Rose}
 use Rattle.gd_base.specs.declared.memory.Memory.{Memory}
 use Rattle.gd_prim.specs.declared.Batch.{Batch}
 use Rattle.gd_window.specs.Kept.{Kept}
 use Rattle.gd_reply.specs.Answers.{Tells}
+use Rattle.gd_read.specs.Marked.{mark_of}
 use Rattle.gd_read.specs.Subject.{answer_of}
 use Rattle.gd_read.specs.Stages.{StageOwes}
 use Rattle.gd_read.specs.Left.{IsPastIds, stage_left, round_left}
@@ -16,10 +17,6 @@ use Rattle.gd_read.specs.declared.stage.Stage.{Stage}
 use Rattle.gd_read.specs.declared.stage.Round.{Round}
 use Rattle.gd_read.specs.declared.stage.Round.TheVariants.{Answer, Going}
 use Rattle.gd_read.proofs.Left.{same_most, round_less}
-
--- LAW: a fault of a scan, behind which nothing is left
-pub scan_fault : (a d p r s : ℕ) → s + 0 + 48 * 0 ≤ r + 48 * a → s + 0 ≤ r + (48 * a + d + 1 + p)
-scan_fault a d p r s covers = omega (arith, covers)
 
 -- ---- counting
 
@@ -51,12 +48,12 @@ counts_before before middle after (Ok (Going st)) earlier counted = rose_before 
 
 -- LAW: a round behind which so much is left at most
 pub round_goes : {batches : List Batch} {s : Subject} {left : ℕ → ℕ} {w : Kept} {before after most : ℕ} {result : Result Round Memory} (next : ℕ → ℕ)
-    → IfOk result (λ round. RoundGives batches s w round) → IfOk result (λ round. RoundCounts before after round) → ((n : ℕ) → IfOk result (λ round. round_left n batches w round ≤ next n))
+    → IfOk result (λ round. RoundGives batches s w round) → IfOk result (λ round. RoundCounts before after round) → ((n : ℕ) → IfOk result (λ round. round_left n batches (mark_of s.after) round ≤ next n))
     → ((n : ℕ) → IsPastIds n → after + next n ≤ before + left n) → after ≤ before + most → before ≤ after → RoundGoes batches s left w before after most result
 round_goes {batches} {s} {left} {w} {before} {after} {most} {result} next gives counted few less work later = record {
   gives = gives;
   counted = counted;
-  less = λ n high. round_less n batches w result after (next n) (before + left n) (few n) (less n high);
+  less = λ n high. round_less n batches (mark_of s.after) result after (next n) (before + left n) (few n) (less n high);
   covered = λ n high. within (next n) (before + left n) (less n high);
   work = work;
   later = later;
@@ -76,9 +73,9 @@ goes_over {batches} {s} {left} {next} {w} {before} {middle} {after} {most} {resu
 
 -- LAW: a round that goes on with this
 pub goes_with : {batches : List Batch} {s : Subject} {left : ℕ → ℕ} {w : Kept} {before after most : ℕ} (st : Stage)
-    → StageOwes batches s st w → Rose before after → ((n : ℕ) → IsPastIds n → after + stage_left n batches w st ≤ before + left n) → after ≤ before + most → before ≤ after
+    → StageOwes batches s st w → Rose before after → ((n : ℕ) → IsPastIds n → after + stage_left n batches (mark_of s.after) st ≤ before + left n) → after ≤ before + most → before ≤ after
     → RoundGoes batches s left w before after most (Ok (Going st))
-goes_with {batches} {w} st owes rose less work later = round_goes (λ n. stage_left n batches w st) owes rose (λ n. same_most (stage_left n batches w st)) less work later
+goes_with {batches} {s} st owes rose less work later = round_goes (λ n. stage_left n batches (mark_of s.after) st) owes rose (λ n. same_most (stage_left n batches (mark_of s.after) st)) less work later
 
 -- LAW: a round that gives the answer
 pub goes_answer : {batches : List Batch} {s : Subject} {left : ℕ → ℕ} {w : Kept} {before after most : ℕ} {a : Told} (next : ℕ → ℕ)
@@ -87,9 +84,9 @@ pub goes_answer : {batches : List Batch} {s : Subject} {left : ℕ → ℕ} {w :
 goes_answer next is less work later = round_goes next is tt (λ n. omega arith) less work later
 
 -- LAW: what a stage comes to, by what it does
-pub stage_goes : {batches : List Batch} {s : Subject} {v : Kept} {before after most : ℕ} {result : Result Round Memory} (w : Kept) (one other : Stage) (few : ℕ)
-    → one ≡ other → few ≤ most → RoundGoes batches s (λ n. stage_left n batches w other) v before after few result → RoundGoes batches s (λ n. stage_left n batches w one) v before after most result
-stage_goes {batches} {s} {v} {before} {after} {most} {result} w one other few same within goes = subst (λ x. RoundGoes batches s (λ n. stage_left n batches w x) v before after most result) (sym same) (record {
+pub stage_goes : {batches : List Batch} {s : Subject} {v : Kept} {before after most : ℕ} {result : Result Round Memory} (one other : Stage) (few : ℕ)
+    → one ≡ other → few ≤ most → RoundGoes batches s (λ n. stage_left n batches (mark_of s.after) other) v before after few result → RoundGoes batches s (λ n. stage_left n batches (mark_of s.after) one) v before after most result
+stage_goes {batches} {s} {v} {before} {after} {most} {result} one other few same within goes = subst (λ x. RoundGoes batches s (λ n. stage_left n batches (mark_of s.after) x) v before after most result) (sym same) (record {
   gives = goes.gives;
   counted = goes.counted;
   less = goes.less;

@@ -1,20 +1,23 @@
 -- Readings that print their page.
-use Rattle.std.proofs.Common.{◌≡◌, ℕ, ◌-◌, List, [], ◌∷◌, Bool, true, false, length, map, take, Some, None, Result, Err, refl, ap, sym, subst, ◌∙◌, arith}
+use Rattle.std.proofs.Common.{◌≡◌, ℕ, ◌-◌, ◌≤◌, List, [], ◌∷◌, Bool, true, false, length, map, take, Option, Some, None, Result, Err, refl, ap, sym, subst, ◌∙◌, arith}
 use Rattle.std.specs.Prelude.{nat_lt, slice_get, if◌then◌else◌, codes}
 use Rattle.std.specs.List.{last_or}
 use Rattle.gd_prim.specs.declared.Batch.{Batch}
+use Rattle.gd_prim.specs.declared.Primitive.{Primitive}
 use Rattle.gd_prim.specs.History.{prims_of}
 use Rattle.gd_grammar.specs.Mark.{cursor_text}
 use Rattle.gd_tree.specs.Json.{Json, text}
 use Rattle.gd_defs.specs.Lines.{refused_at}
-use Rattle.gd_defs.specs.Reply.{Path, is_ambiguous, page_cursor, row_mark, page_answer}
+use Rattle.gd_defs.specs.Reply.{Mark, Path, is_ambiguous, page, page_cursor, row_mark, page_answer}
+use Rattle.gd_defs.specs.Rows as defs
 use Rattle.gd_runs.specs.Request.{asks_page}
 use Rattle.gd_runs.specs.Scanned.{scan_order}
 use Rattle.gd_mql.specs.Requests.{cursor_view}
 use Rattle.gd_plan.specs.Asked.{asked_view}
 use Rattle.gd_plan.specs.declared.asked.Asked.{Asked as Found}
 use Rattle.gd_read.specs.Marked.{mark_of}
-use Rattle.gd_shape.specs.Shaping.{page_of, body_print, IsOf, IsSamePage, count_or, asked_of, trees_in}
+use Rattle.gd_shape.specs.Shaping.{page_of, body_print, body_due, shape_due, IsOf, IsBodyOf, IsSamePage, count_or, asked_of, trees_in}
+use Rattle.gd_shape.specs.declared.shape.PageBody.TheVariants as bodies
 use Rattle.gd_shape.specs.declared.shape.PageBody.{PageBody}
 use Rattle.gd_shape.specs.declared.shape.Shape.{Shape}
 use Rattle.gd_runs.specs.Shape.{page_shape}
@@ -25,7 +28,9 @@ use Rattle.gd_suspended_laws.specs.Standing.{rows_of, page_rows}
 use Rattle.gd_suspended_laws.proofs.Going.{map-take, length-map}
 use Rattle.gd_suspended_laws.proofs.Laws.{many_are_refused, prints_are_owed}
 use Rattle.gd_read.specs.Subject.{answer_of}
-use Rattle.gd_read.specs.Stages.{IsBuilt, Prints, body_trees}
+use Rattle.gd_work_laws.specs.Reading.{printing_most}
+use Rattle.gd_read.specs.Left.{prints_most}
+use Rattle.gd_read.specs.Stages.{HasPage, IsBuilt, Prints, body_trees}
 use Rattle.gd_read.specs.declared.subject.Subject.{Subject}
 
 -- ---- the cursor of a page
@@ -54,6 +59,17 @@ asked_is dateline w asks rows limit j asking rows_are limit_is is =
     ∙ ap (λ (l : List Row). page_cursor dateline (take limit (map defined l)) (nat_lt limit (length (map defined l)))) rows_are
     ∙ ap (λ n. page_cursor dateline (take n (rows_of w)) (nat_lt n (length (rows_of w)))) limit_is)
     ∙ ap (λ b. if b then Some (page_cursor dateline (page_rows w) (nat_lt w.limit (length (rows_of w)))) else None) (sym asking)
+
+-- LAW: a body that has the page takes no more steps than printing the page
+pub prints_paid : (prims : List Primitive) (plan taken : Found) (after : Option Mark) (body : PageBody) (shape : Shape) → HasPage prims (asked_view plan) after body → taken ≡ plan → shape_due prims shape ≤ body_due prims (asked_view taken) body
+    → ((rows : List defs.Row) → IsBodyOf prims (asked_view taken) rows body → shape_due prims shape ≤ printing_most prims (asked_view taken) rows) → shape_due prims shape ≤ prints_most prims (asked_view plan) after
+prints_paid prims plan taken after (bodies.Trees ts) shape has same due paid =
+    subst (λ (b : Bool). shape_due prims shape ≤ (if b then 0 else printing_most prims (asked_view plan) (page prims (asked_view plan) after))) (sym has.0)
+    (subst (λ (p : Found). (rows : List defs.Row) → IsBodyOf prims (asked_view p) rows (bodies.Trees ts) → shape_due prims shape ≤ printing_most prims (asked_view p) rows) same paid (page prims (asked_view plan) after) has.1)
+prints_paid prims plan taken after (bodies.Count n) shape has same due paid = none (shape_due prims shape) (prints_most prims (asked_view plan) after) due
+  where
+    none : (a b : ℕ) → a ≤ 0 → a ≤ b
+    none a b few = omega (arith, few)
 
 module _ (batches : List Batch) (s : Subject) where
   -- LAW: more than one row was found where one is asked

@@ -40,10 +40,7 @@ goes_at batches r goes = at r.stage goes
   where
     at : (st : Stage) → StageOwes batches r.subject st r.window → length batches ≡ r.subject.dateline
     at (stage.Visiting v) owes = owes.asked.below
-    at (stage.Scanning x) owes = owes.0.asked.below
-    at (stage.Checking c) owes = owes.scans.asked.below
     at (stage.Gathering g) owes = owes.scanned.asked.below
-    at (stage.Building b) owes = owes.0.asked.below
     at (stage.Printing shape) owes = owes.asked.below
     at stage.Spent owes = absurd owes
 

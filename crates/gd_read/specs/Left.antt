@@ -1,22 +1,27 @@
--- How much is left of a reading, at most: each step that it takes lowers this by as much. `n` is a number that no id reaches.
-use Rattle.std.specs.Prelude.{ℕ, ◌+◌, ◌*◌, ◌-◌, ◌^◌, ◌≤◌, List, length, sum_by, Option, Some, None}
-use Rattle.std.specs.Prelude.{Vec}
-use Rattle.std.specs.Global.{Global}
+-- How much is left of a reading, at most: each step that it takes lowers this by as much. It is told by the list, the query, where it stands, and the mark behind which its page begins; whoever asks names a number that no id reaches, and nothing depends on it.
+use Rattle.std.specs.Prelude.{ℕ, ◌+◌, ◌*◌, ◌^◌, ◌≤◌, List, map, drop, sum_by, ◌||◌, Option, Some, None, if◌then◌else◌}
 use Rattle.gd_prim.specs.declared.Batch.{Batch}
+use Rattle.gd_prim.specs.declared.Primitive.{Primitive}
 use Rattle.gd_prim.specs.History.{prims_of}
+use Rattle.gd_defs.specs.Asked.{Asked}
+use Rattle.gd_defs.specs.Rows.{Row}
+use Rattle.gd_defs.specs.Reply.{Mark, page, is_too_wide}
 use Rattle.gd_defs.specs.Plan.{template_of}
 use Rattle.gd_defs.specs.Template.{Template}
 use Rattle.gd_plan.specs.Asked.{asked_view}
-use Rattle.gd_window.specs.Kept.{Kept}
-use Rattle.gd_match.specs.Most.{scan_most}
+use Rattle.gd_work_laws.specs.Scan.{candidate_turns}
+use Rattle.gd_work_laws.specs.Reading.{place_steps, printing_most, page_most}
 use Rattle.gd_match.specs.Resumed.{matcher_ahead}
 use Rattle.gd_read.specs.Candidates.{places_of}
-use Rattle.gd_shape.specs.Shaping.{shape_left, shape_most}
+use Rattle.gd_shape.specs.Shaping.{shape_due}
+use Rattle.gd_read.specs.Marked.{mark_of}
+use Rattle.gd_read.specs.declared.trying.Trying.{Trying}
 use Rattle.gd_read.specs.declared.visiting.Visiting.{Visiting}
-use Rattle.gd_read.specs.declared.scanning.Scanning.{Scanning}
-use Rattle.gd_read.specs.declared.checking.Checking.{Checking}
 use Rattle.gd_read.specs.declared.gathering.Gathering.{Gathering}
-use Rattle.gd_read.specs.declared.building.Building.{Building}
+use Rattle.gd_read.specs.declared.gathering.RowGain.{RowGain}
+use Rattle.gd_read.specs.declared.gathering.RowGain.TheVariants as gain
+use Rattle.gd_read.specs.declared.gathering.RowsWalked.{RowsWalked}
+use Rattle.gd_read.specs.declared.gathering.RowsWalked.TheVariants as walked
 use Rattle.gd_read.specs.declared.stage.Stage.{Stage}
 use Rattle.gd_read.specs.declared.stage.Stage.TheVariants as stage
 use Rattle.gd_read.specs.declared.stage.Round.{Round}
@@ -34,70 +39,99 @@ IsPastIds n = 2 ^ 32 ≤ n
 
 -- ---- what is still to begin
 
--- the trees of a page, built by a matcher that has settled nothing, and their printing
-abbrev pub building_most : ℕ → List Batch → Template → ℕ
-building_most n batches t = 48 * scan_most batches t + 1 + shape_most n
+-- the objects of the rows of a page
+abbrev pub page_places : List Primitive → Asked → Option Mark → List ℕ
+page_places prims q after = map (λ (r : Row). r.object) (page prims q after)
 
--- a page of so many rows: its trees gathered, or else built
-abbrev pub page_most : ℕ → List Batch → Template → ℕ → ℕ
-page_most n batches t limit = 1024 * limit + 1024 + building_most n batches t
+-- the rows of these objects: each is judged, and tried
+abbrev pub rows_most : List Primitive → Asked → List ℕ → ℕ
+rows_most prims q os = sum_by (place_steps prims q) os
 
--- asking once of the places of a scan, if they are at hand
-abbrev pub asks_left : Option (Vec ℕ Global) → ℕ
-asks_left None = 0
-asks_left (Some ps) = 2 * length ps.items + 4
+-- printing a page: nothing is printed of a count, nor of what is too wide
+abbrev pub prints_most : List Primitive → Asked → Option Mark → ℕ
+prints_most prims q after = if q.count || is_too_wide prims q after then 0 else printing_most prims q (page prims q after)
 
--- a scan of so many places at most, and its page
-abbrev pub scanning_most : ℕ → List Batch → Template → ℕ → ℕ → ℕ
-scanning_most n batches t limit k = 48 * scan_most batches t + 2 * k + 5 + page_most n batches t limit
+-- a place: judging it, and trying it
+abbrev pub place_most : List Primitive → Asked → ℕ → ℕ
+place_most prims q place = 1024 + 48 * (2 + candidate_turns prims q place)
+
+-- places, one after the other
+abbrev pub places_most : List Primitive → Asked → List ℕ → ℕ
+places_most prims q places = sum_by (place_most prims q) places
 
 -- ---- a stage
 
--- the places that are not visited yet, and a scan in their place
-abbrev pub visiting_left : ℕ → List Batch → Kept → Visiting → ℕ
-visiting_left n batches w v =
-    1024 * (length (places_of (prims_of batches) v.candidates) - v.next) + 1024
-    + scanning_most n batches (template_of (asked_view v.plan)) w.limit (length (places_of (prims_of batches) v.candidates))
+-- the places that are not visited yet, without the one that is tried, if one is
+abbrev pub places_behind : List ℕ → ℕ → Option Trying → List ℕ
+places_behind places next None = drop next places
+places_behind places next (Some tried) = drop (next + 1) places
 
--- what lies ahead of the matcher, asking of the places, and the page
-abbrev pub scanning_left : ℕ → List Batch → Kept → Scanning → ℕ
-scanning_left n batches w r = 48 * matcher_ahead batches (template_of (asked_view r.plan)) r.matcher + asks_left r.places + 1 + page_most n batches (template_of (asked_view r.plan)) w.limit
+-- what lies ahead of the matcher, if a place is tried
+abbrev pub tried_left : List Batch → Template → Option Trying → ℕ
+tried_left batches t None = 0
+tried_left batches t (Some tried) = 48 * matcher_ahead batches t tried.matcher + 1
 
--- what lies ahead of the matcher, the places of which it was not asked yet, and the page
-abbrev pub checking_left : ℕ → List Batch → Kept → Checking → ℕ
-checking_left n batches w c =
-    48 * matcher_ahead batches (template_of (asked_view c.plan)) c.matcher + (2 * (length c.places.items - c.next) + 4) + 1
-    + page_most n batches (template_of (asked_view c.plan)) w.limit
+-- the place that is tried, those behind it, and the page
+abbrev pub visiting_left : ℕ → List Batch → Option Mark → Visiting → ℕ
+visiting_left n batches after v =
+    tried_left batches (template_of (asked_view v.plan)) v.tried + places_most (prims_of batches) (asked_view v.plan) (places_behind (places_of (prims_of batches) v.candidates) v.next v.tried) + 1024
+    + page_most (prims_of batches) (asked_view v.plan) after
 
--- the rows that were not looked at yet, and the building of all trees in their place
-abbrev pub gathering_left : ℕ → List Batch → Kept → Gathering → ℕ
-gathering_left n batches w g = 1024 * (w.limit - g.next) + 1024 + building_most n batches (template_of (asked_view g.plan))
+-- a reading that begins to try its next place
+abbrev pub trying_most : ℕ → List Batch → Option Mark → Visiting → ℕ → ℕ
+trying_most n batches after v place =
+    48 * (2 + candidate_turns (prims_of batches) (asked_view v.plan) place) + 1 + places_most (prims_of batches) (asked_view v.plan) (drop (v.next + 1) (places_of (prims_of batches) v.candidates)) + 1024
+    + page_most (prims_of batches) (asked_view v.plan) after
 
--- what lies ahead of the matcher, and the printing
-abbrev pub building_left : ℕ → List Batch → Building → ℕ
-building_left n batches b = 48 * matcher_ahead batches (template_of (asked_view b.plan)) b.matcher + 1 + shape_most n
+-- of a row that is tried: what lies ahead of its matcher, and one to keep its tree
+abbrev pub row_left : List Batch → Asked → Trying → ℕ
+row_left batches q r = 48 * matcher_ahead batches (template_of q) r.matcher + 1
+
+-- none of it where it is known
+abbrev pub gain_left : List Batch → Asked → Trying → RowGain → ℕ
+gain_left batches q r gain.Known = 0
+gain_left batches q r gain.Heavy = 0
+gain_left batches q r gain.Open = row_left batches q r
+
+-- of the row that is tried, if one is, and the rows behind it
+abbrev pub rows_left : List Batch → Asked → List ℕ → Option Trying → ℕ → ℕ
+rows_left batches q os None next = rows_most (prims_of batches) q (drop next os)
+rows_left batches q os (Some r) next = row_left batches q r + rows_most (prims_of batches) q (drop (next + 1) os)
+
+-- of a row that begins to be tried, and the rows behind it
+abbrev pub crowded_left : List Batch → Asked → List ℕ → ℕ → ℕ → ℕ
+crowded_left batches q os next o = 48 * (2 + candidate_turns (prims_of batches) q o) + 1 + rows_most (prims_of batches) q (drop (next + 1) os)
+
+-- behind a walk over rows that goes on there is one more; none where it does not
+abbrev pub walked_left : List Batch → Asked → List ℕ → Option Trying → ℕ → RowsWalked → ℕ
+walked_left batches q os tried next walked.All = 0
+walked_left batches q os tried next (walked.Crowded o) = 1 + crowded_left batches q os next o
+walked_left batches q os tried next walked.Heavy = 0
+walked_left batches q os tried next walked.Unfinished = 1 + rows_left batches q os tried next
+
+-- the rows of the page that are not known yet, and printing
+abbrev pub gathering_left : ℕ → List Batch → Option Mark → Gathering → ℕ
+gathering_left n batches after g =
+    rows_left batches (asked_view g.plan) (page_places (prims_of batches) (asked_view g.plan) after) g.tried g.next + 2 + prints_most (prims_of batches) (asked_view g.plan) after
 
 -- ---- all of them
 
-abbrev pub stage_left : ℕ → List Batch → Kept → Stage → ℕ
-stage_left n batches w (stage.Visiting v) = visiting_left n batches w v
-stage_left n batches w (stage.Scanning r) = scanning_left n batches w r
-stage_left n batches w (stage.Checking c) = checking_left n batches w c
-stage_left n batches w (stage.Gathering g) = gathering_left n batches w g
-stage_left n batches w (stage.Building b) = building_left n batches b
-stage_left n batches w (stage.Printing shape) = shape_left n shape
-stage_left n batches w stage.Spent = 0
+abbrev pub stage_left : ℕ → List Batch → Option Mark → Stage → ℕ
+stage_left n batches after (stage.Visiting v) = visiting_left n batches after v
+stage_left n batches after (stage.Gathering g) = gathering_left n batches after g
+stage_left n batches after (stage.Printing shape) = shape_due (prims_of batches) shape
+stage_left n batches after stage.Spent = 0
 
 -- behind a round: none where it gave the answer
-abbrev pub round_left : ℕ → List Batch → Kept → Round → ℕ
-round_left n batches w (round.Answer a) = 0
-round_left n batches w (round.Going next) = stage_left n batches w next
+abbrev pub round_left : ℕ → List Batch → Option Mark → Round → ℕ
+round_left n batches after (round.Answer a) = 0
+round_left n batches after (round.Going next) = stage_left n batches after next
 
 -- ---- readings
 
 -- of the reading of one query
 abbrev pub query_left : ℕ → List Batch → QueryReading → ℕ
-query_left n batches r = stage_left n batches r.window r.stage
+query_left n batches r = stage_left n batches (mark_of r.subject.after) r.stage
 
 -- of a query among others: none where it has its answer
 abbrev pub part_left : ℕ → List Batch → Part → ℕ

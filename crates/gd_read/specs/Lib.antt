@@ -4,9 +4,8 @@ pub mod Marked
 pub mod Subject
 pub mod Begun
 pub mod Went
+pub mod Trying
 pub mod Stages
-pub mod Sources
-pub mod Roots
 pub mod Rows
 pub mod Rounds
 pub mod Query
@@ -15,3 +14,4 @@ pub mod Reading
 pub mod Left
 pub mod Session
 pub mod Lightness
+pub mod Heavy

@@ -3,12 +3,12 @@ use Rattle.std.specs.Prelude.{ℕ, ◌+◌, ◌≤◌, List, Result, IfOk}
 use Rattle.gd_prim.specs.declared.Batch.{Batch}
 use Rattle.gd_base.specs.Counts.{Rose}
 use Rattle.gd_base.specs.declared.memory.Memory.{Memory}
-use Rattle.gd_defs.specs.Reply as reply
 use Rattle.gd_window.specs.Kept.{Kept}
 use Rattle.gd_reply.specs.Answers.{Tells}
 use Rattle.gd_read.specs.Subject.{answer_of}
 use Rattle.gd_read.specs.Stages.{StageOwes}
 use Rattle.gd_read.specs.Left.{IsPastIds, round_left}
+use Rattle.gd_read.specs.Marked.{mark_of}
 use Rattle.gd_read.specs.declared.subject.Subject.{Subject}
 use Rattle.gd_read.specs.declared.stage.Round.{Round}
 use Rattle.gd_read.specs.declared.stage.Round.TheVariants as round
@@ -23,16 +23,11 @@ abbrev pub RoundCounts : ℕ → ℕ → Round → Type 0
 RoundCounts before now (round.Answer a) = Unit {0}
 RoundCounts before now (round.Going stage) = Rose before now
 
--- a round gives this answer
-abbrev pub IsAnswer : reply.Answer → Round → Type 0
-IsAnswer expected (round.Answer a) = Tells expected a
-IsAnswer expected (round.Going stage) = ⊥
-
 -- behind a stage a round gives the answer or goes on where it owes the same, and counts; so much is left then at most, and it takes one step at most
 pub record RoundBehind (batches : List Batch) (s : Subject) (next : ℕ → ℕ) (w : Kept) (before after : ℕ) (result : Result Round Memory) : Type 0 where
   pub gives : IfOk result (λ round. RoundGives batches s w round)
   pub counted : IfOk result (λ round. RoundCounts before after round)
-  pub left : (n : ℕ) → IfOk result (λ round. round_left n batches w round ≤ next n)
+  pub left : (n : ℕ) → IfOk result (λ round. round_left n batches (mark_of s.after) round ≤ next n)
   pub work : after ≤ before + 1
   pub later : before ≤ after
 
@@ -40,7 +35,7 @@ pub record RoundBehind (batches : List Batch) (s : Subject) (next : ℕ → ℕ)
 pub record RoundGoes (batches : List Batch) (s : Subject) (left : ℕ → ℕ) (w : Kept) (before after most : ℕ) (result : Result Round Memory) : Type 0 where
   pub gives : IfOk result (λ round. RoundGives batches s w round)
   pub counted : IfOk result (λ round. RoundCounts before after round)
-  pub less : (n : ℕ) → IsPastIds n → IfOk result (λ round. after + round_left n batches w round ≤ before + left n)
+  pub less : (n : ℕ) → IsPastIds n → IfOk result (λ round. after + round_left n batches (mark_of s.after) round ≤ before + left n)
   pub covered : (n : ℕ) → IsPastIds n → after ≤ before + left n
   pub work : after ≤ before + most
   pub later : before ≤ after

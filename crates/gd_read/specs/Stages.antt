@@ -1,36 +1,30 @@
 -- Where a reading stands: what it does, over the batches below its dateline.
-use Rattle.std.specs.Prelude.{◌≡◌, ◌<◌, ◌≤◌, ℕ, List, [], map, take, length, false, Option, IfSome, Result, Ok, if◌then◌else◌}
-use Rattle.std.specs.Prelude.{Vec}
-use Rattle.std.specs.Global.{Global}
-use Rattle.std.specs.List.{list_any}
+use Rattle.std.specs.Prelude.{◌≡◌, ◌+◌, ◌^◌, ◌<◌, ◌≤◌, ℕ, List, [], ◌∷◌, ◌++◌, map, take, length, slice_get, true, false, ◌||◌, Option, Some, None, IfSome, Result, Ok, if◌then◌else◌}
 use Rattle.gd_prim.specs.declared.Batch.{Batch}
 use Rattle.gd_prim.specs.declared.Primitive.{Primitive}
 use Rattle.gd_prim.specs.History.{prims_of, AreHeld}
 use Rattle.gd_tree.specs.Json.{Json}
-use Rattle.gd_tree.specs.Trees.{Trees, no_trees, trees_of, list_of}
+use Rattle.gd_tree.specs.Trees.{Tree, Trees, no_trees, list_of}
 use Rattle.gd_defs.specs.Asked.{Asked, asked_query}
 use Rattle.gd_defs.specs.Plan.{template_of}
-use Rattle.gd_defs.specs.Template.{passes_template}
+use Rattle.gd_defs.specs.Template.{is_answer, passes_template, tree_of, weight}
 use Rattle.gd_defs.specs.Lines.{count_json}
-use Rattle.gd_defs.specs.Reply.{Answer, Path, is_ambiguous}
+use Rattle.gd_defs.specs.Reply.{Mark, Answer, Path, is_ambiguous}
+use Rattle.gd_defs.specs.Reply as reply
 use Rattle.gd_bytes.specs.Frozen.{Body, building, printing}
-use Rattle.gd_runs.specs.Owed.{ScanOrder, owed_by, weighs_too_much}
 use Rattle.gd_runs.specs.Scanned.{scan_order}
 use Rattle.gd_runs.specs.Shape.{page_shape}
 use Rattle.gd_runs.specs.Thawed.{body_answer}
 use Rattle.gd_runs.specs.Request.{asks_page}
 use Rattle.gd_scan_laws.specs.Ordered.{start}
-use Rattle.gd_match_laws.specs.Rows.{rows_order}
-use Rattle.gd_order_laws.specs.Window.{In}
-use Rattle.gd_suspended_laws.specs.Standing.{rows_of, marks_of, page_rows, IsOrderOf, IsListed, IsLast, HasScanned, HasVisited, IsKept, ChangesNothing, window_of, page_objects, trees_among, weight_among}
+use Rattle.gd_suspended_laws.specs.Standing.{rows_of, marks_of, page_rows, HasVisited, IsKept, window_of, page_objects, trees_among, weight_among}
+use Rattle.gd_left_laws.specs.Laws.{KeepsPage}
 use Rattle.gd_mql.specs.Requests.{cursor_view}
 use Rattle.gd_plan.specs.Asked.{asked_view}
 use Rattle.gd_plan.specs.declared.asked.Asked.{Asked as Found}
 use Rattle.gd_trees.specs.View.{view as tree_view, trees_view}
 use Rattle.gd_window.specs.Kept.{Kept, HasSeen}
-use Rattle.gd_match.specs.Matched.{stands, order_of, IsOver}
-use Rattle.gd_match.specs.declared.matcher.Matcher.{Matcher}
-use Rattle.gd_shape.specs.Shaping.{page_of, body_print, IsOf}
+use Rattle.gd_shape.specs.Shaping.{page_of, body_print, IsOf, IsBodyOf}
 use Rattle.gd_shape.specs.declared.shape.PageBody.{PageBody}
 use Rattle.gd_shape.specs.declared.shape.PageBody.TheVariants as page
 use Rattle.gd_shape.specs.declared.shape.Shape.{Shape}
@@ -38,12 +32,15 @@ use Rattle.gd_read.specs.Candidates.{HasAll, places_of}
 use Rattle.gd_read.specs.Marked.{mark_of}
 use Rattle.gd_read.specs.Subject.{written, answer_of}
 use Rattle.gd_read.specs.declared.subject.Subject.{Subject}
+use Rattle.gd_read.specs.Trying.{Tries}
+use Rattle.gd_read.specs.declared.trying.Trying.{Trying}
 use Rattle.gd_read.specs.declared.visiting.Visiting.{Visiting}
-use Rattle.gd_read.specs.declared.scanning.Scanning.{Scanning}
-use Rattle.gd_read.specs.declared.checking.Checking.{Checking}
 use Rattle.gd_read.specs.declared.gathering.Gathered.{Gathered}
 use Rattle.gd_read.specs.declared.gathering.Gathering.{Gathering}
-use Rattle.gd_read.specs.declared.building.Building.{Building}
+use Rattle.gd_read.specs.declared.gathering.RowGain.{RowGain}
+use Rattle.gd_read.specs.declared.gathering.RowGain.TheVariants as gain
+use Rattle.gd_read.specs.declared.gathering.RowsWalked.{RowsWalked}
+use Rattle.gd_read.specs.declared.gathering.RowsWalked.TheVariants as walked
 use Rattle.gd_read.specs.declared.stage.Stage.{Stage}
 use Rattle.gd_read.specs.declared.stage.Stage.TheVariants as stage
 
@@ -62,70 +59,28 @@ pub record IsAsked (batches : List Batch) (s : Subject) (q : Asked) : Type 0 whe
 abbrev pub body_owes : List Batch → Subject → Asked → Kept → Body → Answer
 body_owes batches s q w body = body_answer (prims_of batches) q (scan_order (prims_of batches) q) s.dateline (asks_page (cursor_view s.request.cursor)) (mark_of s.after) (marks_of w) body
 
--- ---- scanning
-
--- the order in which a matcher scans for a query
-abbrev pub order_for : List Batch → Found → Matcher → ScanOrder
-order_for batches plan m = order_of batches (template_of (asked_view plan)) m
-
--- a reading scans: from its start, in an order with each candidate once, it has come to where its matcher stands
-pub record Scans (batches : List Batch) (s : Subject) (plan : Found) (m : Matcher) (w : Kept) : Type 0 where
-  pub asked : IsAsked batches s (asked_view plan)
-  pub order : IsOrderOf (prims_of batches) (asked_view plan) (order_for batches plan m)
-  pub over : IsOver batches (template_of (asked_view plan)) m
-  pub scanned : HasScanned (prims_of batches) (asked_view plan) (mark_of s.after) (order_for batches plan m) (stands m) w
-
--- where the places of a scan are at hand, each that passes is one of them
-abbrev pub IsKnown : List Batch → Found → Matcher → Option (Vec ℕ Global) → Type 0
-IsKnown batches plan m places = IfSome places (λ ps. IsListed (prims_of batches) (asked_view plan) (order_for batches plan m) ps.items)
-
--- a reading scans, and the last candidate that it gave is at this place
-pub record HasFound (batches : List Batch) (s : Subject) (r : Scanning) (w : Kept) (place : ℕ) : Type 0 where
-  pub scans : Scans batches s r.plan r.matcher w
-  pub known : IsKnown batches r.plan r.matcher r.places
-  pub last : IsLast scans.scanned.given place
-
--- ---- asking whether what is left would change anything
-
--- the first of places, those behind the last one that was given, would change nothing
-abbrev pub AreChecked : List Primitive → Asked → Kept → List ℕ → ℕ → ℕ → Type 0
-AreChecked prims q w places last n = (o : ℕ) → In o (take n places) → last < o → ChangesNothing prims q w o
-
--- a reading scans whose places are at hand, and it has asked of some of them
-pub record Checks (batches : List Batch) (s : Subject) (c : Checking) (w : Kept) : Type 0 where
-  pub scans : Scans batches s c.plan c.matcher w
-  pub listed : IsListed (prims_of batches) (asked_view c.plan) (order_for batches c.plan c.matcher) c.places.items
-  pub last : IsLast scans.scanned.given c.last
-  pub checked : AreChecked (prims_of batches) (asked_view c.plan) w c.places.items c.last c.next
-
 -- ---- visiting places
 
--- a reading visits the places at which candidates are looked for, and it has visited the first of them
+-- the next place of a reading that visits is tried
+pub record IsTried (batches : List Batch) (v : Visiting) (tried : Trying) : Type 0 where
+  pub tries : Tries batches (template_of (asked_view v.plan)) tried
+  pub at : slice_get (places_of (prims_of batches) v.candidates) v.next ≡ Some tried.place
+  pub few : v.next < 2 ^ 63
+
+-- a reading visits the places at which candidates are looked for; it has visited the first of them, and the next one may be tried
 pub record Visits (batches : List Batch) (s : Subject) (v : Visiting) (w : Kept) : Type 0 where
   pub asked : IsAsked batches s (asked_view v.plan)
   pub finds : HasAll (passes_template (prims_of batches) (template_of (asked_view v.plan))) (places_of (prims_of batches) v.candidates)
   pub visited : HasVisited (prims_of batches) (asked_view v.plan) (mark_of s.after) (take v.next (places_of (prims_of batches) v.candidates)) w
+  pub tried : IfSome v.tried (IsTried batches v)
 
--- ---- building
+-- ---- the end of a scan
 
--- what a reading that builds trees does, as the definitions have it
-abbrev pub building_of : Building → Body
-building_of b = building b.weight (trees_of (map tree_view b.trees.items)) (stands b.matcher)
-
--- a reading builds the trees of the rows of its page, and owes its answer; no row that is left weighs too much
-pub record Builds (batches : List Batch) (s : Subject) (b : Building) (w : Kept) : Type 0 where
-  pub asked : IsAsked batches s (asked_view b.plan)
-  pub kept : IsKept (prims_of batches) (asked_view b.plan) (mark_of s.after) w
-  pub listed : (asked_view b.plan).count ≡ false
-  pub over : IsOver batches (template_of (asked_view b.plan)) b.matcher
-  pub order : order_for batches b.plan b.matcher ≡ rows_order (page_rows w)
-  pub light : list_any weighs_too_much (owed_by (prims_of batches) (template_of (asked_view b.plan)) (rows_order (page_rows w)) (stands b.matcher)) ≡ false
-  pub owes : body_owes batches s (asked_view b.plan) w (building_of b) ≡ answer_of batches s
-
--- the scan of a plan has ended: the rows are kept, and their trees are to be built
+-- the scan of a plan has ended: the rows are kept, which are those of the page, and their trees are to be built
 pub record IsScanned (batches : List Batch) (s : Subject) (plan : Found) (w : Kept) : Type 0 where
   pub asked : IsAsked batches s (asked_view plan)
   pub kept : IsKept (prims_of batches) (asked_view plan) (mark_of s.after) w
+  pub keeps : KeepsPage (prims_of batches) (asked_view plan) (mark_of s.after) w
   pub owes : body_owes batches s (asked_view plan) w (building 0 no_trees start) ≡ answer_of batches s
 
 -- ---- gathering
@@ -136,11 +91,66 @@ pub record HasGathered (prims : List Primitive) (q : Asked) (os : List ℕ) (g :
   pub weighs : g.weight ≡ weight_among prims q os
   pub little : g.weight ≤ 262_144
 
+-- an object that passes does not weigh too much
+abbrev pub IsLight : List Primitive → Asked → ℕ → Type 0
+IsLight prims q o = passes_template prims (template_of q) o ≡ true → weight prims (template_of q) o ≤ 65_536
+
+-- none of objects weighs too much
+abbrev pub AreLight : List Primitive → Asked → List ℕ → Type 0
+AreLight prims q os = (n o : ℕ) → slice_get os n ≡ Some o → IsLight prims q o
+
+-- a tree is kept with those before it, which do not weigh too much with it
+pub record TreeIsKept (old new : Gathered) (u : Tree) (weight : ℕ) : Type 0 where
+  pub trees : map tree_view new.trees.items ≡ map tree_view old.trees.items ++ u ∷ []
+  pub weighs : new.weight ≡ old.weight + weight
+  pub little : new.weight ≤ 262_144
+
+-- what keeping a tree comes to
+abbrev pub TreeGains : Gathered → Gathered → Tree → ℕ → RowGain → Type 0
+TreeGains old new u weight gain.Known = TreeIsKept old new u weight
+TreeGains old new u weight gain.Heavy = 262_144 < old.weight + weight
+TreeGains old new u weight gain.Open = ⊥
+
+-- what a row comes to: with those before it its tree is kept, if it answers, or they weigh too much; or nothing is known of it
+abbrev pub RowGains : List Primitive → Asked → ℕ → Gathered → Gathered → RowGain → Type 0
+RowGains prims q o old new gain.Known = (is_answer prims (template_of q) o ≡ true → TreeIsKept old new (tree_of prims (template_of q) o) (weight prims (template_of q) o)) × (is_answer prims (template_of q) o ≡ false → new ≡ old)
+RowGains prims q o old new gain.Heavy = (is_answer prims (template_of q) o ≡ true) × (262_144 < old.weight + weight prims (template_of q) o)
+RowGains prims q o old new gain.Open = new ≡ old
+
+-- an object is that of the next row, whose number is one of a list in memory
+pub record RowIsNext (os : List ℕ) (next o : ℕ) : Type 0 where
+  pub at : slice_get os next ≡ Some o
+  pub few : next < 2 ^ 63
+
+-- how far a walk over rows came that has gathered the first of them
+abbrev pub RowsCome : List Primitive → Asked → List ℕ → ℕ → Gathered → RowsWalked → Type 0
+RowsCome prims q os next g walked.All = HasGathered prims q (take next os) g × (slice_get os next ≡ None)
+RowsCome prims q os next g (walked.Crowded o) = HasGathered prims q (take next os) g × RowIsNext os next o
+RowsCome prims q os next g walked.Heavy = 262_144 < weight_among prims q (take (next + 1) os)
+RowsCome prims q os next g walked.Unfinished = HasGathered prims q (take next os) g
+
+-- a matcher tries the next row
+pub record RowTries (batches : List Batch) (q : Asked) (os : List ℕ) (next : ℕ) (r : Trying) : Type 0 where
+  pub row : RowIsNext os next r.place
+  pub tries : Tries batches (template_of q) r
+
+-- the trees of the first rows were gathered, and the next one is tried, if a matcher is at work
+pub record GathersRows (batches : List Batch) (g : Gathering) (os : List ℕ) : Type 0 where
+  pub has : HasGathered (prims_of batches) (asked_view g.plan) (take g.next os) g.gathered
+  pub tries : IfSome g.tried (λ r. RowTries batches (asked_view g.plan) os g.next r)
+
+-- how far it came, where a row may be tried
+abbrev pub RowsGo : List Batch → Gathering → List ℕ → RowsWalked → Type 0
+RowsGo batches g os walked.All = GathersRows batches g os × (slice_get os g.next ≡ None)
+RowsGo batches g os (walked.Crowded o) = GathersRows batches g os × RowIsNext os g.next o
+RowsGo batches g os walked.Heavy = 262_144 < weight_among (prims_of batches) (asked_view g.plan) (take (g.next + 1) os)
+RowsGo batches g os walked.Unfinished = GathersRows batches g os
+
 -- the scan of a reading has ended, and the trees of the first rows of its page were gathered
 pub record Gathers (batches : List Batch) (s : Subject) (g : Gathering) (w : Kept) : Type 0 where
   pub scanned : IsScanned batches s g.plan w
   pub listed : (asked_view g.plan).count ≡ false
-  pub has : HasGathered (prims_of batches) (asked_view g.plan) (take g.next (page_objects w)) g.gathered
+  pub rows : GathersRows batches g (page_objects w)
 
 -- ---- printing
 
@@ -153,10 +163,16 @@ abbrev pub body_trees : PageBody → Trees
 body_trees (page.Trees ts) = trees_view ts
 body_trees (page.Count n) = no_trees
 
+-- a body is a count, or it has the trees of the page, which is not too wide
+abbrev pub HasPage : List Primitive → Asked → Option Mark → PageBody → Type 0
+HasPage prims q after (page.Trees ts) = ((q.count || reply.is_too_wide prims q after) ≡ false) × IsBodyOf prims q (reply.page prims q after) (page.Trees ts)
+HasPage prims q after (page.Count n) = Unit {0}
+
 -- a page is to be printed from a body
 pub record IsBuilt (batches : List Batch) (s : Subject) (plan : Found) (body : PageBody) (w : Kept) : Type 0 where
   pub asked : IsAsked batches s (asked_view plan)
   pub kept : IsKept (prims_of batches) (asked_view plan) (mark_of s.after) w
+  pub has : HasPage (prims_of batches) (asked_view plan) (mark_of s.after) body
   pub prints : body_print (prims_of batches) (asked_view plan) body ≡ page_prints (prims_of batches) (asked_view plan) w (body_trees body)
   pub owes : body_owes batches s (asked_view plan) w (printing 0 (body_trees body) []) ≡ answer_of batches s
 
@@ -173,13 +189,10 @@ pub record Prints (batches : List Batch) (s : Subject) (shape : Shape) (w : Kept
 
 -- ---- all of them
 
--- a reading that goes on stands where it owes its answer; the rows that were built do not weigh too much together
+-- a reading that goes on stands where it owes its answer
 abbrev pub StageOwes : List Batch → Subject → Stage → Kept → Type 0
 StageOwes batches s (stage.Visiting v) w = Visits batches s v w
-StageOwes batches s (stage.Scanning r) w = Scans batches s r.plan r.matcher w × IsKnown batches r.plan r.matcher r.places
-StageOwes batches s (stage.Checking c) w = Checks batches s c w
 StageOwes batches s (stage.Gathering g) w = Gathers batches s g w
-StageOwes batches s (stage.Building b) w = Builds batches s b w × (b.weight ≤ 262_144)
 StageOwes batches s (stage.Printing shape) w = Prints batches s shape w
 StageOwes batches s stage.Spent w = ⊥
 

@@ -1,5 +1,5 @@
 -- What a reading reads, as the definitions have it.
-use Rattle.std.specs.Prelude.{ℕ, List, None}
+use Rattle.std.specs.Prelude.{List, None}
 use Rattle.gd_prim.specs.declared.Batch.{Batch}
 use Rattle.gd_prim.specs.History.{prims_of}
 use Rattle.gd_defs.specs.Query.{Query}

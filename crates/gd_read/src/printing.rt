@@ -1,20 +1,21 @@
 //! Readings that print their page.
 ghost use Rattle.std.specs.Prelude.{◌≡◌, ◌+◌, ◌<◌, ◌≤◌, ◌^◌, ℕ, [], Some, None, map, length, take};
 ghost use Rattle.std.specs.Prelude.{nat_lt, option_map, if◌then◌else◌, Err, IfOk, codes};
+ghost use Rattle.gd_prim.specs.History.{prims_of};
 ghost use Rattle.gd_defs.specs.Lines.{refused_at};
 ghost use Rattle.gd_defs.specs.Reply as reply;
 ghost use Rattle.gd_json.specs.View.{view as json_view};
 ghost use Rattle.gd_runs.specs.Request.{asks_page};
 ghost use Rattle.gd_mql.specs.Requests.{cursor_view};
 ghost use Rattle.gd_plan.specs.Asked.{asked_view};
-ghost use Rattle.gd_read.specs.Marked.{printed_view};
+ghost use Rattle.gd_read.specs.Marked.{mark_of, printed_view};
 ghost use Rattle.gd_window.specs.Laws.{defined};
 ghost use Rattle.gd_suspended_laws.specs.Standing.{rows_of, page_rows};
 ghost use Rattle.gd_reply.specs.Answers.{Tells};
 ghost use Rattle.gd_read.specs.Stages.{Prints, IsBuilt};
 ghost use Rattle.gd_read.specs.Rounds.{RoundGives, RoundGoes};
-ghost use Rattle.gd_shape.specs.Shaping.{shape_left, shape_most};
-ghost use Rattle.gd_read.specs.Left.{round_left};
+ghost use Rattle.gd_shape.specs.Shaping.{shape_due};
+ghost use Rattle.gd_read.specs.Left.{prints_most, round_left};
 
 use crate::cursors::row_text;
 use crate::rows::page_of;
@@ -62,7 +63,8 @@ pub(crate) fn print_page(
     requires built { IsBuilt view.now subject.now plan body window.now }
     ensures gives { IfOk result (λ round. RoundGives view.now subject.now window.now round) }
     ensures left { (n : ℕ) → IfOk result
-        (λ round. round_left n view.now window.now round ≤ shape_most n) }
+        (λ round. round_left n view.now (mark_of subject.now.after) round
+        ≤ prints_most (prims_of view.now) (asked_view plan) (mark_of subject.now.after)) }
 {
     if are_many(&plan, window) {
         drop(plan);
@@ -143,8 +145,8 @@ pub(crate) fn print_on<L>(
 ) -> Result<Round, Memory>
     requires budget { 0 < budget }
     requires prints { Prints view.now subject.now shape window.now }
-    ensures { RoundGoes view.now subject.now (λ n. shape_left n shape) window.now steps.old
-        steps.new (budget + 1024) result }
+    ensures { RoundGoes view.now subject.now (λ n. shape_due (prims_of view.now) shape) window.now
+        steps.old steps.new (budget + 1024) result }
 {
     match shape.resume(alloc, view, budget, steps) {
         Ok(ShapeTurn::Reply(json)) => {

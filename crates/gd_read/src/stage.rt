@@ -1,14 +1,12 @@
 //! What a reading does.
 ghost use Rattle.std.specs.Prelude.{◌+◌, ◌<◌, ◌^◌};
+ghost use Rattle.gd_read.specs.Marked.{mark_of};
 ghost use Rattle.gd_read.specs.Stages.{StageOwes};
 ghost use Rattle.gd_read.specs.Rounds.{RoundGoes};
 ghost use Rattle.gd_read.specs.Left.{stage_left};
 
-use crate::building::Building;
-use crate::checking::Checking;
 use crate::gathering::Gathering;
 use crate::printing::print_on;
-use crate::scanning::Scanning;
 use crate::subject::Subject;
 use crate::visiting::Visiting;
 use gd_base::memory::Memory;
@@ -20,16 +18,12 @@ use gd_window::window::Window;
 use std::alloc::Global;
 
 /// What a reading does, one after the other: the places among which the candidates are are visited,
-/// or else candidates are scanned, and the best rows are kept; where the window is full, it may be
-/// asked whether those that are left would change anything; then the trees of the rows of the page
-/// are gathered, or else built by a matcher; then the page is printed.
+/// and the best rows are kept; then the trees of the rows of the page are gathered; then the page is
+/// printed.
 #[derive(Drop)]
 pub(crate) enum Stage {
     Visiting(Visiting),
-    Scanning(Scanning),
-    Checking(Checking),
     Gathering(Gathering),
-    Building(Building),
     Printing(Shape),
     /// The answer was given, or memory was wanting.
     Spent,
@@ -44,7 +38,7 @@ pub(crate) enum Round {
     Going(Stage),
 }
 
-/// How far a walk over the places or the rows of a reading came.
+/// How far a walk over the rows of a page came.
 #[derive(Clone, Copy)]
 pub(crate) enum Walked {
     /// It came to the end.
@@ -68,24 +62,16 @@ impl Stage {
     ) -> Result<Round, Memory>
         requires budget { 0 < budget }
         requires owes { StageOwes view.now subject.now self window.old }
-        ensures { RoundGoes view.now subject.now (λ n. stage_left n view.now window.old self)
-            window.new steps.old steps.new (budget + 1024) result }
+        ensures { RoundGoes view.now subject.now
+            (λ n. stage_left n view.now (mark_of subject.now.after) self) window.new steps.old
+            steps.new (budget + 1024) result }
     {
         match self {
             Stage::Visiting(visiting) => {
                 visiting.go_on(alloc, subject, window, view, budget, steps)
             }
-            Stage::Scanning(scanning) => {
-                scanning.go_on(alloc, subject, window, view, budget, steps)
-            }
-            Stage::Checking(checking) => {
-                checking.go_on(alloc, subject, window, view, budget, steps)
-            }
             Stage::Gathering(gathering) => {
                 gathering.go_on(alloc, subject, window, view, budget, steps)
-            }
-            Stage::Building(building) => {
-                building.go_on(alloc, subject, window, view, budget, steps)
             }
             Stage::Printing(shape) => {
                 print_on(alloc, shape, subject, window, view, budget, steps)

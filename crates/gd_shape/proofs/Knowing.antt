@@ -1,5 +1,5 @@
 -- Ids that are known, and one that is learned.
-use Rattle.std.proofs.Common.{◌≡◌, ◌≢◌, ◌≤◌, ◌<◌, ◌+◌, ◌*◌, ℕ, zero, suc, List, Bool, true, false, cond, Option, Some, None, IsNone, is_some, if◌then◌else◌, refl, sym, subst, ap, ◌∙◌, arith}
+use Rattle.std.proofs.Common.{◌≡◌, ◌≢◌, ◌≤◌, ◌<◌, ◌+◌, ◌*◌, ℕ, zero, suc, List, [], ◌∷◌, length, filter, Bool, true, false, not, cond, Option, Some, None, IsNone, is_some, if◌then◌else◌, refl, sym, subst, ap, ◌∙◌, arith}
 use Rattle.std.specs.Option.{ForSome}
 use Rattle.std.specs.Ordering.{nat_cmp}
 use Rattle.std.specs.Cmp.{unsigned_tied}
@@ -8,7 +8,10 @@ use Rattle.std.specs.BTreeMap.{is_at}
 use Rattle.std.proofs.lemmas.Bool.{eqb-true, eqb-false, false_from_ne_true}
 use Rattle.gd_prim.specs.declared.Primitive.{Primitive}
 use Rattle.gd_defs.specs.Ids.{id_text}
-use Rattle.gd_shape.specs.Knowing.{known_at, IsKnownOf, missing}
+use Rattle.gd_order_laws.specs.Window.{In}
+use Rattle.gd_left_laws.specs.Left.{ids_left}
+use Rattle.gd_left_laws.proofs.Laws.{ids_lower}
+use Rattle.gd_shape.specs.Knowing.{known_at, IsKnownOf, missing, unknown_of}
 
 same_id : (a b : ℕ) → is_at (nat_cmp a) b ≡ true → a ≡ b
 same_id a b is = eqb-true a b (sym (unsigned_tied a b) ∙ is)
@@ -116,3 +119,53 @@ few_missing ids (suc n) = one_at_most (known_at ids n) (missing n ids) n (few_mi
 -- so no more steps are left than at first
 pub most_left : (ids : List (ℕ × List ℕ)) (n places : ℕ) → places ≤ 262_144 → places + 785 * missing n ids ≤ 262_144 + 785 * n
 most_left ids n places few = let less : missing n ids ≤ n = few_missing ids n in omega (arith, few, less)
+
+-- ---- how many of objects are not known
+
+none_false : (o : Option (List ℕ)) → IsNone o → is_some o ≡ false
+none_false None none = refl
+none_false (Some t) none = absurd (cc)
+
+-- an object has its own place
+at_itself : (object : ℕ) → is_at (nat_cmp object) object ≡ true
+at_itself object = by (is_at (nat_cmp object) object) refl
+  where
+    by : (b : Bool) → is_at (nat_cmp object) object ≡ b → b ≡ true
+    by true is = refl
+    by false is = absurd (other_id object object is refl)
+
+-- what was known stays known, and the object is
+still_some : (b : Bool) (o : Option (List ℕ)) (text : List ℕ) → is_some o ≡ true → is_some (cond b (Some text) o) ≡ true
+still_some true o text some = refl
+still_some false o text some = some
+
+now_some : (b : Bool) (o : Option (List ℕ)) (text : List ℕ) → b ≡ true → is_some (cond b (Some text) o) ≡ true
+now_some true o text is = refl
+now_some false o text is = absurd (cc)
+
+-- once the id of one of objects was learned, fewer of them are left
+pub fewer_unknown : (old new : List (ℕ × List ℕ)) (object : ℕ) (text : List ℕ) → Sets old new object text
+    → (os : List ℕ) → In object os → IsNone (known_at old object) → unknown_of new os + 1 ≤ unknown_of old os
+fewer_unknown old new object text sets os here unknown =
+    ids_lower (λ o. is_some (known_at old o)) (λ o. is_some (known_at new o)) os object here (none_false (known_at old object) unknown)
+    (rw (sets object) (now_some (is_at (nat_cmp object) object) (known_at old object) text (at_itself object)))
+    (λ x some. rw (sets x) (still_some (is_at (nat_cmp object) x) (known_at old x) text some))
+
+-- one of objects that is not known is left of them
+pub some_unknown : (ids : List (ℕ × List ℕ)) (object : ℕ) → IsNone (known_at ids object) → (os : List ℕ) → In object os → 1 ≤ unknown_of ids os
+some_unknown ids object unknown os here =
+    let less : ids_left (λ o. true) os + 1 ≤ ids_left (λ o. is_some (known_at ids o)) os =
+    ids_lower (λ o. is_some (known_at ids o)) (λ o. true) os object here (none_false (known_at ids object) unknown) refl (λ x some. refl) in
+    omega (arith, less)
+
+few_left : (known : ℕ → Bool) (os : List ℕ) → ids_left known os ≤ length os
+few_left known [] = omega arith
+few_left known (x ∷ xs) = by (known x) (few_left known xs)
+  where
+    by : (b : Bool) → ids_left known xs ≤ length xs → length (cond (not b) (x ∷ filter (λ o. not (known o)) xs) (filter (λ o. not (known o)) xs)) ≤ suc (length xs)
+    by true few = omega (arith, few)
+    by false few = omega (arith, few)
+
+-- so no more steps are due than for all
+pub most_due : (ids : List (ℕ × List ℕ)) (os : List ℕ) (places : ℕ) → places + 785 * unknown_of ids os ≤ places + 785 * length os
+most_due ids os places = let less : unknown_of ids os ≤ length os = few_left (λ o. is_some (known_at ids o)) os in omega (arith, less)

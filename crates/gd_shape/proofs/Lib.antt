@@ -1,7 +1,9 @@
 pub mod Data
+pub mod Due
 pub mod InTrees
 pub mod Knowing
 pub mod Left
+pub mod Listed
 pub mod Members
 pub mod Prints
 pub mod Ranks

@@ -6,6 +6,7 @@ use Rattle.std.specs.Map.{lookup}
 use Rattle.std.specs.BTreeMap.{is_at}
 use Rattle.gd_prim.specs.declared.Primitive.{Primitive}
 use Rattle.gd_defs.specs.Ids.{id_text}
+use Rattle.gd_left_laws.specs.Left.{ids_left}
 
 -- the id of an object, if it is known
 abbrev pub known_at : List (ℕ × List ℕ) → ℕ → Option (List ℕ)
@@ -19,3 +20,7 @@ IsKnownOf prims ids = (object : ℕ) → ForSome (known_at ids object) (λ text.
 abbrev pub missing : ℕ → List (ℕ × List ℕ) → ℕ
 missing zero ids = 0
 missing (suc n) ids = (if is_some (known_at ids n) then 0 else 1) + missing n ids
+
+-- how many of objects have no id among these, each as often as it stands there
+abbrev pub unknown_of : List (ℕ × List ℕ) → List ℕ → ℕ
+unknown_of ids os = ids_left (λ o. is_some (known_at ids o)) os

@@ -1,5 +1,6 @@
 pub mod InTrees
 pub mod Knowing
+pub mod Listed
 pub mod Outcome
 pub mod Printed
 pub mod Ranking

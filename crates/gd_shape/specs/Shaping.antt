@@ -1,16 +1,22 @@
 -- What a page that is being printed stands for.
-use Rattle.std.specs.Prelude.{◌≡◌, ◌+◌, ◌*◌, ◌<◌, ℕ, List, [], Option, None, Some, map, Bool, true, false, if◌then◌else◌, Result, Ok, Err, IsNone}
+use Rattle.std.specs.Prelude.{◌≡◌, ◌+◌, ◌*◌, ◌<◌, ℕ, List, [], length, Option, None, Some, map, Bool, true, false, if◌then◌else◌, Result, Ok, Err, IsNone}
 use Rattle.gd_prim.specs.declared.Primitive.{Primitive}
 use Rattle.gd_tree.specs.Json as tree
-use Rattle.gd_tree.specs.Trees.{Tree, list_of}
+use Rattle.gd_tree.specs.Trees.{Tree, list_of, trees_count}
 use Rattle.gd_defs.specs.Asked.{Asked}
+use Rattle.gd_defs.specs.Plan.{template_of}
 use Rattle.gd_defs.specs.Reply.{Path}
+use Rattle.gd_defs.specs.Rows.{Row}
+use Rattle.gd_defs.specs.Template.{tree_of}
+use Rattle.gd_order_laws.specs.Window.{In}
+use Rattle.gd_match_laws.specs.Walks.{rows_listed}
 use Rattle.gd_json.specs.View.{view as json_view}
 use Rattle.gd_plan.specs.Asked.{asked_view}
 use Rattle.gd_defs.specs.Lines.{count_json}
 use Rattle.gd_runs.specs.Shape.{page_shape}
 use Rattle.gd_trees.specs.View.{view as tree_view, trees_view}
-use Rattle.gd_shape.specs.Knowing.{known_at, missing, IsKnownOf}
+use Rattle.gd_shape.specs.Knowing.{known_at, missing, unknown_of, IsKnownOf}
+use Rattle.gd_shape.specs.Listed.{AreAmong}
 use Rattle.gd_shape.specs.Outcome.{seen}
 use Rattle.gd_shape.specs.declared.shape.Shape.{Shape}
 use Rattle.gd_shape.specs.declared.shape.Next.{Next}
@@ -58,9 +64,32 @@ shape_left n s = if s.stopped then 0 else steps_left n s
 abbrev pub shape_most : ℕ → ℕ
 shape_most n = 262_144 + 785 * n
 
--- the ids that were found are of this list
+-- the objects whose ids the page prints, over a list
+abbrev pub listed_of : List Primitive → Shape → List ℕ
+listed_of prims s = rows_listed prims (asked_of s).members (trees_in s)
+
+-- steps that are due, at most: one for each place that is still to be counted, and 785 for each object that the page prints whose id is not known
+abbrev pub steps_due : List Primitive → Shape → ℕ
+steps_due prims s = s.places + 785 * unknown_of s.ids (listed_of prims s)
+
+-- the same of a page that may have come to a fault, after which none are due
+abbrev pub shape_due : List Primitive → Shape → ℕ
+shape_due prims s = if s.stopped then 0 else steps_due prims s
+
+-- those of a body of a query before anything is looked at: a step for each place of its trees, and 785 for each id that they print
+abbrev pub body_due : List Primitive → Asked → PageBody → ℕ
+body_due prims q (body.Trees trees) = trees_count (trees_view trees) + 785 * length (rows_listed prims q.members (list_of (trees_view trees)))
+body_due prims q (body.Count n) = 0
+
+-- a body has the trees of these rows, or is a count
+abbrev pub IsBodyOf : List Primitive → Asked → List Row → PageBody → Type 0
+IsBodyOf prims q rows (body.Trees trees) = list_of (trees_view trees) ≡ map (λ (r : Row). tree_of prims (template_of q) r.object) rows
+IsBodyOf prims q rows (body.Count n) = Unit {0}
+
+-- the ids that were found are of this list, and those that are to be found are printed
 pub record IsOf (prims : List Primitive) (s : Shape) : Type 0 where
   pub known : IsKnownOf prims s.ids
+  pub listed : AreAmong s.objects.items (listed_of prims s)
 
 -- both print the same rows of the same query
 pub record IsSamePage (a b : Shape) : Type 0 where
@@ -72,6 +101,16 @@ pub record IsSamePage (a b : Shape) : Type 0 where
 abbrev pub IsWanted : Shape → Wanted → Type 0
 IsWanted s wanted.Place = 0 < s.places
 IsWanted s (wanted.IdOf object) = IsNone (known_at s.ids object)
+
+-- what is wanted is due: a place, or the id of an object that the page prints
+abbrev pub IsDue : List Primitive → Shape → Wanted → Type 0
+IsDue prims s wanted.Place = 0 < s.places
+IsDue prims s (wanted.IdOf object) = In object (listed_of prims s)
+
+-- what is to be looked at next is due
+abbrev pub IsNextDue : List Primitive → Shape → Next → Type 0
+IsNextDue prims s (next.Look wanted) = IsDue prims s wanted
+IsNextDue prims s (next.Printed outcome) = Unit {0}
 
 -- what is next is wanted, or it is the page as it is expected
 abbrev pub IsNext : Result tree.Json Path → Shape → Next → Type 0

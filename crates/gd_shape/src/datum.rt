@@ -1,5 +1,5 @@
 //! Data as they print.
-ghost use Rattle.std.specs.Prelude.{◌≡◌, ℕ, IfErr, IfOk, IsTrue};
+ghost use Rattle.std.specs.Prelude.{◌≡◌, ℕ, [], ◌∷◌, None, IfErr, IfOk, IsTrue};
 ghost use Rattle.gd_tree.specs.Json.{text};
 ghost use Rattle.gd_prim.specs.Live.{value_at, end_at, object_datum, language_at};
 ghost use Rattle.gd_prim.specs.WellFormed.{may_hold};
@@ -9,9 +9,10 @@ ghost use Rattle.gd_defs.specs.Property as props;
 ghost use Rattle.gd_defs.specs.Reply as reply;
 ghost use Rattle.gd_defs.specs.Rows as rows;
 ghost use Rattle.gd_json.specs.View.{view};
+ghost use Rattle.gd_match_laws.specs.Walks.{id_of, own_listed};
 ghost use Rattle.gd_plan.specs.Seen.{own_view};
 ghost use Rattle.gd_shape.specs.Knowing.{IsKnownOf};
-ghost use Rattle.gd_shape.specs.Outcome.{Lacks};
+ghost use Rattle.gd_shape.specs.Outcome.{Lacks, LacksOf};
 
 use crate::known::Known;
 use crate::sight::{Lack, Sight};
@@ -83,6 +84,8 @@ fn id_json(sight: &Sight<'_>, ids: &Known, object: Id) -> Result<Json, Lack>
     requires { IsKnownOf sight.now ids.now }
     ensures printed { IfOk result (λ json. view json ≡ text (id_text sight.now object)) }
     ensures lacks { IfErr result (λ lack. Lacks ids.now lack) }
+    ensures listed { IfErr result (λ lack. LacksOf
+        (object ∷ []) lack) }
 {
     Ok(Json::Text(sight.id(ids, object)?))
 }
@@ -93,6 +96,8 @@ fn some_id_json(sight: &Sight<'_>, ids: &Known, object: Option<Id>) -> Result<Js
     ensures printed { IfOk result (λ json. view json ≡ reply.id_json sight.now
         (object_datum object)) }
     ensures lacks { IfErr result (λ lack. Lacks ids.now lack) }
+    ensures listed { IfErr result (λ lack. LacksOf
+        (id_of (object_datum object)) lack) }
 {
     match object {
         Some(object) => id_json(sight, ids, object),
@@ -111,7 +116,7 @@ fn some_guid_json(alloc: Global, object: Option<Id>) -> Result<Json, Memory>
 }
 
 /// The right end of a link.
-fn right_of(sight: &Sight<'_>, link: Id) -> Option<Id>
+pub(crate) fn right_of(sight: &Sight<'_>, link: Id) -> Option<Id>
     ensures { result ≡ end_at (λ p. p.right) sight.now link }
 {
     match sight.prim(link) {
@@ -121,7 +126,7 @@ fn right_of(sight: &Sight<'_>, link: Id) -> Option<Id>
 }
 
 /// The language of the text of a link.
-fn language_of(sight: &Sight<'_>, link: Id) -> Option<Id>
+pub(crate) fn language_of(sight: &Sight<'_>, link: Id) -> Option<Id>
     ensures { result ≡ language_at sight.now link }
 {
     match sight.prim(link) {
@@ -146,6 +151,38 @@ fn far_end(sight: &Sight<'_>, property: &Property, link: Id) -> Option<Id>
     }
 }
 
+/// The object at a place, if the value there is one.
+fn object_at(sight: &Sight<'_>, place: Id) -> Option<Id>
+    ensures { id_of (object_datum result) ≡ id_of (value_at sight.now place) }
+{
+    match sight.prim(place) {
+        Some(prim) => object_of(&prim.value),
+        None => None,
+    }
+}
+
+/// The object that a datum is, if it is one.
+fn object_of(datum: &Datum) -> Option<Id>
+    ensures { id_of (object_datum result) ≡ id_of datum.now }
+{
+    match datum {
+        Datum::Object(object) => Some(*object),
+        _ => None,
+    }
+}
+
+/// The object whose id an answer of a property prints, if it prints one.
+#[tactic(auto, using(crate::proofs::Data::values_here, crate::proofs::Data::objects_here))]
+pub(crate) fn answer_object(sight: &Sight<'_>, property: &Property, link: Id) -> Option<Id>
+    ensures { id_of (object_datum result)
+        ≡ id_of (props.answer_datum sight.now property.now link) }
+{
+    if holds_values(answers_of(property)) {
+        return object_at(sight, link);
+    }
+    far_end(sight, property, link)
+}
+
 /// What a computed member tells of an object and the link that led to it, as it prints.
 pub(crate) fn own_json(
     alloc: Global,
@@ -159,6 +196,8 @@ pub(crate) fn own_json(
     ensures printed { IfOk result (λ json. view json ≡ reply.own_json sight.now (own_view own) link
         object) }
     ensures lacks { IfErr result (λ lack. Lacks ids.now lack) }
+    ensures listed { IfErr result (λ lack. LacksOf
+        (own_listed sight.now (own_view own) None link object) lack) }
 {
     match own {
         Own::Id => id_json(sight, ids, object),
@@ -208,6 +247,8 @@ pub(crate) fn answer_id(
     ensures printed { IfOk result (λ json. view json ≡ reply.id_json sight.now
         (props.answer_datum sight.now property.now link)) }
     ensures lacks { IfErr result (λ lack. Lacks ids.now lack) }
+    ensures listed { IfErr result (λ lack. LacksOf
+        (id_of (props.answer_datum sight.now property.now link)) lack) }
 {
     if holds_values(answers_of(property)) {
         return Ok(value_id(alloc, sight, link)?);

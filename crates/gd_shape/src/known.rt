@@ -3,7 +3,8 @@ ghost use Rattle.std.specs.Prelude.{◌≡◌, ◌+◌, ◌<◌, ◌≤◌, ℕ,
 ghost use Rattle.std.specs.Option.{option_copied};
 ghost use Rattle.gd_prim.specs.declared.Primitive.{Primitive};
 ghost use Rattle.gd_defs.specs.Ids.{id_text};
-ghost use Rattle.gd_shape.specs.Knowing.{known_at, missing, IsKnownOf};
+ghost use Rattle.gd_order_laws.specs.Window.{In};
+ghost use Rattle.gd_shape.specs.Knowing.{known_at, missing, unknown_of, IsKnownOf};
 
 use gd_base::id::Id;
 use gd_base::memory::Memory;
@@ -51,6 +52,8 @@ impl Known {
         ensures fewer { (n : ℕ) → missing n self.new ≤ missing n self.old }
         ensures one { OnOk result ((n : ℕ) → object < n → IsNone (known_at self.old object)
             → missing n self.new + 1 ≡ missing n self.old) }
+        ensures due { OnOk result ((os : List ℕ) → In object os → IsNone (known_at self.old object)
+            → unknown_of self.new os + 1 ≤ unknown_of self.old os) }
     {
         match self.ids.insert(object, text) {
             Ok(_) => Ok(()),

@@ -2,11 +2,12 @@
 ghost use Rattle.std.specs.Prelude.{◌≡◌, [], IfErr, IfOk, map};
 ghost use Rattle.gd_tree.specs.Trees.{place_of, lists_of};
 ghost use Rattle.gd_json.specs.View.{view, items_view};
+ghost use Rattle.gd_match_laws.specs.Walks.{object_listed, rows_listed};
 ghost use Rattle.gd_plan.specs.Asked.{asked_view, members_view};
 ghost use Rattle.gd_runs.specs.Shape.{page_shape};
 ghost use Rattle.gd_trees.specs.View.{view as tree_view};
 ghost use Rattle.gd_shape.specs.Knowing.{IsKnownOf};
-ghost use Rattle.gd_shape.specs.Outcome.{seen, Lacks};
+ghost use Rattle.gd_shape.specs.Outcome.{seen, Lacks, LacksOf};
 ghost use Rattle.gd_shape.specs.Printed as print;
 
 use crate::answer::Answer;
@@ -33,6 +34,9 @@ fn row_json(
         ≡ print.as_object (print.object_print sight.now (members_view members.now) 0
         (place_of (tree_view tree.now)) (lists_of (tree_view tree.now)))) }
     ensures lacks { IfErr result (λ lack. Lacks ids.now lack) }
+    ensures listed { IfErr result (λ lack. LacksOf
+        (object_listed sight.now (members_view members.now) 0 (place_of (tree_view tree.now))
+        (lists_of (tree_view tree.now))) lack) }
 {
     let at = Answer {
         link: Id(0),
@@ -44,7 +48,7 @@ fn row_json(
 }
 
 /// What the rows of trees print, or the first path of two answers.
-#[tactic(auto, using(crate::proofs::Rows::rows_more))]
+#[tactic(auto, using(crate::proofs::Rows::rows_more, crate::proofs::Listed::rows_lack))]
 fn rows_json(
     alloc: Global,
     sight: &Sight<'_>,
@@ -56,6 +60,8 @@ fn rows_json(
     ensures printed { IfOk result (λ outcome. seen (λ js. items_view js.items) outcome
         ≡ print.rows_print sight.now (members_view members.now) (map tree_view trees.now)) }
     ensures lacks { IfErr result (λ lack. Lacks ids.now lack) }
+    ensures listed { IfErr result (λ lack. LacksOf
+        (rows_listed sight.now (members_view members.now) (map tree_view trees.now)) lack) }
 {
     let mut items = Vec::with_capacity(alloc, trees.len())?;
     for tree in trees {
@@ -69,7 +75,7 @@ fn rows_json(
 
 /// What the root of a query prints from the trees of its page's rows: a list, an object or null; or
 /// the names of the members that lead to the first two answers where one is asked. `IdOf`: the id
-/// of an object is not among those that are known. `Memory`: an allocation was refused.
+/// of an object that the page prints is not among those that are known. `Memory`: an allocation was refused.
 pub fn page_json(
     alloc: Global,
     sight: &Sight<'_>,
@@ -81,6 +87,8 @@ pub fn page_json(
     ensures printed { IfOk result (λ outcome. seen view outcome
         ≡ page_shape sight.now (asked_view asked.now) (map tree_view trees.now) []) }
     ensures lacks { IfErr result (λ lack. Lacks ids.now lack) }
+    ensures listed { IfErr result (λ lack. LacksOf
+        (rows_listed sight.now (asked_view asked.now).members (map tree_view trees.now)) lack) }
 {
     match rows_json(alloc, sight, ids, asked.members.as_slice(), trees)? {
         Ok(items) => Ok(Ok(as_list(asked.listed, items))),

@@ -2,15 +2,19 @@
 ghost use Rattle.std.specs.Prelude.{◌≡◌, ◌++◌, [], ◌∷◌, Ok, IfErr, IfOk, OnOk, map, option_map};
 ghost use Rattle.std.specs.Prelude.{unwrap_or};
 ghost use Rattle.gd_defs.specs.Asked as defs;
+ghost use Rattle.gd_defs.specs.Property.{answer_datum};
 ghost use Rattle.gd_defs.specs.Reply as reply;
 ghost use Rattle.gd_json.specs.View.{view, items_view, members_view as printed_view, member_view};
+ghost use Rattle.gd_match_laws.specs.Walks.{id_of, own_listed, where_id};
+ghost use Rattle.gd_match_laws.specs.Walks.{each_listed, object_listed};
 ghost use Rattle.gd_plan.specs.Asked.{asking_view, members_view, put, style_view};
 ghost use Rattle.gd_plan.specs.Seen.{own_view};
 ghost use Rattle.gd_runs.specs.Shape.{name_shape};
 ghost use Rattle.gd_trees.specs.View.{view as tree_view};
 ghost use Rattle.gd_shape.specs.InTrees.{lists_view};
 ghost use Rattle.gd_shape.specs.Knowing.{IsKnownOf};
-ghost use Rattle.gd_shape.specs.Outcome.{seen, Lacks};
+ghost use Rattle.gd_shape.specs.Listed.{answer_listed, asks_listed, first_listed};
+ghost use Rattle.gd_shape.specs.Outcome.{seen, Lacks, LacksOf};
 ghost use Rattle.gd_shape.specs.Printed as print;
 ghost use Rattle.gd_shape.specs.Ranking.{ranked_view};
 
@@ -60,6 +64,8 @@ fn style_json(
     ensures printed { IfOk result (λ json. view json ≡ print.style_print sight.now property.now
         row.now.link (lists_view row.now.lists.now) (style_view style.now)) }
     ensures lacks { IfErr result (λ lack. Lacks ids.now lack) }
+    ensures listed { IfErr result (λ lack. LacksOf
+        (where_id (style_view style.now) (id_of (answer_datum sight.now property.now row.now.link))) lack) }
 {
     match style {
         Style::Operand(json) => Ok(json.copy()?),
@@ -70,7 +76,7 @@ fn style_json(
 }
 
 /// The operand that a literal or an operator prints in place of its answers.
-fn operand(style: &Style) -> Option<&Json>
+pub(crate) fn operand(style: &Style) -> Option<&Json>
     ensures { option_map (λ json. view json.now) result ≡ reply.operand_of (style_view style.now) }
 {
     match style {
@@ -80,7 +86,7 @@ fn operand(style: &Style) -> Option<&Json>
 }
 
 /// Whether answers print the members of their clause.
-fn is_clause(style: &Style) -> bool
+pub(crate) fn is_clause(style: &Style) -> bool
     ensures { result ≡ reply.is_clause (style_view style.now) }
 {
     matches!(style, Style::Clause)
@@ -160,6 +166,9 @@ fn own_or(
     ensures printed { IfOk result (λ json. view json ≡ unwrap_or (option_map view operand.now)
         (reply.own_json sight.now (own_view own) at.now.link at.now.object)) }
     ensures lacks { IfErr result (λ lack. Lacks ids.now lack) }
+    ensures listed { IfErr result (λ lack. LacksOf
+        (own_listed sight.now (own_view own) (option_map view operand.now) at.now.link
+        at.now.object) lack) }
 {
     match operand {
         Some(json) => Ok(json.copy()?),
@@ -191,7 +200,7 @@ fn push_member(printed: &mut Members, member: &Member, json: Json) -> Result<(),
 
 /// What members print of an object from the lists of its clauses, or the first path of two answers.
 #[cycle(print)]
-#[tactic(auto, using(crate::proofs::Members::printed_more))]
+#[tactic(auto, using(crate::proofs::Members::printed_more, crate::proofs::Listed::among_behind, crate::proofs::Listed::member_lacks))]
 pub(crate) fn members_json(
     alloc: Global,
     sight: &Sight<'_>,
@@ -204,6 +213,9 @@ pub(crate) fn members_json(
         ≡ print.object_print sight.now (members_view members.now) at.now.link at.now.object
         (lists_view at.now.lists.now)) }
     ensures lacks { IfErr result (λ lack. Lacks ids.now lack) }
+    ensures listed { IfErr result (λ lack. LacksOf
+        (object_listed sight.now (members_view members.now) at.now.link at.now.object
+        (lists_view at.now.lists.now)) lack) }
 {
     let mut printed = Vec::with_capacity(alloc, members.len())?;
     let mut lists = at.lists;
@@ -231,6 +243,9 @@ fn member_json(
     ensures printed { IfOk result (λ outcome. seen view outcome ≡ print.first_print sight.now
         (put member.now defs.no_members) at.now.link at.now.object (lists_view lists.now)) }
     ensures lacks { IfErr result (λ lack. Lacks ids.now lack) }
+    ensures listed { IfErr result (λ lack. LacksOf
+        (first_listed sight.now (put member.now defs.no_members) at.now.link at.now.object
+        (lists_view lists.now)) lack) }
 {
     match member {
         Member::Own { own, operand, .. } => Ok(Ok(own_or(alloc, sight, ids, *own, operand, at)?)),
@@ -247,7 +262,7 @@ fn member_json(
 
 /// What a member that asks a property prints of the trees of its links.
 #[cycle(print)]
-#[tactic(auto, using(crate::proofs::Prints::asks_given, crate::proofs::Prints::asks_twice, crate::proofs::Prints::asks_found))]
+#[tactic(auto, using(crate::proofs::Prints::asks_given, crate::proofs::Prints::asks_twice, crate::proofs::Prints::asks_found, crate::proofs::Listed::asks_lacks))]
 fn asks_json(
     alloc: Global,
     sight: &Sight<'_>,
@@ -260,6 +275,9 @@ fn asks_json(
     ensures printed { IfOk result (λ outcome. seen view outcome ≡ print.asks_print sight.now
         (asking_view asking.now) (members_view clause.now) (map tree_view trees.now)) }
     ensures lacks { IfErr result (λ lack. Lacks ids.now lack) }
+    ensures listed { IfErr result (λ lack. LacksOf
+        (asks_listed sight.now (asking_view asking.now) (members_view clause.now)
+        (map tree_view trees.now)) lack) }
 {
     if let Some(json) = operand(&asking.style) {
         return Ok(Ok(json.copy()?));
@@ -276,7 +294,7 @@ fn asks_json(
 
 /// Answers as they print, or the first path of two answers.
 #[cycle(print)]
-#[tactic(auto, using(crate::proofs::Prints::each_all))]
+#[tactic(auto, using(crate::proofs::Prints::each_all, crate::proofs::Listed::each_lacks))]
 fn each_json(
     alloc: Global,
     sight: &Sight<'_>,
@@ -290,6 +308,9 @@ fn each_json(
         ≡ print.each_print (print.answer_print sight.now (asking_view asking.now)
         (members_view clause.now)) (map ranked_view rows.now)) }
     ensures lacks { IfErr result (λ lack. Lacks ids.now lack) }
+    ensures listed { IfErr result (λ lack. LacksOf
+        (each_listed (answer_listed sight.now (asking_view asking.now) (members_view clause.now))
+        (map ranked_view rows.now)) lack) }
 {
     let mut items = Vec::with_capacity(alloc, rows.len())?;
     for row in rows {
@@ -315,6 +336,9 @@ fn answer_json(
     ensures printed { IfOk result (λ outcome. seen view outcome ≡ print.answer_print sight.now
         (asking_view asking.now) (members_view clause.now) (ranked_view row.now)) }
     ensures lacks { IfErr result (λ lack. Lacks ids.now lack) }
+    ensures listed { IfErr result (λ lack. LacksOf
+        (answer_listed sight.now (asking_view asking.now) (members_view clause.now)
+        (ranked_view row.now)) lack) }
 {
     if !is_clause(&asking.style) {
         return Ok(Ok(style_json(alloc, sight, ids, &asking.property, &asking.style, row)?));

@@ -1,21 +1,28 @@
 //! A page that is printed in slices.
-ghost use Rattle.std.specs.Prelude.{◌≡◌, ◌+◌, ◌-◌, ◌^◌, ◌<◌, ◌≤◌, ℕ, [], List, Ok, Result, min};
-ghost use Rattle.std.specs.Prelude.{map, false, IfOk, IfErr, IfSome, IsNone, IsOk, IsTrue, OnOk};
+ghost use Rattle.std.specs.Prelude.{◌≡◌, ◌+◌, ◌-◌, ◌*◌, ◌^◌, ◌<◌, ◌≤◌, ℕ, [], List, Ok, Result, min};
+ghost use Rattle.std.specs.Prelude.{map, length, false, IfOk, IfErr, IfSome, IsNone, IsOk, IsTrue, OnOk};
 ghost use Rattle.gd_base.specs.Counts.{Rose};
 ghost use Rattle.gd_prim.specs.History.{prims_of};
 ghost use Rattle.gd_prim.specs.declared.Primitive.{Primitive};
 ghost use Rattle.gd_tree.specs.Json as tree;
 ghost use Rattle.gd_defs.specs.Reply.{Path};
+ghost use Rattle.gd_defs.specs.Rows.{Row};
 ghost use Rattle.gd_json.specs.View.{view as json_view};
+ghost use Rattle.gd_match_laws.specs.Walks.{rows_listed};
+ghost use Rattle.gd_order_laws.specs.Window.{In};
 ghost use Rattle.gd_plan.specs.Asked.{asked_view};
 ghost use Rattle.gd_runs.specs.Shape.{page_shape};
 ghost use Rattle.gd_trees.specs.View.{view as tree_view};
-ghost use Rattle.gd_shape.specs.Knowing.{known_at, missing, IsKnownOf};
-ghost use Rattle.gd_shape.specs.Outcome.{seen, Lacks};
+ghost use Rattle.gd_work_laws.specs.Reading.{printing_most};
+ghost use Rattle.gd_shape.specs.Knowing.{known_at, missing, unknown_of, IsKnownOf};
+ghost use Rattle.gd_shape.specs.Listed.{AreAmong};
+ghost use Rattle.gd_shape.specs.Outcome.{seen, Lacks, LacksOf};
 ghost use Rattle.gd_shape.specs.declared.shape.Shape.{Shape};
 ghost use Rattle.gd_shape.specs.declared.shape.ShapeFault.TheVariants.{Memory as no_memory};
 ghost use Rattle.gd_shape.specs.Shaping.{asked_of, trees_in, page_of, body_print, steps_left};
 ghost use Rattle.gd_shape.specs.Shaping.{shape_left, shape_most, IsOf, IsSamePage, IsWanted};
+ghost use Rattle.gd_shape.specs.Shaping.{steps_due, shape_due, body_due, listed_of};
+ghost use Rattle.gd_shape.specs.Shaping.{IsBodyOf, IsDue, IsNextDue};
 ghost use Rattle.gd_shape.specs.Shaping.{IsNext, Tells, Refuses, is_unfinished};
 
 use crate::gather::objects_printed;
@@ -110,8 +117,10 @@ enum Next {
 
 /// What is next where something is lacking.
 fn lacking(lack: Lack) -> Result<Next, Memory>
-    ensures { (expected : Result tree.Json Path) (s : Shape) → Lacks s.ids lack
+    ensures next { (expected : Result tree.Json Path) (s : Shape) → Lacks s.ids lack
         → IfOk result (λ next. IsNext expected s next) }
+    ensures due { (prims : List Primitive) (s : Shape) → LacksOf (listed_of prims s) lack
+        → IfOk result (λ next. IsNextDue prims s next) }
 {
     match lack {
         Lack::IdOf(object) => Ok(Next::Look(Wanted::IdOf(object))),
@@ -122,7 +131,9 @@ fn lacking(lack: Lack) -> Result<Next, Memory>
 /// The next of these objects, from the last one, whose id is not known; those behind it are passed
 /// over.
 fn unknown(objects: &mut Vec<Id>, ids: &Known) -> Option<Id>
-    ensures { IfSome result (λ object. IsNone (known_at ids.now object)) }
+    ensures unknown { IfSome result (λ object. IsNone (known_at ids.now object)) }
+    ensures listed { IfSome result (λ object. In object objects.old.items) }
+    ensures left { AreAmong objects.new.items objects.old.items }
 {
     while let Some(object) = objects.pop() {
         if ids.at(object).is_none() {
@@ -133,7 +144,7 @@ fn unknown(objects: &mut Vec<Id>, ids: &Known) -> Option<Id>
 }
 
 /// Finds the id of an object that is not known: at most 785 steps.
-#[tactic(auto, using(crate::proofs::Knowing::some_missing))]
+#[tactic(auto, using(crate::proofs::Knowing::some_missing, crate::proofs::Knowing::some_unknown))]
 fn find_id<L>(
     alloc: Global,
     ids: &mut Known,
@@ -145,6 +156,9 @@ fn find_id<L>(
     ensures known { IsKnownOf (prims_of view.now) ids.old → IsKnownOf (prims_of view.now) ids.new }
     ensures one { OnOk result ((n : ℕ) → 2 ^ 32 ≤ n → missing n ids.new + 1 ≡ missing n ids.old) }
     ensures some { (n : ℕ) → 2 ^ 32 ≤ n → 1 ≤ missing n ids.old }
+    ensures due { OnOk result ((os : List ℕ) → In object os
+        → unknown_of ids.new os + 1 ≤ unknown_of ids.old os) }
+    ensures some_due { (os : List ℕ) → In object os → 1 ≤ unknown_of ids.old os }
     ensures work { steps.new ≤ steps.old + 785 }
     ensures later { steps.old ≤ steps.new }
     ensures counted { Rose steps.old steps.new }
@@ -177,6 +191,9 @@ fn begun(alloc: Global, asked: Asked, trees: Vec<Tree>, count: Option<u32>, plac
     ensures count { result.count ≡ count }
     ensures of { (prims : List Primitive) → IsOf prims result }
     ensures left { (n : ℕ) → shape_left n result ≤ shape_most n }
+    ensures due { (prims : List Primitive) → shape_due prims result
+        ≤ places + 785 * length (rows_listed prims (asked_view asked).members
+        (map tree_view trees.items)) }
 {
     let ids = Known::new(alloc);
     Shape {
@@ -194,12 +211,19 @@ fn begun(alloc: Global, asked: Asked, trees: Vec<Tree>, count: Option<u32>, plac
 impl Shape {
     /// The page of a query with this body, of which nothing is looked at yet. `Memory`: an
     /// allocation was refused.
-    #[tactic(auto, using(crate::proofs::InTrees::list_seen))]
+    #[tactic(auto, using(crate::proofs::InTrees::list_seen, crate::proofs::Due::trees_due))]
     pub fn start(alloc: Global, asked: Asked, body: PageBody) -> Result<Shape, Memory>
         ensures page { IfOk result (λ shape. (prims : List Primitive)
             → page_of prims shape ≡ body_print prims (asked_view asked) body) }
         ensures of { IfOk result (λ shape. (prims : List Primitive) → IsOf prims shape) }
         ensures left { IfOk result (λ shape. (n : ℕ) → shape_left n shape ≤ shape_most n) }
+        ensures due { IfOk result (λ shape. (prims : List Primitive)
+            → shape_due prims shape ≤ body_due prims (asked_view asked) body) }
+
+        // The work of a query pays for the page of rows whose trees these are.
+        ensures paid { IfOk result (λ shape. (prims : List Primitive) (rows : List Row)
+            → IsBodyOf prims (asked_view asked) rows body
+            → shape_due prims shape ≤ printing_most prims (asked_view asked) rows) }
     {
         match body {
             PageBody::Trees(trees) => {
@@ -217,6 +241,7 @@ impl Shape {
         ensures page { IsSamePage self.old self.new }
         ensures still { IsOf (prims_of view.now) self.new }
         ensures left { (n : ℕ) → steps_left n self.new ≡ steps_left n self.old }
+        ensures due { (prims : List Primitive) → steps_due prims self.new ≡ steps_due prims self.old }
     {
         if !self.gathered {
             let sight = Sight::new(view);
@@ -230,9 +255,10 @@ impl Shape {
     /// What the page prints, or the object whose id is not known.
     fn attempt(&self, alloc: Global, view: &View<'_>) -> Result<Next, Memory>
         requires { IsOf (prims_of view.now) self.now }
-        ensures { IfOk result (λ next. IsNext
+        ensures next { IfOk result (λ next. IsNext
             (page_shape (prims_of view.now) (asked_of self.now) (trees_in self.now) []) self.now
             next) }
+        ensures wanted { IfOk result (λ next. IsNextDue (prims_of view.now) self.now next) }
     {
         let sight = Sight::new(view);
         match page_json(alloc, &sight, &self.ids, &self.asked, self.trees.as_slice()) {
@@ -247,9 +273,11 @@ impl Shape {
         ensures next { IfOk result (λ next. IsNext
             (page_shape (prims_of view.now) (asked_of self.old) (trees_in self.old) []) self.new
             next) }
+        ensures wanted { IfOk result (λ next. IsNextDue (prims_of view.now) self.new next) }
         ensures page { IsSamePage self.old self.new }
         ensures still { IsOf (prims_of view.now) self.new }
         ensures left { (n : ℕ) → steps_left n self.new ≡ steps_left n self.old }
+        ensures due { (prims : List Primitive) → steps_due prims self.new ≡ steps_due prims self.old }
     {
         if self.places > 0 {
             return Ok(Next::Look(Wanted::Place));
@@ -269,12 +297,16 @@ impl Shape {
         wanted: Wanted,
         steps: &mut Steps<L>,
     ) -> Result<(), Memory>
-        requires { IsWanted self.old wanted }
+        requires wanted { IsWanted self.old wanted }
+        requires due { IsDue (prims_of view.now) self.old wanted }
         ensures page { IsSamePage self.old self.new }
         ensures still { IsOf (prims_of view.now) self.old → IsOf (prims_of view.now) self.new }
         ensures within { (n : ℕ) → 2 ^ 32 ≤ n → steps.new ≤ steps.old + steps_left n self.old }
+        ensures within_due { steps.new ≤ steps.old + steps_due (prims_of view.now) self.old }
         ensures less { OnOk result ((n : ℕ) → 2 ^ 32 ≤ n → steps.new + steps_left n self.new
             ≤ steps.old + steps_left n self.old) }
+        ensures due { OnOk result (steps.new + steps_due (prims_of view.now) self.new
+            ≤ steps.old + steps_due (prims_of view.now) self.old) }
         ensures work { steps.new ≤ steps.old + 785 }
         ensures later { steps.old ≤ steps.new }
         ensures counted { Rose steps.old steps.new }
@@ -309,8 +341,11 @@ impl Shape {
         ensures page { IsSamePage self.old self.new }
         ensures still { IsOf (prims_of view.now) self.new }
         ensures within { (n : ℕ) → 2 ^ 32 ≤ n → steps.new ≤ steps.old + steps_left n self.old }
+        ensures within_due { steps.new ≤ steps.old + steps_due (prims_of view.now) self.old }
         ensures less { IsOk result → (n : ℕ) → 2 ^ 32 ≤ n → steps.new + steps_left n self.new
             ≤ steps.old + steps_left n self.old }
+        ensures due { IsOk result → steps.new + steps_due (prims_of view.now) self.new
+            ≤ steps.old + steps_due (prims_of view.now) self.old }
         ensures work { steps.new ≤ steps.old + budget + 1024 }
         ensures later { steps.old ≤ steps.new }
     {
@@ -350,6 +385,8 @@ impl Shape {
         ensures still { IsOf (prims_of view.now) self.new }
         ensures less { (n : ℕ) → 2 ^ 32 ≤ n → steps.new + shape_left n self.new
             ≤ steps.old + shape_left n self.old }
+        ensures due { steps.new + shape_due (prims_of view.now) self.new
+            ≤ steps.old + shape_due (prims_of view.now) self.old }
         ensures work { steps.new ≤ steps.old + budget + 1024 }
         ensures later { steps.old ≤ steps.new }
     {
@@ -361,7 +398,9 @@ impl Shape {
     /// Goes on over a view, until the budget of steps is reached or the page is printed: what the
     /// root of the query prints from the body, by the list of primitives below the view. It takes
     /// at most 1,024 steps more than the budget, and no more than those by which it lowers the
-    /// number that is left (`shape_left`): so after finitely many calls the page is printed.
+    /// number that is left (`shape_left`): so after finitely many calls the page is printed. It
+    /// lowers by them, too, the number that is due (`shape_due`), which counts a step for each place
+    /// of the trees and 785 for each id that the page prints.
     /// `NotUnique`: two answers were found where one is asked; the path is the first such one.
     /// `Memory`: an allocation was refused, or a call before it came to a fault. After a reply
     /// nothing more is to be asked.
@@ -389,6 +428,11 @@ impl Shape {
         // comes to. Each place is below 2^32.
         ensures less { (n : ℕ) → 2 ^ 32 ≤ n → steps.new + shape_left n self.new
             ≤ steps.old + shape_left n self.old }
+
+        // It does the same to the steps that are due: those for the places of the trees and for the
+        // ids that the page prints.
+        ensures due { steps.new + shape_due (prims_of view.now) self.new
+            ≤ steps.old + shape_due (prims_of view.now) self.old }
         ensures work { steps.new ≤ steps.old + budget + 1024 }
         ensures later { steps.old ≤ steps.new }
     {

@@ -1,11 +1,11 @@
 //! What is at hand while a page is printed.
-ghost use Rattle.std.specs.Prelude.{◌≡◌, ◌≤◌, IfErr, IfOk, IfSome, IsTrue, slice_get};
+ghost use Rattle.std.specs.Prelude.{◌≡◌, ◌≤◌, [], ◌∷◌, IfErr, IfOk, IfSome, IsTrue, slice_get};
 ghost use Rattle.std.specs.Option.{option_copied};
 ghost use Rattle.gd_prim.specs.History.{prims_of};
 ghost use Rattle.gd_prim.specs.WellFormed.{may_hold};
 ghost use Rattle.gd_defs.specs.Ids.{id_text};
 ghost use Rattle.gd_shape.specs.Knowing.{IsKnownOf};
-ghost use Rattle.gd_shape.specs.Outcome.{Lacks};
+ghost use Rattle.gd_shape.specs.Outcome.{Lacks, LacksOf};
 ghost use Rattle.gd_shape.specs.declared.sight.Lack.TheVariants.{Memory as no_memory};
 
 use crate::known::Known;
@@ -92,6 +92,8 @@ impl<'a> Sight<'a> {
         requires { IsKnownOf self.now ids.now }
         ensures id { IfOk result (λ text. text ≡ id_text self.now object) }
         ensures lacks { IfErr result (λ lack. Lacks ids.now lack) }
+        ensures listed { IfErr result (λ lack. LacksOf
+            (object ∷ []) lack) }
     {
         match ids.at(object) {
             Some(text) => Ok(text.copy()?),

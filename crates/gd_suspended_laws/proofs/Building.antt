@@ -38,7 +38,7 @@ use Rattle.gd_suspended_laws.proofs.Windows.{best_of, best_known, best_again, ke
 
 -- ---- lists
 
-any_none : {A : Type 0} (f : A → Bool) (xs : List A) (x : A) → list_any f xs ≡ false → In x xs → f x ≡ false
+pub any_none : {A : Type 0} (f : A → Bool) (xs : List A) (x : A) → list_any f xs ≡ false → In x xs → f x ≡ false
 any_none f [] x none here = absurd here
 any_none f (y ∷ ys) x none (inl same) = subst (λ z. f z ≡ false) same (first_off (f y) (list_any f ys) none)
   where

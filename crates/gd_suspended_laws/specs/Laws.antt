@@ -1,6 +1,6 @@
 -- The laws of readings that are suspended.
-use Rattle.std.specs.Prelude.{◌≡◌, ◌<◌, ◌≤◌, ℕ, ◌+◌, List, [], ◌∷◌, ◌++◌, map, filter, length, Bool, true, false, nat_lt, Option, Some, None, Ok, if◌then◌else◌, codes, Err}
-use Rattle.std.specs.List.{list_any}
+use Rattle.std.specs.Prelude.{◌≡◌, ◌<◌, ◌≤◌, ℕ, ◌+◌, List, [], ◌∷◌, ◌++◌, map, filter, take, drop, length, slice_get, Bool, true, false, nat_lt, Option, Some, None, Ok, if◌then◌else◌, codes, Err}
+use Rattle.std.specs.List.{list_any, enumerate_from}
 use Rattle.std.specs.Ordering.{nat_cmp}
 use Rattle.gd_prim.specs.declared.Primitive.{Primitive}
 use Rattle.gd_prim.specs.Live.{objects}
@@ -87,11 +87,21 @@ abbrev pub ScansEndEarly : Type 0
 ScansEndEarly = (prims : List Primitive) (q : Asked) (order : ScanOrder) (after : Option Mark) (s : Scan) (w : Kept) (places : List ℕ) (last : ℕ) → IsListed prims q order places
     → (has : HasScanned prims q after order s w) → IsLast has.given last → ((o : ℕ) → In o places → last < o → ChangesNothing prims q w o) → (e : Scan) × (HasScanned prims q after order e w × AtEnd prims order (template_of q) e)
 
--- Where places rise, each that passes is one of them, and all of them were visited, a scan of these may go to its end with the window that has seen their rows.
+-- Where each place that passes is one of a list, which has none twice, and all of the list were visited, a scan of these one after another may go to its end with the window that has seen their rows.
 abbrev pub VisitsEnd : Type 0
-VisitsEnd = (prims : List Primitive) (written : Query) (q : Asked) (after : Option Mark) (places : List ℕ) (w : Kept) → AreHeld prims → asked_query prims written ≡ Ok q → Rising nat_cmp places
+VisitsEnd = (prims : List Primitive) (written : Query) (q : Asked) (after : Option Mark) (places : List ℕ) (w : Kept) → AreHeld prims → asked_query prims written ≡ Ok q → Apart nat_cmp places
     → ((o : ℕ) → passes_template prims (template_of q) o ≡ true → In o places) → HasVisited prims q after places w
-    → (e : Scan) × (HasScanned prims q after (set_order prims (named_places places)) e w × AtEnd prims (set_order prims (named_places places)) (template_of q) e)
+    → IsOrderOf prims q (enumerate_from 0 places) × ((e : Scan) × (HasScanned prims q after (enumerate_from 0 places) e w × AtEnd prims (enumerate_from 0 places) (template_of q) e))
+
+-- Where the first places of a list were visited, and none of the others would change anything, all were.
+abbrev pub VisitsEndEarly : Type 0
+VisitsEndEarly = (prims : List Primitive) (q : Asked) (after : Option Mark) (places : List ℕ) (n : ℕ) (w : Kept) → HasVisited prims q after (take n places) w → ((o : ℕ) → In o (drop n places) → ChangesNothing prims q w o)
+    → HasVisited prims q after places w
+
+-- Where one place passes and weighs too much, the answer to the query is the refusal that says so.
+abbrev pub HeavyVisitsRefuse : Type 0
+HeavyVisitsRefuse = (prims : List Primitive) (written : Query) (q : Asked) (o : ℕ) → AreHeld prims → asked_query prims written ≡ Ok q → passes_template prims (template_of q) o ≡ true → max_candidate_weight < weight prims (template_of q) o
+    → (dateline : ℕ) (with_cursor : Bool) (after : Option Mark) → answer prims dateline with_cursor after written ≡ Err (too_wide (max_candidate_weight + 1))
 
 -- Where all is known of the next candidate, which does not weigh too much, and its row was offered if it answers, the scan may go on behind it.
 abbrev pub ScansPass : Type 0
@@ -129,6 +139,17 @@ PagesPrint = (prims : List Primitive) (q : Asked) (order : ScanOrder) (dateline 
     → weight_among prims q (page_objects w) ≤ max_page_weight
     → body_answer prims q order dateline with_cursor after (marks_of w) (building 0 no_trees start)
     ≡ body_answer prims q order dateline with_cursor after (marks_of w) (printing 0 (trees_of (trees_among prims q (page_objects w))) [])
+
+-- Where those of the first rows of a page that answer weigh too much together, the reading owes the refusal that says so.
+abbrev pub PagesRefuse : Type 0
+PagesRefuse = (prims : List Primitive) (q : Asked) (order : ScanOrder) (dateline : ℕ) (with_cursor : Bool) (after : Option Mark) (w : Kept) → IsKept prims q after w → q.count ≡ false → (n : ℕ)
+    → max_page_weight < weight_among prims q (take n (page_objects w))
+    → body_answer prims q order dateline with_cursor after (marks_of w) (building 0 no_trees start) ≡ Err (too_wide (max_page_weight + 1))
+
+-- No row of a page weighs too much by itself, if it passes.
+abbrev pub RowsAreLight : Type 0
+RowsAreLight = (prims : List Primitive) (q : Asked) (after : Option Mark) (w : Kept) → IsKept prims q after w → (n o : ℕ) → slice_get (page_objects w) n ≡ Some o → passes_template prims (template_of q) o ≡ true
+    → weight prims (template_of q) o ≤ max_candidate_weight
 
 -- Where a row that is still to be built weighs too much, the reading owes the refusal that says so.
 abbrev pub HeavyBuildsRefuse : Type 0

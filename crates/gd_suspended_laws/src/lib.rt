@@ -5,12 +5,14 @@
 
 ghost use Rattle.gd_suspended_laws.specs.Laws.{BuildsGo, EverythingIs, FewerAre, FullAre};
 ghost use Rattle.gd_suspended_laws.specs.Laws.{HeavyBuildsRefuse, HeavyPagesRefuse};
-ghost use Rattle.gd_suspended_laws.specs.Laws.{HeavyScansRefuse, LinksAreDefined, ManyRefuse};
-ghost use Rattle.gd_suspended_laws.specs.Laws.{NamedAre, OrdersAre, PagesPrint, PrintsOwe};
+ghost use Rattle.gd_suspended_laws.specs.Laws.{HeavyScansRefuse, HeavyVisitsRefuse};
+ghost use Rattle.gd_suspended_laws.specs.Laws.{LinksAreDefined, ManyRefuse};
+ghost use Rattle.gd_suspended_laws.specs.Laws.{NamedAre, OrdersAre, PagesPrint, PagesRefuse};
+ghost use Rattle.gd_suspended_laws.specs.Laws.{PrintsOwe, RowsAreLight};
 ghost use Rattle.gd_suspended_laws.specs.Laws.{ScansEndEarly, ScansEndHere, ScansKeep, ScansOwe, ScansPass};
 ghost use Rattle.gd_suspended_laws.specs.Laws.{StartsOwe};
 ghost use Rattle.gd_suspended_laws.specs.Laws.{ThenBuilds, ThenCounts, ThenPrints, TreesTellKeys};
-ghost use Rattle.gd_suspended_laws.specs.Laws.{VisitsEnd};
+ghost use Rattle.gd_suspended_laws.specs.Laws.{VisitsEnd, VisitsEndEarly};
 
 /// The sort keys of an object stand where its tree tells.
 pub fn trees_tell_keys()
@@ -75,6 +77,16 @@ pub fn visits_end()
     ensures { VisitsEnd }
 {}
 
+/// Where the places that are left would change nothing, all were visited.
+pub fn visits_end_early()
+    ensures { VisitsEndEarly }
+{}
+
+/// Where a place passes and weighs too much, the answer is the refusal that says so.
+pub fn heavy_visits_refuse()
+    ensures { HeavyVisitsRefuse }
+{}
+
 /// Where all is known of the next candidate, the scan may go on behind it.
 pub fn scans_pass()
     ensures { ScansPass }
@@ -104,6 +116,17 @@ pub fn builds_go()
 /// together.
 pub fn pages_print()
     ensures { PagesPrint }
+{}
+
+/// Where those of the first rows of a page that answer weigh too much together, the reading owes
+/// the refusal that says so.
+pub fn pages_refuse()
+    ensures { PagesRefuse }
+{}
+
+/// No row of a page weighs too much by itself, if it passes.
+pub fn rows_are_light()
+    ensures { RowsAreLight }
 {}
 
 /// Where a row that is still to be built weighs too much, the reading owes the refusal that says

@@ -7,3 +7,4 @@ pub mod Gone
 pub mod Grown
 pub mod Freezing
 pub mod Few
+pub mod Alone

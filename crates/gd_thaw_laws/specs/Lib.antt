@@ -2,3 +2,4 @@ pub mod Thawing
 pub mod Gone
 pub mod Grown
 pub mod Freezing
+pub mod Alone

@@ -114,7 +114,7 @@ impl Window {
     /// order the rows, as many are kept as may be, and the objects of all of these are less. The
     /// same is true of each greater object then. It takes no memory.
     pub fn is_past(&self, id: Id) -> bool
-        ensures { result ≡ true → (row : Row) → row.id ≡ id → (offered : List Row)
+        ensures { result ≡ true → (row : Row) → id ≤ row.id → (offered : List Row)
             → HasSeen self.now offered → HasSeen self.now (offered ++ row ∷ []) }
     {
         if !self.order.as_slice().is_empty() {

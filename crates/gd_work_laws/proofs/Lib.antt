@@ -9,8 +9,8 @@ pub mod Smallest
 pub mod Rows
 pub mod Sorts
 pub mod Below
-pub mod Counted
 pub mod Ids
+pub mod Passed
 pub mod Reading
 pub mod Sources
 pub mod Laws

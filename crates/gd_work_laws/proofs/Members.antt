@@ -54,10 +54,10 @@ module _ (prims : List Primitive) (p : Property) (cs : List Constraint) (inner :
       sum : (l f a b : ℕ) → l ≡ f → a ≤ b → 3 + l + a ≤ 3 + f + b
       sum l f a b one two = omega (arith, one, two)
 
-  test_most : (mode : Mode) → one_test prims mode p of_links s ≤ 3 + few prims p s + sum_by (clauses_test_turns prims inner) (near prims p s)
+  pub test_most : (mode : Mode) → one_test prims mode p of_links s ≤ 3 + few prims p s + sum_by (clauses_test_turns prims inner) (near prims p s)
   test_most mode = if_most (is_tested mode (links_by (asked_end p)) of_links) _ _ tests_most
 
-  build_most : one_build prims p of_links s ≤ 3 + few prims p s + sum_by (λ k. clauses_test_turns prims inner k + (1 + clauses_build_turns prims inner k)) (near prims p s)
+  pub build_most : one_build prims p of_links s ≤ 3 + few prims p s + sum_by (λ k. clauses_test_turns prims inner k + (1 + clauses_build_turns prims inner k)) (near prims p s)
   build_most = sum _ _ _ _ (looked_few prims p s cs inner)
       (links_sum prims p s cs (λ x. test_turns prims of_links x + (if passes_template prims of_links x then build_turns prims of_links x else 0))
       (λ k. clauses_test_turns prims inner k + (1 + clauses_build_turns prims inner k)) (λ x is. rw is refl)
@@ -115,7 +115,7 @@ below prims a c o = if holds_values (expects_of a.property.expected) && not a.pr
 abbrev pub taken : List Primitive → List SortKey → Members → ℕ → ℕ
 taken prims sort ms s = clauses_build_turns prims (clauses_of sort ms) s + 2 * clauses_test_turns prims (clauses_of sort ms) s
 
-is_not_literal : (mode : Mode) (cs : List Constraint) (p : Property) (tests : List Constraint) (nested : Clauses) → is_tested mode (links_by (asked_end p))
+pub is_not_literal : (mode : Mode) (cs : List Constraint) (p : Property) (tests : List Constraint) (nested : Clauses) → is_tested mode (links_by (asked_end p))
     (template (end_is Typ p.stored ∷ cs) (clause required (Rattle.gd_defs.specs.Template.end_here (Rattle.gd_defs.specs.Plan.answer_end p)) (template (is_object ∷ tests) (unless_literal false nested)) no_clauses)) ≡ false
 is_not_literal mode cs p tests nested =
     ap (λ b. is_required mode && (false || (list_all is_literal_constraint cs && (b && true)))) (and-false (list_all is_literal_constraint tests))
@@ -262,7 +262,7 @@ module _ (prims : List Primitive) (a : Asking) (c : Members) (s : ℕ) (formed :
 
 -- ---- sort keys
 
-key_known : (k : Key) → (k ≡ by_guid) ⊎ ((k ≡ by_timestamp) ⊎ ((p : Property) × (k ≡ by_property p)))
+pub key_known : (k : Key) → (k ≡ by_guid) ⊎ ((k ≡ by_timestamp) ⊎ ((p : Property) × (k ≡ by_property p)))
 key_known by_guid = inl refl
 key_known by_timestamp = inr (inl refl)
 key_known (by_property p) = inr (inr (p, refl))

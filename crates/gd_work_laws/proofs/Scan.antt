@@ -64,22 +64,25 @@ module _ (prims : List Primitive) (q : Asked) (formed : AreFormed q.members) whe
       one None = omega arith
       one (Some o) = candidate_paid o (first_turns prims a c o) (first o)
 
-  -- ---- the sets of a query
+-- ---- the sets of a query
 
-  link_sets_paid : (a : Asking) (c : Members) (t : Test) → ((o : ℕ) → first_turns prims a c o ≤ clauses_test_turns prims (clauses_of q.sort q.members) o) → Each IsPaid (link_sets prims a c t)
-  link_sets_paid a c (equals d) first = (links_paid a c (with_typ prims a.property) first, (links_paid a c (with_far prims a.property d) first, tt))
-  link_sets_paid a c _ first = (links_paid a c (with_typ prims a.property) first, tt)
+-- a fact of each set of a query: of all places, of those that are named, and of the links of a member for which a place is looked for in no more turns than its test takes
+module _ (prims : List Primitive) (q : Asked) (P : RootSet → Type 0) (all : P everything) (places : (ps : List ℕ) → P (named_places ps))
+    (of_links : (a : Asking) (c : Members) (links : List ℕ) → ((o : ℕ) → first_turns prims a c o ≤ clauses_test_turns prims (clauses_of q.sort q.members) o) → P (links_of a c links)) where
+  link_sets_each : (a : Asking) (c : Members) (t : Test) → ((o : ℕ) → first_turns prims a c o ≤ clauses_test_turns prims (clauses_of q.sort q.members) o) → Each P (link_sets prims a c t)
+  link_sets_each a c (equals d) first = (of_links a c (with_typ prims a.property) first, (of_links a c (with_far prims a.property d) first, tt))
+  link_sets_each a c _ first = (of_links a c (with_typ prims a.property) first, tt)
 
-  by_link_paid : (ms : Members) → AreAsked ms → ((o : ℕ) → clauses_test_turns prims (clauses_of q.sort ms) o ≤ clauses_test_turns prims (clauses_of q.sort q.members) o) → Each IsPaid (sets_by_link prims ms)
-  by_link_paid no_members are within = tt
-  by_link_paid (own name its_id t j ms) are within = by_link_paid ms are.1 within
-  by_link_paid (own name its_guid t j ms) are within = by_link_paid ms are.1 within
-  by_link_paid (own name Rattle.gd_defs.specs.Asked.its_timestamp t j ms) are within = by_link_paid ms are.1 within
-  by_link_paid (own name Rattle.gd_defs.specs.Asked.its_link t j ms) are within = by_link_paid ms are.1 within
-  by_link_paid (own name Rattle.gd_defs.specs.Asked.its_value t j ms) are within = absurd are
-  by_link_paid (own name Rattle.gd_defs.specs.Asked.its_namespace t j ms) are within = absurd are
-  by_link_paid (own name Rattle.gd_defs.specs.Asked.its_lang t j ms) are within = absurd are
-  by_link_paid (asks name a c ms) are within = by a.given refl (by_link_paid ms are.1 (λ o. behind _ _ _ (within o)))
+  by_link_each : (ms : Members) → AreAsked ms → ((o : ℕ) → clauses_test_turns prims (clauses_of q.sort ms) o ≤ clauses_test_turns prims (clauses_of q.sort q.members) o) → Each P (sets_by_link prims ms)
+  by_link_each no_members are within = tt
+  by_link_each (own name its_id t j ms) are within = by_link_each ms are.1 within
+  by_link_each (own name its_guid t j ms) are within = by_link_each ms are.1 within
+  by_link_each (own name Rattle.gd_defs.specs.Asked.its_timestamp t j ms) are within = by_link_each ms are.1 within
+  by_link_each (own name Rattle.gd_defs.specs.Asked.its_link t j ms) are within = by_link_each ms are.1 within
+  by_link_each (own name Rattle.gd_defs.specs.Asked.its_value t j ms) are within = absurd are
+  by_link_each (own name Rattle.gd_defs.specs.Asked.its_namespace t j ms) are within = absurd are
+  by_link_each (own name Rattle.gd_defs.specs.Asked.its_lang t j ms) are within = absurd are
+  by_link_each (asks name a c ms) are within = by a.given refl (by_link_each ms are.1 (λ o. behind _ _ _ (within o)))
     where
       behind : (x r w : ℕ) → x + r ≤ w → r ≤ w
       behind x r w less = omega (arith, less)
@@ -94,30 +97,31 @@ module _ (prims : List Primitive) (q : Asked) (formed : AreFormed q.members) whe
           whole : (f x r w : ℕ) → f ≤ x → x + r ≤ w → f ≤ w
           whole f x r w one two = omega (arith, one, two)
 
-      by : (b : Bool) → a.given ≡ b → Each IsPaid (sets_by_link prims ms) → Each IsPaid (if b then link_sets prims a c a.test ++ sets_by_link prims ms else sets_by_link prims ms)
-      by true given rest = Each-both IsPaid (link_sets prims a c a.test) (sets_by_link prims ms) (link_sets_paid a c a.test (first given)) rest
+      by : (b : Bool) → a.given ≡ b → Each P (sets_by_link prims ms) → Each P (if b then link_sets prims a c a.test ++ sets_by_link prims ms else sets_by_link prims ms)
+      by true given rest = Each-both P (link_sets prims a c a.test) (sets_by_link prims ms) (link_sets_each a c a.test (first given)) rest
       by false given rest = rest
 
-  option_paid : (o : Option (List ℕ)) → Each IsPaid (option_to_list (Rattle.std.specs.Prelude.option_map named_places o))
-  option_paid None = tt
-  option_paid (Some places) = (places_paid places, tt)
+  option_each : (o : Option (List ℕ)) → Each P (option_to_list (Rattle.std.specs.Prelude.option_map named_places o))
+  option_each None = tt
+  option_each (Some ps) = (places ps, tt)
 
-  named_paid : (w : Own) (t : Test) → Each IsPaid (named_sets w t)
-  named_paid its_id t = option_paid (named t)
-  named_paid its_guid t = option_paid (named t)
-  named_paid _ t = tt
+  named_each : (w : Own) (t : Test) → Each P (named_sets w t)
+  named_each its_id t = option_each (named t)
+  named_each its_guid t = option_each (named t)
+  named_each _ t = tt
 
-  by_name_paid : (ms : Members) → Each IsPaid (sets_by_name ms)
-  by_name_paid no_members = tt
-  by_name_paid (own name w t j ms) = Each-both IsPaid (named_sets w t) (sets_by_name ms) (named_paid w t) (by_name_paid ms)
-  by_name_paid (asks name a c ms) = by_name_paid ms
+  by_name_each : (ms : Members) → Each P (sets_by_name ms)
+  by_name_each no_members = tt
+  by_name_each (own name w t j ms) = Each-both P (named_sets w t) (sets_by_name ms) (named_each w t) (by_name_each ms)
+  by_name_each (asks name a c ms) = by_name_each ms
 
-  everything_paid : IsPaid everything
-  everything_paid = places_paid (places_where (λ p. true) prims)
-
-  pub sets_paid : AreAsked q.members → Each IsPaid (root_sets prims q.members)
-  sets_paid are = by (sets_by_name q.members ++ sets_by_link prims q.members) refl (Each-both IsPaid (sets_by_name q.members) (sets_by_link prims q.members) (by_name_paid q.members) (by_link_paid q.members are (λ o. omega arith)))
+  pub sets_each : AreAsked q.members → Each P (root_sets prims q.members)
+  sets_each are = by (sets_by_name q.members ++ sets_by_link prims q.members) refl (Each-both P (sets_by_name q.members) (sets_by_link prims q.members) (by_name_each q.members) (by_link_each q.members are (λ o. omega arith)))
     where
-      by : (l : List RootSet) → sets_by_name q.members ++ sets_by_link prims q.members ≡ l → Each IsPaid (sets_by_name q.members ++ sets_by_link prims q.members) → Each IsPaid (root_sets prims q.members)
-      by [] is all = rw is (everything_paid, tt)
-      by (s ∷ ss) is all = rw is (rw is at all)
+      by : (l : List RootSet) → sets_by_name q.members ++ sets_by_link prims q.members ≡ l → Each P (sets_by_name q.members ++ sets_by_link prims q.members) → Each P (root_sets prims q.members)
+      by [] is each = rw is (all, tt)
+      by (s ∷ ss) is each = rw is (rw is at each)
+
+-- LAW: the work of each set pays for the scan of it
+pub sets_paid : (prims : List Primitive) (q : Asked) (formed : AreFormed q.members) → AreAsked q.members → Each (IsPaid prims q formed) (root_sets prims q.members)
+sets_paid prims q formed = sets_each prims q (IsPaid prims q formed) (places_paid prims q formed (places_where (λ p. true) prims)) (places_paid prims q formed) (links_paid prims q formed)

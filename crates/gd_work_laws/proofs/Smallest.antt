@@ -124,7 +124,7 @@ fold_min_start a (x ∷ xs) = by _ _ (fold_min_start (min a x) xs)
     by : (x t : ℕ) → t ≤ min a x → t ≤ a
     by x t less = omega (arith, less)
 
-fold_min_in : (a : ℕ) (xs : List ℕ) (x : ℕ) → In x xs → fold min a xs ≤ x
+pub fold_min_in : (a : ℕ) (xs : List ℕ) (x : ℕ) → In x xs → fold min a xs ≤ x
 fold_min_in a [] x here = absurd here
 fold_min_in a (y ∷ ys) x (inl same) = by _ _ same (fold_min_start (min a y) ys)
   where

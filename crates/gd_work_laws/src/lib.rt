@@ -3,14 +3,20 @@
 #![tactic(auto)]
 
 ghost use Rattle.gd_work_laws.specs.Laws.{CandidatesArePaid, CandidatesAreThere, ChosenAreSmallest};
-ghost use Rattle.gd_work_laws.specs.Laws.{ClausesArePaid, CountsArePaid, FewerWalkTheSame};
-ghost use Rattle.gd_work_laws.specs.Laws.{IdsArePaid, PlacesArePaid, PlacesBelowArePaid};
-ghost use Rattle.gd_work_laws.specs.Laws.{ReadingsArePaid, RowsArePaid, ScansArePaid};
-ghost use Rattle.gd_work_laws.specs.Laws.{SourcesAreSets, TreesAreBelow};
+ghost use Rattle.gd_work_laws.specs.Laws.{ClausesArePaid, FewerWalkTheSame, IdsArePaid};
+ghost use Rattle.gd_work_laws.specs.Laws.{PagesArePaid, PassedArePaid, PlacesArePaid};
+ghost use Rattle.gd_work_laws.specs.Laws.{PlacesBelowArePaid, PlacesHold, ReadingsArePaid};
+ghost use Rattle.gd_work_laws.specs.Laws.{RowsArePaid, ScansArePaid, SourcesAreSets};
+ghost use Rattle.gd_work_laws.specs.Laws.{TreesAreBelow, VisitsArePaid};
 
 /// The work of an object pays for building its tree, and for two tests of it.
 pub fn clauses_are_paid()
     ensures { ClausesArePaid }
+{}
+
+/// The work of an object pays for its test, and where it passes for building its tree.
+pub fn passed_are_paid()
+    ensures { PassedArePaid }
 {}
 
 /// The first of the smallest sets is one of the smallest.
@@ -48,11 +54,6 @@ pub fn places_below_are_paid()
     ensures { PlacesBelowArePaid }
 {}
 
-/// It pays for these places as they are counted, too.
-pub fn counts_are_paid()
-    ensures { CountsArePaid }
-{}
-
 /// The tree of a place has no more places than are looked at below it, and its own.
 pub fn trees_are_below()
     ensures { TreesAreBelow }
@@ -63,8 +64,23 @@ pub fn ids_are_paid()
     ensures { IdsArePaid }
 {}
 
-/// A reading that visits the places of a smallest set and then scans that set takes no more steps
-/// than the bound on its work.
+/// The steps of a place hold those of judging and of trying it.
+pub fn places_hold()
+    ensures { PlacesHold }
+{}
+
+/// The work of a query pays for visiting the candidates of each of its smallest sets.
+pub fn visits_are_paid()
+    ensures { VisitsArePaid }
+{}
+
+/// It pays for gathering and printing the rows of a page.
+pub fn pages_are_paid()
+    ensures { PagesArePaid }
+{}
+
+/// A reading that visits the candidates of a smallest set, and gathers and prints its page, takes
+/// no more steps than the bound on its work.
 pub fn readings_are_paid()
     ensures { ReadingsArePaid }
 {}
