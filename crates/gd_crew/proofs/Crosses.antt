@@ -27,17 +27,15 @@ use Rattle.gd_seats.specs.contracts.session.Session as session
 use Rattle.gd_shape.proofs.known.Known.TheSendSync as known
 use Rattle.gd_shape.specs.contracts.shape.Shape as shape
 use Rattle.gd_shared.proofs.seat.Seat.TheSendSync as seat
-use Rattle.gd_read.specs.contracts.building.Building as building
-use Rattle.gd_read.specs.contracts.checking.Checking as checking
 use Rattle.gd_read.specs.contracts.gathering.Gathered as gathered
 use Rattle.gd_read.specs.contracts.gathering.Gathering as gathering
 use Rattle.gd_read.specs.contracts.query.QueryReading as query
 use Rattle.gd_read.specs.contracts.reading.Reading as reading
-use Rattle.gd_read.specs.contracts.scanning.Scanning as scanning
 use Rattle.gd_read.specs.contracts.several.Part as part
 use Rattle.gd_read.specs.contracts.several.SeveralReading as several
 use Rattle.gd_read.specs.contracts.stage.Stage as stage
 use Rattle.gd_read.specs.contracts.subject.Subject as subject
+use Rattle.gd_read.specs.contracts.trying.Trying as trying
 use Rattle.gd_read.specs.contracts.visiting.Visiting as visiting
 use Rattle.gd_template.proofs.constraint.Constraint.TheSendSync as constraint
 use Rattle.gd_template.proofs.template.Hop.TheSendSync as hop
@@ -87,26 +85,20 @@ shape_field = search (sendable, crosses, asked_field, known.the_send, text.the_s
 subject_field : IsSend (subject.the_field).row
 subject_field = search (sendable, crosses, request_field, cursor_sent.the_field_send) depth 40 fits 5000
 
+trying_field : IsSend (trying.the_field).row
+trying_field = search (sendable, crosses, matcher_field) depth 40 fits 5000
+
 visiting_field : IsSend (visiting.the_field).row
-visiting_field = search (sendable, crosses, plan_field, candidates.the_field_send) depth 40 fits 5000
-
-scanning_field : IsSend (scanning.the_field).row
-scanning_field = search (sendable, crosses, plan_field, matcher_field) depth 40 fits 5000
-
-checking_field : IsSend (checking.the_field).row
-checking_field = search (sendable, crosses, plan_field, matcher_field) depth 40 fits 5000
+visiting_field = search (sendable, crosses, plan_field, candidates.the_field_send, trying_field) depth 40 fits 5000
 
 gathered_field : IsSend (gathered.the_field).row
 gathered_field = search (sendable, crosses, tree_knot.crosses) depth 40 fits 5000
 
 gathering_field : IsSend (gathering.the_field).row
-gathering_field = search (sendable, crosses, plan_field, gathered_field) depth 40 fits 5000
-
-building_field : IsSend (building.the_field).row
-building_field = search (sendable, crosses, plan_field, matcher_field, tree_knot.crosses) depth 40 fits 5000
+gathering_field = search (sendable, crosses, plan_field, gathered_field, trying_field) depth 40 fits 5000
 
 stage_field : IsSend (stage.the_field).row
-stage_field = search (sendable, crosses, visiting_field, scanning_field, checking_field, gathering_field, building_field, shape_field) depth 40 fits 5000
+stage_field = search (sendable, crosses, visiting_field, gathering_field, shape_field) depth 40 fits 5000
 
 query_field : IsSend (query.the_field).row
 query_field = search (sendable, crosses, subject_field, window_sent.the_send, stage_field) depth 40 fits 5000
