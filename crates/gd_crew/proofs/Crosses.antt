@@ -8,6 +8,7 @@ use Rattle.gd_json.proofs.value.JsonText.TheSendSync as text
 use Rattle.gd_match.proofs.matcher.MatchFault.TheSendSync as match_fault
 use Rattle.gd_match.proofs.places.Places.TheSendSync as places
 use Rattle.gd_match.proofs.root.RootScan.TheSendSync as scan
+use Rattle.gd_match.proofs.root.Walk.TheSendSync as walk
 use Rattle.gd_match.specs.contracts.frame.Current as current
 use Rattle.gd_match.specs.contracts.frame.Frame as frame
 use Rattle.gd_match.specs.contracts.matcher.Matcher as matcher
@@ -22,7 +23,6 @@ use Rattle.gd_plan.proofs.asked.Member.TheLaws.TheKnot as member_knot
 use Rattle.gd_plan.proofs.asked.SortKey.TheSendSync as sort
 use Rattle.gd_plan.specs.contracts.asked.Asked as asked
 use Rattle.gd_plan.specs.contracts.plan.Plan as plan
-use Rattle.gd_read.proofs.candidates.Candidates.TheSendSync as candidates
 use Rattle.gd_seats.specs.contracts.session.Session as session
 use Rattle.gd_shape.proofs.known.Known.TheSendSync as known
 use Rattle.gd_shape.specs.contracts.shape.Shape as shape
@@ -89,7 +89,7 @@ trying_field : IsSend (trying.the_field).row
 trying_field = search (sendable, crosses, matcher_field) depth 40 fits 5000
 
 visiting_field : IsSend (visiting.the_field).row
-visiting_field = search (sendable, crosses, plan_field, candidates.the_field_send, trying_field) depth 40 fits 5000
+visiting_field = search (sendable, crosses, plan_field, walk.the_field_send, trying_field) depth 40 fits 5000
 
 gathered_field : IsSend (gathered.the_field).row
 gathered_field = search (sendable, crosses, tree_knot.crosses) depth 40 fits 5000

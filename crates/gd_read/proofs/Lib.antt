@@ -1,5 +1,4 @@
 pub mod KeyLinks
-pub mod Looked
 pub mod Advanced
 pub mod Scanned
 pub mod Visited
@@ -15,3 +14,4 @@ pub mod Places
 pub mod RowsLeft
 pub mod Going
 pub mod Together
+pub mod Paid

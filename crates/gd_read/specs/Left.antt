@@ -10,9 +10,10 @@ use Rattle.gd_defs.specs.Plan.{template_of}
 use Rattle.gd_defs.specs.Template.{Template}
 use Rattle.gd_plan.specs.Asked.{asked_view}
 use Rattle.gd_work_laws.specs.Scan.{candidate_turns}
-use Rattle.gd_work_laws.specs.Reading.{place_steps, printing_most, page_most}
+use Rattle.gd_work_laws.specs.Reading.{place_steps, printing_most, page_most, visit_turns}
+use Rattle.gd_match.specs.Ahead.{walk_ahead}
 use Rattle.gd_match.specs.Resumed.{matcher_ahead}
-use Rattle.gd_read.specs.Candidates.{places_of}
+use Rattle.gd_match.specs.declared.root.Walk.{Walk}
 use Rattle.gd_shape.specs.Shaping.{shape_due}
 use Rattle.gd_read.specs.Marked.{mark_of}
 use Rattle.gd_read.specs.declared.trying.Trying.{Trying}
@@ -51,20 +52,11 @@ rows_most prims q os = sum_by (place_steps prims q) os
 abbrev pub prints_most : List Primitive → Asked → Option Mark → ℕ
 prints_most prims q after = if q.count || is_too_wide prims q after then 0 else printing_most prims q (page prims q after)
 
--- a place: judging it, and trying it
-abbrev pub place_most : List Primitive → Asked → ℕ → ℕ
-place_most prims q place = 1024 + 48 * (2 + candidate_turns prims q place)
-
--- places, one after the other
-abbrev pub places_most : List Primitive → Asked → List ℕ → ℕ
-places_most prims q places = sum_by (place_most prims q) places
+-- the places that a walk has yet to give: each is judged, and tried
+abbrev pub walk_most : List Batch → Asked → Walk → ℕ
+walk_most batches q walk = 48 * walk_ahead (visit_turns (prims_of batches) q) batches (template_of q) walk
 
 -- ---- a stage
-
--- the places that are not visited yet, without the one that is tried, if one is
-abbrev pub places_behind : List ℕ → ℕ → Option Trying → List ℕ
-places_behind places next None = drop next places
-places_behind places next (Some tried) = drop (next + 1) places
 
 -- what lies ahead of the matcher, if a place is tried
 abbrev pub tried_left : List Batch → Template → Option Trying → ℕ
@@ -74,14 +66,12 @@ tried_left batches t (Some tried) = 48 * matcher_ahead batches t tried.matcher +
 -- the place that is tried, those behind it, and the page
 abbrev pub visiting_left : ℕ → List Batch → Option Mark → Visiting → ℕ
 visiting_left n batches after v =
-    tried_left batches (template_of (asked_view v.plan)) v.tried + places_most (prims_of batches) (asked_view v.plan) (places_behind (places_of (prims_of batches) v.candidates) v.next v.tried) + 1024
-    + page_most (prims_of batches) (asked_view v.plan) after
+    tried_left batches (template_of (asked_view v.plan)) v.tried + walk_most batches (asked_view v.plan) v.walk + 2 + page_most (prims_of batches) (asked_view v.plan) after
 
--- a reading that begins to try its next place
+-- a reading that begins to try a place
 abbrev pub trying_most : ℕ → List Batch → Option Mark → Visiting → ℕ → ℕ
 trying_most n batches after v place =
-    48 * (2 + candidate_turns (prims_of batches) (asked_view v.plan) place) + 1 + places_most (prims_of batches) (asked_view v.plan) (drop (v.next + 1) (places_of (prims_of batches) v.candidates)) + 1024
-    + page_most (prims_of batches) (asked_view v.plan) after
+    48 * (2 + candidate_turns (prims_of batches) (asked_view v.plan) place) + 1 + walk_most batches (asked_view v.plan) v.walk + 2 + page_most (prims_of batches) (asked_view v.plan) after
 
 -- of a row that is tried: what lies ahead of its matcher, and one to keep its tree
 abbrev pub row_left : List Batch → Asked → Trying → ℕ

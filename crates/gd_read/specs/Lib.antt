@@ -1,4 +1,4 @@
-pub mod Candidates
+pub mod Come
 pub mod KeysAt
 pub mod Marked
 pub mod Subject
@@ -15,3 +15,4 @@ pub mod Left
 pub mod Session
 pub mod Lightness
 pub mod Heavy
+pub mod Paid

@@ -12,12 +12,14 @@ use Rattle.gd_defs.specs.Lines.{count_json}
 use Rattle.gd_defs.specs.Reply.{Mark, Answer, Path, is_ambiguous}
 use Rattle.gd_defs.specs.Reply as reply
 use Rattle.gd_bytes.specs.Frozen.{Body, building, printing}
+use Rattle.gd_runs.specs.Owed.{ScanOrder}
 use Rattle.gd_runs.specs.Scanned.{scan_order}
 use Rattle.gd_runs.specs.Shape.{page_shape}
 use Rattle.gd_runs.specs.Thawed.{body_answer}
 use Rattle.gd_runs.specs.Request.{asks_page}
 use Rattle.gd_scan_laws.specs.Ordered.{start}
-use Rattle.gd_suspended_laws.specs.Standing.{rows_of, marks_of, page_rows, HasVisited, IsKept, window_of, page_objects, trees_among, weight_among}
+use Rattle.gd_match.specs.Rooted.{walk_left, walk_order}
+use Rattle.gd_suspended_laws.specs.Standing.{rows_of, marks_of, page_rows, IsKept, window_of, page_objects, trees_among, weight_among}
 use Rattle.gd_left_laws.specs.Laws.{KeepsPage}
 use Rattle.gd_mql.specs.Requests.{cursor_view}
 use Rattle.gd_plan.specs.Asked.{asked_view}
@@ -28,7 +30,7 @@ use Rattle.gd_shape.specs.Shaping.{page_of, body_print, IsOf, IsBodyOf}
 use Rattle.gd_shape.specs.declared.shape.PageBody.{PageBody}
 use Rattle.gd_shape.specs.declared.shape.PageBody.TheVariants as page
 use Rattle.gd_shape.specs.declared.shape.Shape.{Shape}
-use Rattle.gd_read.specs.Candidates.{HasAll, places_of}
+use Rattle.gd_read.specs.Come.{HasAll, HasCome, places_of}
 use Rattle.gd_read.specs.Marked.{mark_of}
 use Rattle.gd_read.specs.Subject.{written, answer_of}
 use Rattle.gd_read.specs.declared.subject.Subject.{Subject}
@@ -61,18 +63,17 @@ body_owes batches s q w body = body_answer (prims_of batches) q (scan_order (pri
 
 -- ---- visiting places
 
--- the next place of a reading that visits is tried
-pub record IsTried (batches : List Batch) (v : Visiting) (tried : Trying) : Type 0 where
-  pub tries : Tries batches (template_of (asked_view v.plan)) tried
-  pub at : slice_get (places_of (prims_of batches) v.candidates) v.next ≡ Some tried.place
-  pub few : v.next < 2 ^ 63
+-- the places that are not visited yet: the one that is tried, if one is, and those that are left of a walk
+abbrev pub places_ahead : Option Trying → ScanOrder → List ℕ
+places_ahead None left = places_of left
+places_ahead (Some tried) left = tried.place ∷ places_of left
 
--- a reading visits the places at which candidates are looked for; it has visited the first of them, and the next one may be tried
+-- a reading visits the places of a walk, among which each that passes is; it has visited the first of them, and the next one may be tried
 pub record Visits (batches : List Batch) (s : Subject) (v : Visiting) (w : Kept) : Type 0 where
   pub asked : IsAsked batches s (asked_view v.plan)
-  pub finds : HasAll (passes_template (prims_of batches) (template_of (asked_view v.plan))) (places_of (prims_of batches) v.candidates)
-  pub visited : HasVisited (prims_of batches) (asked_view v.plan) (mark_of s.after) (take v.next (places_of (prims_of batches) v.candidates)) w
-  pub tried : IfSome v.tried (IsTried batches v)
+  pub finds : HasAll (prims_of batches) (template_of (asked_view v.plan)) (walk_order batches (template_of (asked_view v.plan)) v.walk)
+  pub come : HasCome (prims_of batches) (asked_view v.plan) (mark_of s.after) (places_of (walk_order batches (template_of (asked_view v.plan)) v.walk)) (places_ahead v.tried (walk_left batches (template_of (asked_view v.plan)) v.walk)) w
+  pub tried : IfSome v.tried (Tries batches (template_of (asked_view v.plan)))
 
 -- ---- the end of a scan
 

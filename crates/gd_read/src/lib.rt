@@ -4,7 +4,6 @@
 mod advance;
 mod answers;
 mod building;
-pub mod candidates;
 mod cursors;
 pub mod dateline;
 pub mod fault;

@@ -7,6 +7,7 @@ ghost use Rattle.gd_prim.specs.History.{prims_of};
 ghost use Rattle.gd_defs.specs.Asked.{asked_query};
 ghost use Rattle.gd_defs.specs.Reply.{unknown_refusal};
 ghost use Rattle.gd_runs.specs.Core as core;
+ghost use Rattle.gd_runs.specs.Pace.{DueOf, first_number};
 ghost use Rattle.gd_runs.specs.Request.{page_after, one_query};
 ghost use Rattle.gd_mql.specs.Requests.{cursor_view, read_view};
 ghost use Rattle.gd_plan.specs.Asked.{asked_view};
@@ -22,6 +23,7 @@ ghost use Rattle.gd_read.specs.Subject.{answer_of};
 ghost use Rattle.gd_read.specs.Stages.{IsAsked};
 ghost use Rattle.gd_read.specs.Query.{one_view, QueryGoes, owed_answer, Gives, is_unanswered};
 ghost use Rattle.gd_read.specs.Left.{IsPastIds, query_left};
+ghost use Rattle.gd_read.specs.Paid.{QueryIsPaid};
 
 use crate::fault::ReadFault;
 use crate::first::first_stage;
@@ -149,12 +151,13 @@ pub(crate) fn plan_at<L>(
 }
 
 /// The reading of a window that has seen nothing, with its first stage.
-fn begun_with(
+fn begun_with<L>(
     alloc: Global,
     view: &View<'_>,
     subject: Subject,
     window: Window,
     plan: Plan,
+    steps: &mut Steps<L>,
 ) -> Result<QueryReading, Memory>
     requires asked { IsAsked view.now subject (asked_view plan) }
     requires made { window ≡ window_of (prims_of view.now) (asked_view plan) (mark_of subject.after)
@@ -162,8 +165,10 @@ fn begun_with(
     requires seen { HasSeen window [] }
     ensures subject { IfOk result (λ reading. reading.subject ≡ subject) }
     ensures going { IfOk result (λ reading. QueryGoes view.now reading) }
+    ensures paid { IfOk result (λ reading. QueryIsPaid view.now reading) }
+    ensures later { steps.old ≤ steps.new }
 {
-    match first_stage(alloc, view, plan) {
+    match first_stage(alloc, view, plan, steps) {
         Ok(stage) => Ok(QueryReading {
             subject,
             window,
@@ -178,18 +183,21 @@ fn begun_with(
 }
 
 /// The reading of a plan that has given nothing yet.
-fn begun(
+fn begun<L>(
     alloc: Global,
     view: &View<'_>,
     subject: Subject,
     plan: Plan,
+    steps: &mut Steps<L>,
 ) -> Result<QueryReading, Memory>
     requires asked { IsAsked view.now subject (asked_view plan) }
     ensures subject { IfOk result (λ reading. reading.subject ≡ subject) }
     ensures going { IfOk result (λ reading. QueryGoes view.now reading) }
+    ensures paid { IfOk result (λ reading. QueryIsPaid view.now reading) }
+    ensures later { steps.old ≤ steps.new }
 {
     match window_behind(alloc, view, plan.asked(), &subject.after) {
-        Ok(window) => begun_with(alloc, view, subject, window, plan),
+        Ok(window) => begun_with(alloc, view, subject, window, plan, steps),
         Err(refused) => {
             drop(subject);
             drop(plan);
@@ -199,13 +207,14 @@ fn begun(
 }
 
 /// The reading of a request with its plan, at the view's dateline, from behind a cursor if there is
-/// one.
-pub(crate) fn planned(
+/// one. Choosing the places to visit takes steps.
+pub(crate) fn planned<L>(
     alloc: Global,
     view: &View<'_>,
     after: Option<Cursor>,
     request: ReadRequest,
     plan: Plan,
+    steps: &mut Steps<L>,
 ) -> Result<QueryReading, Memory>
     requires planned { asked_query (prims_of view.now) (read_view request).query
         ≡ Ok (asked_view plan) }
@@ -215,6 +224,8 @@ pub(crate) fn planned(
       after = after;
     }) }
     ensures going { IfOk result (λ reading. QueryGoes view.now reading) }
+    ensures paid { IfOk result (λ reading. QueryIsPaid view.now reading) }
+    ensures later { steps.old ≤ steps.new }
 {
     // Each primitive below the end may hold its value.
     let _end = view.end();
@@ -223,7 +234,7 @@ pub(crate) fn planned(
         dateline: view.dateline(),
         after,
     };
-    begun(alloc, view, subject, plan)
+    begun(alloc, view, subject, plan, steps)
 }
 
 /// The reading of a request at the view's dateline, from behind a cursor if there is one.
@@ -241,6 +252,7 @@ fn begin_at<L>(
         → core.with_meaning [] (read_view request) (length view.now) (mark_of after)
         (asked_query (prims_of view.now) (read_view request).query) ≡ Err (fault_at latest fault)) }
     ensures going { IfOk result (λ reading. QueryGoes view.now reading) }
+    ensures paid { IfOk result (λ reading. QueryIsPaid view.now reading) }
     ensures offset { IfErr result (λ fault. HasOffset fault) }
     ensures later { steps.old ≤ steps.new }
 {
@@ -252,7 +264,7 @@ fn begin_at<L>(
             return Err(fault);
         }
     };
-    match planned(alloc, view, after, request, plan) {
+    match planned(alloc, view, after, request, plan, steps) {
         Ok(reading) => Ok(reading),
         Err(refused) => Err(ReadFault::from(refused)),
     }
@@ -275,6 +287,12 @@ impl QueryReading {
         // The reading goes on over the batches below its dateline.
         ensures going { IfOk result (λ reading. QueryGoes
             (take (one_view reading).dateline view.now) reading) }
+
+        // No more is left of it than the first number of the definitions, which is the bound on the
+        // work of its query.
+        ensures first { IfOk result (λ reading. (n : ℕ) (due : DueOf)
+            → query_left n (take (one_view reading).dateline view.now) reading
+            ≤ first_number due view.now (one_view reading)) }
         ensures below { IfOk result (λ reading. (one_view reading).dateline ≤ length view.now) }
         ensures offset { IfErr result (λ fault. HasOffset fault) }
         ensures later { steps.old ≤ steps.new }

@@ -2,6 +2,7 @@
 ghost use Rattle.std.specs.Prelude.{◌≡◌, ◌+◌, ◌-◌, ◌<◌, ◌≤◌, ◌^◌, ℕ, true, length, take, min};
 ghost use Rattle.std.specs.Prelude.{IfOk, IfErr};
 ghost use Rattle.gd_runs.specs.Core as core;
+ghost use Rattle.gd_runs.specs.Pace.{DueOf, first_number};
 ghost use Rattle.gd_mql.specs.Requests.{read_set_view};
 ghost use Rattle.gd_read.specs.Begun.{HasOffset, Begins};
 ghost use Rattle.gd_read.specs.Query.{one_view, QueryGoes};
@@ -89,6 +90,12 @@ impl Reading {
         // The reading goes on over the batches below its dateline.
         ensures going { IfOk result (λ reading. IsGoing
             (take (reading_view reading).dateline view.now) reading) }
+
+        // No more is left of it than the first number of the definitions: the bound on the work of
+        // its query, or of its queries together.
+        ensures first { IfOk result (λ reading. (n : ℕ) (due : DueOf)
+            → reading_left n (take (reading_view reading).dateline view.now) reading
+            ≤ first_number due view.now (reading_view reading)) }
         ensures below { IfOk result (λ reading. (reading_view reading).dateline ≤ length view.now) }
         ensures offset { IfErr result (λ fault. HasOffset fault) }
         ensures later { steps.old ≤ steps.new }

@@ -1,11 +1,13 @@
 //! The reading of several queries, one after the other, at one dateline.
 ghost use Rattle.std.specs.Prelude.{◌≡◌, ◌+◌, ◌-◌, ◌<◌, ◌≤◌, ◌^◌, ℕ, All, None, Some, true, false};
-ghost use Rattle.std.specs.Prelude.{List, length, map, min, sum_by, IfOk, IfSome};
+ghost use Rattle.std.specs.Prelude.{List, length, map, min, sum_by, take, IfOk, IfSome};
 ghost use Rattle.gd_prim.specs.declared.Batch.{Batch};
 ghost use Rattle.gd_runs.specs.Core as core;
+ghost use Rattle.gd_runs.specs.Pace.{DueOf, first_number};
 ghost use Rattle.gd_runs.specs.Request.{queries};
 ghost use Rattle.gd_mql.specs.Requests.{read_view};
 ghost use Rattle.gd_read.specs.Left.{IsPastIds, part_left, several_left};
+ghost use Rattle.gd_read.specs.Paid.{PartIsPaid};
 ghost use Rattle.gd_read.specs.Reading.{Replies, is_unfinished};
 ghost use Rattle.gd_read.specs.Several.{part_request, several_view, text_among, PartGoes};
 ghost use Rattle.gd_read.specs.Several.{is_answered, SeveralGo};
@@ -49,11 +51,12 @@ fn begun_part<L>(
     steps: &mut Steps<L>,
 ) -> Result<Part, Memory>
     ensures goes { IfOk result (λ part. PartGoes view.now part) }
+    ensures paid { IfOk result (λ part. PartIsPaid view.now part) }
     ensures request { IfOk result (λ part. part_request part ≡ read_view request) }
     ensures later { steps.old ≤ steps.new }
 {
     match plan_at(alloc, view, &request, steps) {
-        Ok(plan) => Ok(Part::Going(planned(alloc, view, None, request, plan)?)),
+        Ok(plan) => Ok(Part::Going(planned(alloc, view, None, request, plan, steps)?)),
         Err(fault) => match fault.text(alloc, view.dateline()) {
             Ok(text) => Ok(Part::Answered { request, text }),
             Err(refused) => {
@@ -72,6 +75,7 @@ fn begun_parts<L>(
     steps: &mut Steps<L>,
 ) -> Result<Vec<Part>, Memory>
     ensures go { IfOk result (λ parts. All (PartGoes view.now) parts.items) }
+    ensures paid { IfOk result (λ parts. All (PartIsPaid view.now) parts.items) }
     ensures requests { IfOk result (λ parts. map part_request parts.items
         ≡ map read_view requests.items) }
     ensures later { steps.old ≤ steps.new }
@@ -254,6 +258,9 @@ impl SeveralReading {
           thawed = None;
         }) }
         ensures going { IfOk result (λ reading. SeveralGo view.now reading) }
+        ensures first { IfOk result (λ reading. (n : ℕ) (due : DueOf)
+            → several_left n (take (several_view reading).dateline view.now) reading
+            ≤ first_number due view.now (several_view reading)) }
         ensures later { steps.old ≤ steps.new }
     {
         let dateline = view.dateline();

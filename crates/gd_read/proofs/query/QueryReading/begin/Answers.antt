@@ -2,6 +2,7 @@ use Rattle.std.proofs.Common.{subst, sym, Err, length, ◌≡◌, ◌≤◌}
 use Rattle.gd_mql.specs.Requests.{cursor_view, read_view}
 use Rattle.gd_read.specs.Begun.{asked_from, fault_at}
 use Rattle.gd_read.proofs.Begun.{begins_err, begins_ok}
+use Rattle.gd_read.proofs.Paid.{first_paid}
 use Rattle.gd_read.proofs.query.QueryReading.begin.Goals as goal
 
 pub returns-in-Err-clause-begun : goal.returns-in-Err-clause-begun
@@ -13,3 +14,8 @@ pub returns-in-Ok-clause-begun : goal.returns-in-Ok-clause-begun
 returns-in-Ok-clause-begun g c =
     begins_ok c.args.view.now c.earlier-below.result c.dateline-latest.result (read_view c.args.request) c.in-Ok.after c.begin_at.result c.dateline-latest.ensures.dateline c.in-Ok.ensures.given
     c.dateline_behind.result c.dateline_behind.ensures c.earlier-below.ensures (subst (λ n. n ≤ c.dateline-latest.result) (sym c.dateline_behind.ensures) c.in-Ok.ensures.below) c.begin_at.ensures.begun
+
+pub returns-in-Ok-clause-first : goal.returns-in-Ok-clause-first
+returns-in-Ok-clause-first g c =
+    first_paid c.args.view.now c.earlier-below.result c.dateline_behind.result c.begin_at.result c.earlier-below.ensures
+    (subst (λ n. c.dateline_behind.result ≤ n) c.dateline-latest.ensures.dateline (subst (λ n. n ≤ c.dateline-latest.result) (sym c.dateline_behind.ensures) c.in-Ok.ensures.below)) c.begin_at.ensures.going c.begin_at.ensures.paid
