@@ -3,15 +3,16 @@
 
     build.py [--jobs N]      afterwards crates/graphd/out/graphd is there
 
-The crates below it are proved side by side: as many as there are processors, or N, as far as their chain and the memory allow. What was
-proved is kept, so a run that was stopped goes on where it was. What each crate took is kept too, in crates/graphd/out/seconds.json; from
-that the next run says how long it is to go.
+The crates below it are proved side by side by the toolchain's gate, over a copy that has these crates alone: as many as there are
+processors, or N, as far as their chain and the memory allow. What was proved is kept, by the gate and for it, so a run that was stopped
+goes on where it was. What each crate took is kept too, in crates/graphd/out/seconds.json; from that the next run says how long it is to go.
 
 The status is 0 where the program is built, 1 where it was stopped, and else that of the toolchain.
 """
 from __future__ import annotations
 
 import argparse
+import contextlib
 import json
 import os
 import re
@@ -19,6 +20,7 @@ import shutil
 import signal
 import subprocess
 import sys
+import tempfile
 import threading
 import time
 from typing import Dict, List, Optional, Tuple
@@ -31,6 +33,8 @@ PROGRAM = "graphd"
 SECONDS = os.path.join(TOP, "crates", PROGRAM, "out", "seconds.json")
 # A check takes up to about so many bytes.
 ROOM = 3 << 30
+# What the toolchain says of a crate that is proved now, or was before.
+PROVED = re.compile(r"rt: (\w+) (?:proved$|is kept: )")
 # Crates that are done within so many seconds of the first one were proved before.
 SOON = 10
 # About so many bytes are proved a second, as long as nothing is known of this machine.
@@ -98,7 +102,8 @@ class Times:
 class Progress:
     """Which crates are done, and since when."""
 
-    def __init__(self, jobs: int) -> None:
+    def __init__(self, jobs: int, is_told: bool = False) -> None:
+        self.is_told = is_told
         self.needs = crates_of(PROGRAM)
         self.times = Times({crate: size_of(crate) for crate in self.needs})
         self.jobs = jobs
@@ -171,22 +176,38 @@ class Progress:
             self.tell()
 
 
-def run(words: List[str], progress: Optional[Progress] = None) -> Tuple[int, Dict[str, str]]:
-    """Runs a command of the toolchain in the program's folder. Gives its status, and what it said of each crate."""
-    child = subprocess.Popen(words, cwd=os.path.join(TOP, "crates", PROGRAM), stdin=subprocess.DEVNULL,
-                             stdout=subprocess.PIPE, stderr=subprocess.STDOUT, text=True, errors="replace")
+def copy_to(folder: str, crates: List[str]) -> None:
+    """Makes a repository of these crates alone, without the edits that the prover must refuse."""
+    os.makedirs(os.path.join(folder, ".git"))
+    for crate in crates:
+        shutil.copytree(os.path.join(TOP, "crates", crate), os.path.join(folder, "crates", crate),
+                        ignore=lambda at, names: [each for each in ("must-fail", "out") if each in names and os.path.basename(at) == crate])
+    shutil.copy(os.path.join(TOP, "HANDLES"), folder)
+    with open(os.path.join(TOP, "crates.txt"), encoding="utf-8") as lines:
+        named = [line for line in lines if line.strip() and re.split(r"\W", line, maxsplit=1)[0] in crates]
+    with open(os.path.join(folder, "crates.txt"), "w", encoding="utf-8") as kept:
+        kept.writelines(named)
+
+
+def prove(folder: str, progress: Progress) -> Tuple[int, Dict[str, str]]:
+    """Runs the gate of the toolchain there. Gives its status, and what it said of each crate."""
+    words = dict(os.environ, RT_JOBS=str(progress.jobs)) if progress.is_told else dict(os.environ)
+    child = subprocess.Popen(["rt", "ci"], cwd=folder, stdin=subprocess.DEVNULL, stdout=subprocess.PIPE, stderr=subprocess.STDOUT,
+                             env=words, text=True, errors="replace", start_new_session=True)
     crate, said = "", {"": ""}
     try:
         for line in child.stdout:
             if line.startswith("== "):
                 crate = line.split()[1]
-                said[crate] = ""
-                if progress and crate in progress.needs:
-                    progress.add(crate)
-            said[crate] += line
+            said[crate] = said.get(crate, "") + line.replace(folder, TOP)
+            proved = PROVED.match(line)
+            if proved:
+                crate = ""
+                progress.add(proved.group(1))
         return child.wait(), said
     finally:
-        child.terminate()
+        with contextlib.suppress(ProcessLookupError):
+            os.killpg(child.pid, signal.SIGTERM)
 
 
 def refusals(text):
@@ -197,29 +218,31 @@ def refusals(text):
 
 
 def main() -> int:
-    """Proves all, and then builds the program."""
+    """Proves all, and builds the program."""
     parser = argparse.ArgumentParser(prog="build", description=__doc__, formatter_class=argparse.RawDescriptionHelpFormatter)
     parser.add_argument("--jobs", type=int, help="how many crates are proved at a time; as many as there are processors, if it is not said")
-    jobs = parser.parse_args().jobs or side_by_side()
+    jobs = parser.parse_args().jobs
     if shutil.which("rt") is None:
         sys.exit("graphd: the command rt of the Rattle toolchain is not on the PATH")
-    progress, ended = Progress(jobs), threading.Event()
+    progress, ended = Progress(jobs or side_by_side(), jobs is not None), threading.Event()
     sys.stderr.write("graphd: proving %d crates, %d at a time, and building the program; what is proved is kept, so it starts at once the next time\n"
-                     % (len(progress.needs), jobs))
+                     % (len(progress.needs), progress.jobs))
     ticker = threading.Thread(target=progress.tick, args=(ended,), daemon=True)
     ticker.start()
-    try:
-        status, said = run(["rt", "all", "check", "--jobs", str(jobs)], progress)
-    finally:
-        ended.set()
-        ticker.join()
-        progress.times.keep()
-    if status == 0:
-        status, said = run(["rt", "run", "--", "--version"])
+    with tempfile.TemporaryDirectory(prefix="graphd-build-") as folder:
+        try:
+            copy_to(folder, list(progress.needs))
+            status, said = prove(folder, progress)
+        finally:
+            ended.set()
+            ticker.join()
+            progress.times.keep()
+        if status == 0:
+            shutil.copy2(os.path.join(folder, "crates", PROGRAM, "out", PROGRAM), os.path.dirname(SECONDS))
     if progress.is_terminal:
         sys.stderr.write("\n")
     if status != 0:
-        failed = [crate for crate in said if "\n%s: failed" % crate in said.get("summary", "")]
+        failed = [crate for crate, text in said.items() if crate and "rt: %s NOT PROVED" % crate in text]
         sys.stderr.write("".join(refusals(said[crate]) for crate in failed or list(said)[-1:]))
         sys.stderr.write("graphd: the program was not built\n")
     return status
