@@ -162,8 +162,8 @@ within_more first k old new reads writes reply above reads_at writes_at reads_ri
     let had = w.replies in
     record {
       reads = subst (AllByRecursion (IsReadWithin first (k + 1))) (sym p.reads_are) (all_append (IsReadWithin first (k + 1)) old.reads.items reads
-          (all_weaker (IsReadWithin first k) (IsReadWithin first (k + 1)) old.reads.items (λ r is. let low = is.0 in let high = is.1 in (low, omega (arith, high), is.2)) w.reads)
-          (all_weaker (IsReadAsked k) (IsReadWithin first (k + 1)) reads (λ r is. let at = is.0 in (omega (arith, at, above), omega (arith, at), is.1)) reads_at));
+          (all_weaker (IsReadWithin first k) (IsReadWithin first (k + 1)) old.reads.items (λ r is. let low = is.0 in let high = is.1 in (low, omega (arith, high), is.2, is.3)) w.reads)
+          (all_weaker (IsReadAsked k) (IsReadWithin first (k + 1)) reads (λ r is. let at = is.0 in (omega (arith, at, above), omega (arith, at), is.1, is.2)) reads_at));
       writes = subst (AllByRecursion (IsWriteWithin first (k + 1))) (sym p.writes_are) (all_append (IsWriteWithin first (k + 1)) old.writes.items writes
           (all_weaker (IsWriteWithin first k) (IsWriteWithin first (k + 1)) old.writes.items (λ x is. let low = is.0 in let high = is.1 in (low, omega (arith, high), is.2)) w.writes)
           (all_weaker (IsWriteAsked k) (IsWriteWithin first (k + 1)) writes (λ x is. let at = is.0 in (omega (arith, at, above), omega (arith, at), is.1)) writes_at));

@@ -1,5 +1,5 @@
 -- The lines of a round, once read.
-use Rattle.std.specs.Prelude.{◌≡◌, ◌⊎◌, ℕ, ◌+◌, ◌^◌, ◌<◌, ◌≤◌, List, [], ◌∷◌, ◌++◌, length, map, true, None, Some, Ok, Err, slice_get}
+use Rattle.std.specs.Prelude.{◌≡◌, ◌⊎◌, ℕ, ◌+◌, ◌^◌, ◌<◌, ◌≤◌, List, [], ◌∷◌, ◌++◌, length, map, true, None, Some, IfSome, Ok, Err, slice_get}
 use Rattle.std.specs.List.{AllByRecursion}
 use Rattle.gd_runs.specs.Request.{read}
 use Rattle.gd_runs.specs.Input.{InputFault, line_from, input_fault_line}
@@ -7,6 +7,7 @@ use Rattle.gd_runs.specs.Explained.{Numbered, memory_line}
 use Rattle.gd_runs.specs.Side as side
 use Rattle.gd_input.specs.declared.line.RoundLine.{RoundLine}
 use Rattle.gd_input.specs.Line.{IsKept}
+use Rattle.gd_cache.specs.Asked.{key_of, IsKeyOf}
 use Rattle.gd_mql.specs.Requests.{read_set_view, write_view}
 use Rattle.gd_core_laws.specs.Round.{one_write, write_lines}
 use Rattle.gd_core_laws.specs.Writes.{RisesBy}
@@ -37,9 +38,13 @@ IsFirstReply k bytes reply = ((f : InputFault) × (line_from bytes ≡ Err f) ×
 
 -- ---- one line
 
--- line k of these bytes is this read
+-- line k of these bytes is this read, and its key, if it has one, is that of the bytes
 abbrev pub IsReadOf : ℕ → List ℕ → ReadLine → Type 0
-IsReadOf k bytes r = (r.line ≡ k) × (line_from bytes ≡ Ok (read r.session (read_set_view r.request)))
+IsReadOf k bytes r = (r.line ≡ k) × (line_from bytes ≡ Ok (read r.session (read_set_view r.request))) × IfSome r.key (λ text. key_of bytes ≡ Some text)
+
+-- the key of a read, if it has one, is a text under which its reply may be kept
+abbrev pub IsKeyed : ReadLine → Type 0
+IsKeyed r = IfSome r.key (λ text. IsKeyOf text (read_set_view r.request))
 
 -- these bytes are no line
 abbrev pub IsNoLine : List ℕ → Type 0
@@ -52,9 +57,9 @@ IsAsked k bytes (Write w) = one_write k (length bytes) (line_from bytes) ≡ wri
 IsAsked k bytes (Told reply) = IsNoLine bytes × IsFirstReply k bytes (reply_text reply)
 IsAsked k bytes (Unread line) = line ≡ k
 
--- a read is of line k, and of one of the 64 sessions
+-- a read is of line k, of one of the 64 sessions, and has the key that it may have
 abbrev pub IsReadAsked : ℕ → ReadLine → Type 0
-IsReadAsked k r = (r.line ≡ k) × (r.session < 64)
+IsReadAsked k r = (r.line ≡ k) × (r.session < 64) × IsKeyed r
 
 -- a write is of line k, and has no more bytes than a line
 abbrev pub IsWriteAsked : ℕ → WriteLine → Type 0
@@ -101,9 +106,9 @@ pub record TakesLine (k : ℕ) (bytes : List ℕ) (old new : Works) : Type 0 whe
   pub asked : new.reads.items ≡ old.reads.items ++ reads
   pub each : AllByRecursion (IsReadOf k bytes) reads
 
--- a read of a line of the round, from line first up to an end, and of one of the 64 sessions
+-- a read of a line of the round, from line first up to an end, of one of the 64 sessions, and with the key that it may have
 abbrev pub IsReadWithin : ℕ → ℕ → ReadLine → Type 0
-IsReadWithin first end r = (first ≤ r.line) × (r.line < end) × (r.session < 64)
+IsReadWithin first end r = (first ≤ r.line) × (r.line < end) × (r.session < 64) × IsKeyed r
 
 -- a write of a line of the round, with no more bytes than a line has
 abbrev pub IsWriteWithin : ℕ → ℕ → WriteLine → Type 0

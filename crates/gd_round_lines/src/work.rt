@@ -1,18 +1,23 @@
 //! The lines of a round, once read.
 ghost use Rattle.std.specs.Prelude.{◌≡◌, ◌≢◌, ◌≤◌, ◌<◌, ◌+◌, ◌*◌, ◌++◌, ◌∷◌, ◌^◌, ℕ, List, []};
-ghost use Rattle.std.specs.Prelude.{◌⊎◌, length, map, true, Err, IfOk, OnOk};
+ghost use Rattle.std.specs.Prelude.{◌⊎◌, length, map, true, Some, Ok, Err, IfOk, IfSome, OnOk};
 ghost use Rattle.std.specs.List.{All};
+ghost use Rattle.gd_cache.specs.Asked.{key_of};
+ghost use Rattle.gd_runs.specs.Request.{read};
 ghost use Rattle.gd_runs.specs.Input.{input_fault_line, line_too_long};
 ghost use Rattle.gd_runs.specs.Input as input;
 ghost use Rattle.gd_runs.specs.Explained.{Numbered, memory_line};
 ghost use Rattle.gd_input.specs.Line.{IsKept, IsShort};
 ghost use Rattle.gd_input.specs.Rounds.{AreKept};
 ghost use Rattle.gd_mql.specs.Line.{fault_view};
+ghost use Rattle.gd_mql.specs.Requests.{read_set_view};
 ghost use Rattle.gd_round_lines.specs.Works.{no_number, IsAsked, IsAskedAt, IsAskedOf, AreAsked};
 ghost use Rattle.gd_round_lines.specs.Works.{Pushes, TakesLine, AreRead, AreWithin, texts_of};
 ghost use Rattle.gd_reply.specs.Replies.{reply_text};
 
 use gd_base::memory::Memory;
+use gd_cache::asked::key_text;
+use gd_cache::key::ReplyText;
 use gd_input::line::RoundLine;
 use gd_mql::fault::LineFault;
 use gd_mql::line::line_from;
@@ -31,12 +36,14 @@ const LEAST_LINES: usize = 64;
 /// The fewest bytes that are worth a thread to read them, unless they are `LEAST_LINES` lines.
 const LEAST_BYTES: usize = 65_536;
 
-/// A read line of a round: its number, its session and what it asks.
+/// A read line of a round: its number, its session, what it asks, and, where replies are kept, the
+/// text under which its reply is.
 #[derive(Drop)]
 pub struct ReadLine {
     pub line: u64,
     pub session: u32,
     pub request: ReadSet,
+    pub key: Option<ReplyText>,
 }
 
 /// A write line of a round: its number, its session, what it asks, and its length.
@@ -118,8 +125,44 @@ fn fault_asked(alloc: Global, line: u64, fault: LineFault) -> Asked
     Asked::Told(Reply::made(line, reply))
 }
 
-/// What a line asks, or its reply.
-fn read_line(alloc: Global, line: u64, text: &RoundLine) -> Asked
+/// The text of what a read line asks, if it is asked for. `Memory`: an allocation was refused.
+fn key_asked(alloc: Global, bytes: &[u8], keyed: bool) -> Result<Option<ReplyText>, Memory>
+    ensures { IfOk result (λ key. IfSome key (λ text. key_of bytes.now ≡ Some text)) }
+{
+    if !keyed {
+        return Ok(None);
+    }
+    key_text(alloc, bytes)
+}
+
+/// A read line of these bytes, which ask this of a session. Where its text is asked for and there
+/// is no memory for that, the line is unread.
+fn read_asked(
+    alloc: Global,
+    line: u64,
+    bytes: &[u8],
+    session: u32,
+    request: ReadSet,
+    keyed: bool,
+) -> Asked
+    requires asks { input.line_from bytes.now ≡ Ok (read session (read_set_view request)) }
+    requires session { session < 64 }
+    ensures asked { IsAsked line bytes.now result }
+    ensures within { IsAskedAt line result }
+{
+    match key_asked(alloc, bytes, keyed) {
+        Ok(key) => Asked::Read(ReadLine {
+            line,
+            session,
+            request,
+            key,
+        }),
+        Err(_) => Asked::Unread(line),
+    }
+}
+
+/// What a line asks, or its reply; of a read with its text, if that is asked for.
+fn read_line(alloc: Global, line: u64, text: &RoundLine, keyed: bool) -> Asked
     requires line { line < 2 ^ 63 }
     requires short { IsShort text.now }
     ensures asked { (bytes : List ℕ) → IsKept 262_144 text.now bytes → IsAsked line bytes result }
@@ -130,11 +173,7 @@ fn read_line(alloc: Global, line: u64, text: &RoundLine) -> Asked
         RoundLine::Bytes(bytes) => bytes.as_slice(),
     };
     match line_from(alloc, bytes) {
-        Ok(Line::Read { sid, request }) => Asked::Read(ReadLine {
-            line,
-            session: sid,
-            request,
-        }),
+        Ok(Line::Read { sid, request }) => read_asked(alloc, line, bytes, sid, request, keyed),
         Ok(Line::Write { sid, request }) => Asked::Write(WriteLine {
             line,
             session: sid,
@@ -247,13 +286,20 @@ fn threads_for(lines: usize, bytes: usize, threads: NonZeroU32) -> usize
 }
 
 /// Reads the line at a place, of the lines from line `first` on, in place of what was said of it.
-fn read_at(alloc: Global, first: u64, lines: &[RoundLine], place: usize, asked: &mut Asked)
+fn read_at(
+    alloc: Global,
+    first: u64,
+    lines: &[RoundLine],
+    keyed: bool,
+    place: usize,
+    asked: &mut Asked,
+)
     requires lines { first + length lines.now < 2 ^ 63 }
     requires short { All IsShort lines.now }
     requires place { place < length lines.now }
     ensures { IsAskedOf first lines.now place asked.new }
 {
-    *asked = read_line(alloc, first + place as u64, &lines[place]);
+    *asked = read_line(alloc, first + place as u64, &lines[place], keyed);
 }
 
 /// So many lines from line `first` on, of which none was read yet. `Memory`: an allocation was
@@ -269,14 +315,15 @@ fn unread(alloc: Global, first: u64, count: usize) -> Result<Vec<Asked>, Memory>
     Ok(asked)
 }
 
-/// What each line of a round asks, or its reply, read in at most so many threads. `Memory`: an
-/// allocation was refused.
+/// What each line of a round asks, or its reply, read in at most so many threads; of each read with
+/// its text, if that is asked for. `Memory`: an allocation was refused.
 fn read_each<R: Threads + Sync>(
     rt: &R,
     alloc: Global,
     threads: NonZeroU32,
     first: u64,
     lines: &[RoundLine],
+    keyed: bool,
 ) -> Result<Vec<Asked>, Memory>
     requires lines { first + length lines.now < 2 ^ 63 }
     requires short { All IsShort lines.now }
@@ -287,20 +334,22 @@ fn read_each<R: Threads + Sync>(
         requires { (first + length lines.now < 2 ^ 63) × All IsShort lines.now
             × (place < length lines.now) }
         ensures { IsAskedOf first lines.entry.now place asked.exit.now }
-    { read_at(alloc, first, lines, place, asked) };
+    { read_at(alloc, first, lines, keyed, place, asked) };
     let threads = threads_for(lines.len(), all_bytes(lines), threads);
     thread::for_each_mut(rt, asked.as_mut_slice(), threads, &read);
     Ok(asked)
 }
 
-/// The lines of a round, once read, the first of them line `first`, in at most so many threads.
-/// `Memory`: an allocation was refused.
+/// The lines of a round, once read, the first of them line `first`, in at most so many threads. Each
+/// read has its text where `keyed` says so: a read for whose text there is no memory is not read,
+/// and the lines are not whole then. `Memory`: an allocation was refused.
 pub fn read_lines<R: Threads + Sync>(
     rt: &R,
     alloc: Global,
     threads: NonZeroU32,
     first: u64,
     lines: &[RoundLine],
+    keyed: bool,
 ) -> Result<Works, Memory>
     requires lines { first + length lines.now < 2 ^ 63 }
     requires short { All IsShort lines.now }
@@ -309,7 +358,7 @@ pub fn read_lines<R: Threads + Sync>(
     ensures within { IfOk result (λ works. AreWithin first (first + length lines.now) works) }
 {
     let mut works = Works::new(alloc, lines.len())?;
-    for asked in read_each(rt, alloc, threads, first, lines)? {
+    for asked in read_each(rt, alloc, threads, first, lines, keyed)? {
         works.push(asked)?;
     }
     Ok(works)

@@ -220,7 +220,7 @@ impl<D: Disk + Send, C: Clock + Send> Rounds<D, C> {
         ensures { AnswersRound D.content D.moment D.images D.images_since D.faults C.may lines.now
             self.old self.new (reply_texts result) }
     {
-        match read_lines(rt, alloc, self.workers, self.lines, lines) {
+        match read_lines(rt, alloc, self.workers, self.lines, lines, false) {
             Ok(works) => Replies::Made(self.answer_works(rt, alloc, gate, lines, works)),
             Err(_) => self.pass_over(lines.len()),
         }
