@@ -152,7 +152,7 @@ later s (key, kept) now counts none = by (has s key) counts
     by true is = sym (ap (λ t. t.refused) is) ∙ none
     by false rest = by_fit (fits key (length kept.outcome)) rest
 
-all_later : (reads : List (ReplyKey × Kept)) (s now : Shown) → CountsAll s reads now → now.refused ≡ 0 → s.refused ≡ 0
+pub all_later : (reads : List (ReplyKey × Kept)) (s now : Shown) → CountsAll s reads now → now.refused ≡ 0 → s.refused ≡ 0
 all_later [] s now is none = sym (ap (λ t. t.refused) is) ∙ none
 all_later (read ∷ reads) s now (next, one, rest) none = later s read next one (all_later reads next now rest none)
 

@@ -8,8 +8,9 @@ use Rattle.gd_read.specs.declared.reading.Progress.{Progress}
 use Rattle.gd_read.specs.declared.reading.Progress.TheVariants.{Reply, Unfinished}
 use Rattle.gd_seats.specs.declared.fault.SessionFault.{SessionFault}
 use Rattle.gd_seats.specs.declared.fault.SessionFault.TheVariants.{Read, Shut}
+use Rattle.gd_seats.specs.declared.session.Looked.{Looked}
 use Rattle.gd_seats.specs.Session.{SessionValue}
-use Rattle.gd_seats.specs.Calls.{IsLater, HasEntered, WasTurnedAway, BeginsAs, SlicesAs, MeetsAs}
+use Rattle.gd_seats.specs.Calls.{IsLater, HasEntered, WasTurnedAway, BeginsOver, LooksAs, SlicesAs, MeetsAs}
 use Rattle.gd_seats.proofs.Fronts.{begins_shorter}
 
 begins_itself : (xs : List Batch) → IsPrefix xs xs
@@ -48,16 +49,21 @@ later_turned old new w = rw w.counted record {
   turned_away = omega arith;
 }
 
--- and a session is later that met, began a read or went on with one
+-- and a session is later that met, looked for a read, began one or went on with one
 pub later_met : {A : Type 0} (old new : SessionValue) (result : Result A SessionFault) → MeetsAs old new result → IsLater old.seat new.seat
 later_met old new (Ok a) met = later_entered old.seat new.seat met.0
 later_met old new (Err (Read f)) met = absurd met
 later_met old new (Err Shut) met = later_turned old new met
 
-pub later_begun : (old new : SessionValue) (r : ReadSet) (result : Result ℕ SessionFault) → BeginsAs old new r result → IsLater old.seat new.seat
-later_begun old new r (Ok n) begins = later_entered old.seat new.seat begins.0
-later_begun old new r (Err (Read f)) begins = later_entered old.seat new.seat begins.0
-later_begun old new r (Err Shut) begins = later_turned old new begins
+pub later_begun : (shown : ℕ) (old new : SessionValue) (r : ReadSet) (result : Result ℕ SessionFault) → BeginsOver shown old new r result → IsLater old.seat new.seat
+later_begun shown old new r (Ok n) begins = later_entered old.seat new.seat begins.0
+later_begun shown old new r (Err (Read f)) begins = later_entered old.seat new.seat begins.0
+later_begun shown old new r (Err Shut) begins = later_turned old new begins
+
+pub later_looked : (old new : SessionValue) (r : ReadSet) (result : Result Looked SessionFault) → LooksAs old new r result → IsLater old.seat new.seat
+later_looked old new r (Ok l) looks = later_entered old.seat new.seat looks.0
+later_looked old new r (Err (Read f)) looks = later_entered old.seat new.seat looks.0
+later_looked old new r (Err Shut) looks = later_turned old new looks
 
 pub later_sliced : (old new : SessionValue) (k : ℕ) (result : Result Progress SessionFault) → SlicesAs old new k result → IsLater old.seat new.seat
 later_sliced old new k (Ok (Reply bytes)) slices = later_entered old.seat new.seat slices.0

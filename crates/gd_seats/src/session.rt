@@ -1,23 +1,27 @@
 //! A session over a seat. No call waits.
 ghost use Rattle.std.specs.Prelude.{◌≡◌, ◌≢◌, ◌+◌, ◌-◌, ◌<◌, ◌≤◌, ◌^◌, ℕ, true, None, Some, length};
-ghost use Rattle.std.specs.Prelude.{max, min, option_map, Ok, Err, IfOk, IfErr, IfSome, MatchBool};
+ghost use Rattle.std.specs.Prelude.{max, min, option_map, Ok, Err, IfOk, IfErr, IfSome, IsNone, MatchBool};
 ghost use mathlib.Core.List.{IsPrefix};
 ghost use Rattle.gd_mql.specs.Requests.{read_set_view};
 ghost use Rattle.gd_shared.specs.Shared.{longer};
 ghost use Rattle.gd_read.specs.Left.{IsPastIds};
 ghost use Rattle.gd_read.specs.Reading.{is_unfinished};
 ghost use Rattle.gd_seats.specs.Session.{reads, seen_of, left_of};
-ghost use Rattle.gd_seats.specs.Calls.{IsLater, BeginsAs, SlicesAs, MeetsAs};
+ghost use Rattle.gd_seats.specs.Calls.{IsLater, BeginsAs, BeginsOver, LooksAs, SlicesAs, MeetsAs};
+ghost use Rattle.gd_seats.specs.Calls.{IsDatelineFault, shown_of};
+ghost use Rattle.gd_read.specs.Begun.{read_dateline};
 
 use crate::fault::SessionFault;
 use core::mem::{replace, replace_with};
 use gd_base::memory::Memory;
 use gd_base::steps::Steps;
 use gd_mql::request::ReadSet;
+use gd_read::dateline::dateline_asked;
 use gd_read::fault::ReadFault;
 use gd_read::reading::Progress;
 use gd_read::session::SessionState;
 use gd_shared::{Receipt, Seat};
+use gd_store::store::Store;
 use std::alloc::Global;
 use std::marker::Model;
 
@@ -46,11 +50,21 @@ impl Model for Session {
         session.state };
 }
 
+/// Where a session stands that looks for a read: the number of requests of the list that it
+/// entered, and the dateline that the read would have there.
+#[derive(Clone, Copy, Debug, PartialEq, Eq)]
+pub struct Looked {
+    pub snapshot: u32,
+    pub dateline: u32,
+}
+
 /// What is to be read, by a session that is let in, and the steps that were taken.
 #[derive(Drop)]
 struct Beginning<L> {
     alloc: Global,
     request: ReadSet,
+    // Over how many requests, if not over all that are shown.
+    at: Option<u32>,
     steps: Steps<L>,
 }
 
@@ -77,13 +91,59 @@ fn meet_in(session: Session, _nothing: ()) -> (Session, Result<(), SessionFault>
     }
 }
 
+/// The dateline of a read, where this is the latest one.
+fn seen_at(latest: u32, request: &ReadSet) -> Result<Looked, SessionFault>
+    ensures ok { IfOk result (λ l. (l.snapshot ≡ latest)
+        × (read_dateline latest (read_set_view request.now) ≡ Ok l.dateline)) }
+    ensures err { IfErr result (λ fault. IsDatelineFault latest (read_set_view request.now)
+        fault) }
+{
+    match dateline_asked(latest, request) {
+        Ok(dateline) => Ok(Looked {
+            snapshot: latest,
+            dateline,
+        }),
+        Err(fault) => Err(SessionFault::Read(fault)),
+    }
+}
+
+/// Enters, asks for the dateline that a read would have, and leaves. What the session reads stays.
+fn look_in(session: Session, request: &ReadSet) -> (Session, Result<Looked, SessionFault>)
+    ensures { LooksAs session result.0 (read_set_view request.now) result.1 }
+{
+    let Session { seat, state } = session;
+    match seat.enter() {
+        Ok(entered) => {
+            let latest = entered.store().requests();
+            let seat = entered.leave();
+            (Session { seat, state }, seen_at(latest, request))
+        }
+        Err(seat) => (Session { seat, state }, Err(SessionFault::Shut)),
+    }
+}
+
+/// This number of requests of a store, or all of them.
+fn shown_at(store: &Store, at: Option<u32>) -> u32
+    requires { IfSome at (λ n. n ≤ length store.now) }
+    ensures this { IfSome at (λ n. result ≡ n) }
+    ensures all { IsNone at → result ≡ length store.now }
+    ensures within { result ≤ length store.now }
+{
+    match at {
+        Some(shown) => shown,
+        None => store.requests(),
+    }
+}
+
 /// Enters, begins a reading over the store that is there, and leaves.
 fn begin_in<L>(
     session: Session,
     beginning: Beginning<L>,
 ) -> (Session, (Steps<L>, Result<u32, SessionFault>))
     requires none { reads session ≡ None }
-    ensures begins { BeginsAs session result.0 (read_set_view beginning.request) result.1.1 }
+    requires seen { IfSome beginning.at (λ n. n ≤ seen_of session.seat) }
+    ensures begins { BeginsOver (shown_of beginning.at result.0) session result.0
+        (read_set_view beginning.request) result.1.1 }
     ensures steps { beginning.steps ≤ result.1.0 }
 {
     let Session { seat, state: held } = session;
@@ -91,12 +151,14 @@ fn begin_in<L>(
     let Beginning {
         alloc,
         request,
+        at,
         mut steps,
     } = beginning;
     match seat.enter() {
         Ok(entered) => {
             let store = entered.store();
-            let begun = SessionState::begin(alloc, store, store.requests(), request, &mut steps);
+            let shown = shown_at(store, at);
+            let begun = SessionState::begin(alloc, store, shown, request, &mut steps);
             let seat = entered.leave();
             match begun {
                 Ok(state) => {
@@ -254,6 +316,45 @@ impl Session {
         let beginning = Beginning {
             alloc,
             request,
+            at: None,
+            steps: replace(steps, Steps::new()),
+        };
+        let (taken, answer) = replace_with(self, beginning, begin_in::<L>);
+        *steps = taken;
+        answer
+    }
+
+    /// Enters the published store, asks for the dateline that a read would have over it, and leaves;
+    /// the reading that is held stays. Nothing of the read but its cursor is looked at, so its reply
+    /// may be looked up before it is begun. `Read`: the cursor is refused, as the definitions say,
+    /// or there was no memory. `Shut`: the session was not let in, and is as it was, but for the
+    /// count of that.
+    pub fn look(&mut self, request: &ReadSet) -> Result<Looked, SessionFault>
+        ensures looks { LooksAs self.old self.new (read_set_view request.now) result }
+        ensures later { IsLater self.old.seat self.new.seat }
+    {
+        replace_with(self, request, look_in)
+    }
+
+    /// Begins a read as `begin` does, but over so many requests, which the session has seen, in
+    /// place of all that are published.
+    pub fn begin_at<L>(
+        &mut self,
+        alloc: Global,
+        request: ReadSet,
+        snapshot: u32,
+        steps: &mut Steps<L>,
+    ) -> Result<u32, SessionFault>
+        requires none { reads self.old ≡ None }
+        requires seen { snapshot ≤ seen_of self.old.seat }
+        ensures begins { BeginsOver snapshot self.old self.new (read_set_view request) result }
+        ensures later { IsLater self.old.seat self.new.seat }
+        ensures steps { steps.old ≤ steps.new }
+    {
+        let beginning = Beginning {
+            alloc,
+            request,
+            at: Some(snapshot),
             steps: replace(steps, Steps::new()),
         };
         let (taken, answer) = replace_with(self, beginning, begin_in::<L>);

@@ -3,4 +3,4 @@ use Rattle.gd_seats.proofs.Later.{later_begun}
 use Rattle.gd_seats.proofs.session.Session.begin.Goals as goal
 
 pub returns-clause-later : goal.returns-clause-later
-returns-clause-later g c = later_begun c.args.self.now _ (read_set_view c.args.request) _ c.replace_with-taken.ensures.0
+returns-clause-later g c = later_begun _ c.args.self.now _ (read_set_view c.args.request) _ c.replace_with-taken.ensures.0

@@ -1,0 +1,4 @@
+pub mod Right
+pub mod Datelines
+pub mod Counted
+pub mod Calls

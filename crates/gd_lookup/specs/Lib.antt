@@ -1,0 +1,4 @@
+pub mod Found
+pub mod Keeping
+pub mod Calls
+pub mod Laws
