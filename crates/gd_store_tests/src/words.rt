@@ -2,7 +2,7 @@
 use gd_words::help::help_text;
 
 /// What the help names.
-static NAMED: [&str; 14] = [
+static NAMED: [&str; 15] = [
     "serve",
     "replay",
     "dump",
@@ -13,6 +13,7 @@ static NAMED: [&str; 14] = [
     "--file",
     "--workers",
     "--budget",
+    "--cache",
     "--from",
     "--number",
     "--count",

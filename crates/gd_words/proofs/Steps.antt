@@ -106,6 +106,19 @@ budget = record {
   fills_passes = λ x xs rows h. rw (not_dashes x xs h, not_long x xs h, not_short x xs h) refl;
 }
 
+cache : Steps (codes "cache")
+unfolding clap_on_literals
+cache = record {
+  same = refl;
+  known = refl;
+  attached = λ v rows p. refl;
+  attached_passes = λ v rows p. refl;
+  opens = λ rows p. refl;
+  opens_passes = λ rows p. refl;
+  fills = λ x xs rows h. rw (not_dashes x xs h, not_long x xs h, not_short x xs h) refl;
+  fills_passes = λ x xs rows h. rw (not_dashes x xs h, not_long x xs h, not_short x xs h) refl;
+}
+
 from : Steps (codes "from")
 unfolding clap_on_literals
 from = record {
@@ -167,17 +180,20 @@ use_once name v rows none = rw none refl
 
 -- each option has its steps
 pub steps : (name : Text) → is_name parser_options name ≡ true → Steps name
-steps name known = elim (or_cases (bytes_eq name (codes "file")) (is_name (codes "workers" ∷ codes "budget" ∷ codes "from" ∷ codes "number" ∷ codes "count" ∷ []) name) known) [
+steps name known = elim (or_cases (bytes_eq name (codes "file")) (is_name (codes "workers" ∷ codes "budget" ∷ codes "cache" ∷ codes "from" ∷ codes "number" ∷ codes "count" ∷ []) name) known) [
   | inl e ↦ subst Steps (sym (same_text _ _ e)) file
-  | inr others ↦ elim (or_cases (bytes_eq name (codes "workers")) (is_name (codes "budget" ∷ codes "from" ∷ codes "number" ∷ codes "count" ∷ []) name) others) [
+  | inr others ↦ elim (or_cases (bytes_eq name (codes "workers")) (is_name (codes "budget" ∷ codes "cache" ∷ codes "from" ∷ codes "number" ∷ codes "count" ∷ []) name) others) [
     | inl e ↦ subst Steps (sym (same_text _ _ e)) workers
-    | inr more ↦ elim (or_cases (bytes_eq name (codes "budget")) (is_name (codes "from" ∷ codes "number" ∷ codes "count" ∷ []) name) more) [
+    | inr more ↦ elim (or_cases (bytes_eq name (codes "budget")) (is_name (codes "cache" ∷ codes "from" ∷ codes "number" ∷ codes "count" ∷ []) name) more) [
       | inl e ↦ subst Steps (sym (same_text _ _ e)) budget
-      | inr later ↦ elim (or_cases (bytes_eq name (codes "from")) (is_name (codes "number" ∷ codes "count" ∷ []) name) later) [
-        | inl e ↦ subst Steps (sym (same_text _ _ e)) from
-        | inr further ↦ elim (or_cases (bytes_eq name (codes "number")) (is_name (codes "count" ∷ []) name) further) [
-          | inl e ↦ subst Steps (sym (same_text _ _ e)) number
-          | inr last ↦ elim (or_cases (bytes_eq name (codes "count")) false last) [ inl e ↦ subst Steps (sym (same_text _ _ e)) count | inr never ↦ cc ]
+      | inr kept ↦ elim (or_cases (bytes_eq name (codes "cache")) (is_name (codes "from" ∷ codes "number" ∷ codes "count" ∷ []) name) kept) [
+        | inl e ↦ subst Steps (sym (same_text _ _ e)) cache
+        | inr later ↦ elim (or_cases (bytes_eq name (codes "from")) (is_name (codes "number" ∷ codes "count" ∷ []) name) later) [
+          | inl e ↦ subst Steps (sym (same_text _ _ e)) from
+          | inr further ↦ elim (or_cases (bytes_eq name (codes "number")) (is_name (codes "count" ∷ []) name) further) [
+            | inl e ↦ subst Steps (sym (same_text _ _ e)) number
+            | inr last ↦ elim (or_cases (bytes_eq name (codes "count")) false last) [ inl e ↦ subst Steps (sym (same_text _ _ e)) count | inr never ↦ cc ]
+          ]
         ]
       ]
     ]

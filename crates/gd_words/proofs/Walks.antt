@@ -163,9 +163,10 @@ walks names (word ∷ rest) None given before rows p within spelt known once rea
 without_defaults : (rs : List Row) → fold with_default rs rules ≡ rs
 unfolding clap_on_literals
 without_defaults rs =
-    ap (λ now. with_default (with_default (with_default (with_default (with_default now workers_rule) budget_rule) from_rule) number_rule) count_rule) (same file_rule refl rs)
-    ∙ ap (λ now. with_default (with_default (with_default (with_default now budget_rule) from_rule) number_rule) count_rule) (same workers_rule refl rs)
-    ∙ ap (λ now. with_default (with_default (with_default now from_rule) number_rule) count_rule) (same budget_rule refl rs)
+    ap (λ now. with_default (with_default (with_default (with_default (with_default (with_default now workers_rule) budget_rule) cache_rule) from_rule) number_rule) count_rule) (same file_rule refl rs)
+    ∙ ap (λ now. with_default (with_default (with_default (with_default (with_default now budget_rule) cache_rule) from_rule) number_rule) count_rule) (same workers_rule refl rs)
+    ∙ ap (λ now. with_default (with_default (with_default (with_default now cache_rule) from_rule) number_rule) count_rule) (same budget_rule refl rs)
+    ∙ ap (λ now. with_default (with_default (with_default now from_rule) number_rule) count_rule) (same cache_rule refl rs)
     ∙ ap (λ now. with_default (with_default now number_rule) count_rule) (same from_rule refl rs)
     ∙ ap (λ now. with_default now count_rule) (same number_rule refl rs) ∙ same count_rule refl rs
   where
@@ -177,6 +178,9 @@ without_defaults rs =
 
     budget_rule : Rule
     budget_rule = rule (codes "budget")
+
+    cache_rule : Rule
+    cache_rule = rule (codes "cache")
 
     from_rule : Rule
     from_rule = rule (codes "from")

@@ -29,14 +29,26 @@ pub option_of_serve : command_of (codes "replay" ∷ codes "--budget" ∷ codes 
 unfolding command_of options_of settings option_of
 option_of_serve = refl
 
-pub plain : command_of (codes "serve" ∷ []) ≡ Some (command.Serve (record { file = None; workers = 4; budget = 10000 }))
+pub plain : command_of (codes "serve" ∷ []) ≡ Some (command.Serve (record { file = None; workers = 4; budget = 10000; cache = None }))
 unfolding command_of options_of settings option_of
 plain = refl
 
 pub each_option : command_of (codes "serve" ∷ codes "--workers" ∷ codes "16" ∷ codes "--file=a=b" ∷ codes "--budget=1" ∷ [])
-    ≡ Some (command.Serve (record { file = Some (codes "a=b"); workers = 16; budget = 1 }))
+    ≡ Some (command.Serve (record { file = Some (codes "a=b"); workers = 16; budget = 1; cache = None }))
 unfolding command_of options_of settings option_of
 each_option = refl
+
+pub cached : command_of (codes "serve" ∷ codes "--cache" ∷ codes "64" ∷ []) ≡ Some (command.Serve (record { file = None; workers = 4; budget = 10000; cache = Some 64 }))
+unfolding command_of options_of settings option_of
+cached = refl
+
+pub cached_nothing : command_of (codes "serve" ∷ codes "--cache" ∷ codes "0" ∷ []) ≡ None
+unfolding command_of options_of settings option_of
+cached_nothing = refl
+
+pub cached_too_many : command_of (codes "serve" ∷ codes "--cache=65" ∷ []) ≡ None
+unfolding command_of options_of settings option_of
+cached_too_many = refl
 
 pub replayed : command_of (codes "replay" ∷ []) ≡ Some (command.Replay (record { file = None }))
 unfolding command_of options_of settings option_of

@@ -16,11 +16,11 @@ bare = record {
 
 -- the options that the parser knows: those of all verbs
 abbrev pub parser_options : Names
-parser_options = codes "file" ∷ codes "workers" ∷ codes "budget" ∷ codes "from" ∷ codes "number" ∷ codes "count" ∷ []
+parser_options = codes "file" ∷ codes "workers" ∷ codes "budget" ∷ codes "cache" ∷ codes "from" ∷ codes "number" ∷ codes "count" ∷ []
 
 -- with the options of `serve`
 abbrev pub serving : App
-serving = with_rule (with_rule (with_rule bare (long_rule (codes "file"))) (long_rule (codes "workers"))) (long_rule (codes "budget"))
+serving = with_rule (with_rule (with_rule (with_rule bare (long_rule (codes "file"))) (long_rule (codes "workers"))) (long_rule (codes "budget"))) (long_rule (codes "cache"))
 
 -- with those of `gen`
 abbrev pub generating : App → App

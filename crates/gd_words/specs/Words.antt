@@ -25,17 +25,22 @@ number_of low high text = if is_number text && (nat_le low (digits_value 10 text
 abbrev pub number_or : ℕ → ℕ → ℕ → Option (List ℕ) → Option ℕ
 number_or default low high value = option_map_or (number_of low high) value (Some default)
 
+-- the number that a value gives, or no number where there is no value
+abbrev pub number_if : ℕ → ℕ → Option (List ℕ) → Option (Option ℕ)
+number_if low high value = option_map_or (λ text. option_map (λ number. Some number) (number_of low high text)) value (Some None)
+
 -- the options of `serve`
 abbrev pub serve_options : Names
-serve_options = codes "file" ∷ codes "workers" ∷ codes "budget" ∷ []
+serve_options = codes "file" ∷ codes "workers" ∷ codes "budget" ∷ codes "cache" ∷ []
 
--- `serve` with these settings: 1 to 16 workers, else 4, and a budget of 1 to 1,000,000, else 10,000
+-- `serve` with these settings: 1 to 16 workers, else 4, a budget of 1 to 1,000,000, else 10,000, and 1 to 64 replies that each session keeps, else none
 abbrev pub serve_of : List Setting → Option Serve
-serve_of given = option_and_then (λ workers. option_map (λ budget. record {
+serve_of given = option_and_then (λ workers. option_and_then (λ budget. option_map (λ cache. record {
   file = value_of (codes "file") given;
   workers = workers;
   budget = budget;
-}) (number_or 10000 1 1000000 (value_of (codes "budget") given))) (number_or 4 1 16 (value_of (codes "workers") given))
+  cache = cache;
+}) (number_if 1 64 (value_of (codes "cache") given))) (number_or 10000 1 1000000 (value_of (codes "budget") given))) (number_or 4 1 16 (value_of (codes "workers") given))
 
 -- the options of a verb that asks for the place of its store alone
 abbrev pub place_options : Names

@@ -33,6 +33,8 @@ Options, each at most once, as --name value or --name=value:
                   given
   --budget N      serve: 1 to 1000000 steps for a slice of a read, 10000 if
                   not given
+  --cache N       serve: 1 to 64 replies that each session keeps for the same
+                  read again, none if not given
   --from N        dump: the number of the first batch, 0 if not given
   --number N      gen: 0 to 4294967295, 0 if not given
   --count N       gen: 1 to 200000 nodes, 1000 if not given

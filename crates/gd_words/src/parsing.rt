@@ -22,6 +22,7 @@ pub struct Values<'a> {
     pub from: Option<&'a str>,
     pub number: Option<&'a str>,
     pub count: Option<&'a str>,
+    pub cache: Option<&'a str>,
 }
 
 /// The parser with one more option.
@@ -46,7 +47,8 @@ fn serving<'a>(alloc: Global) -> Result<Command<'a>, AllocError>
         .disable_version_flag(true);
     let with_file = with_option(alloc, bare, "file")?;
     let with_workers = with_option(alloc, with_file, "workers")?;
-    with_option(alloc, with_workers, "budget")
+    let with_budget = with_option(alloc, with_workers, "budget")?;
+    with_option(alloc, with_budget, "cache")
 }
 
 /// A parser with the options of `gen` besides.
@@ -61,8 +63,8 @@ fn generating<'a>(alloc: Global, parser: Command<'a>) -> Result<Command<'a>, All
 fn parser<'a>(alloc: Global) -> Result<Command<'a>, AllocError>
     ensures { IfOk result (λ c. app_of c ≡ parser_app) }
 {
-    let with_budget = serving(alloc)?;
-    let with_from = with_option(alloc, with_budget, "from")?;
+    let with_serve = serving(alloc)?;
+    let with_from = with_option(alloc, with_serve, "from")?;
     generating(alloc, with_from)
 }
 
@@ -83,7 +85,8 @@ pub fn values_of<'a>(
         × (option_map (λ t. t.now) v.budget ≡ value_of (codes "budget") given)
         × (option_map (λ t. t.now) v.from ≡ value_of (codes "from") given)
         × (option_map (λ t. t.now) v.number ≡ value_of (codes "number") given)
-        × (option_map (λ t. t.now) v.count ≡ value_of (codes "count") given))) }
+        × (option_map (λ t. t.now) v.count ≡ value_of (codes "count") given)
+        × (option_map (λ t. t.now) v.cache ≡ value_of (codes "cache") given))) }
 {
     if !are_options(names, words) {
         return Ok(None);
@@ -96,6 +99,7 @@ pub fn values_of<'a>(
             from: matches.get_str("from"),
             number: matches.get_str("number"),
             count: matches.get_str("count"),
+            cache: matches.get_str("cache"),
         })),
         Err(error) => match error.kind() {
             ErrorKind::OutOfMemory => Err(Memory),

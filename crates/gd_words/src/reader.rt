@@ -6,7 +6,7 @@ ghost use Rattle.gd_words.specs.Words.{serve_options, serve_of, dump_options, du
 ghost use Rattle.gd_words.specs.Words.{place_options, place_in, command_of, generate_options};
 ghost use Rattle.gd_words.specs.Words.{generate_of, number_or as number_or_of};
 
-use crate::number::number_or;
+use crate::number::{number_if, number_or};
 use crate::parsing::values_of;
 use crate::verbs::{Command, Dump, Generate, MOST_NODES, NodeCount, Place, Serve};
 use gd_base::memory::Memory;
@@ -22,6 +22,8 @@ const MOST_WORKERS: u32 = 16;
 pub const BUDGET: u32 = 10_000;
 
 const MOST_BUDGET: u32 = 1_000_000;
+
+const MOST_CACHED: u32 = 64;
 
 const MOST_FROM: u32 = 4_194_303;
 
@@ -41,12 +43,12 @@ fn strings<'a>(alloc: Global, words: &'a [Text]) -> Result<Vec<&'a str>, Memory>
 
 /// The command that the words after the program's name give: a verb, and then its options in any
 /// order, each at most once, as `--name value` or `--name=value`. Each verb but `gen` has
-/// `--file PATH`; `serve` has also `--workers N` (1 to 16, else 4) and `--budget N` (1 to 1,000,000,
-/// else 10,000), `dump` also `--from N` (0 to 4,194,303, else 0); `replay`, `restore`, `follow` and
-/// `templates` have no other; `gen` has `--number N` (0 to 4,294,967,295, else 0) and `--count N`
-/// (1 to 200,000, else 1,000). A value is not empty, and as a word of its own does not begin with
-/// `-`; a number is 1 to 10 digits. None: the words are not of this grammar. `Memory`: an
-/// allocation was refused.
+/// `--file PATH`; `serve` has also `--workers N` (1 to 16, else 4), `--budget N` (1 to 1,000,000,
+/// else 10,000) and `--cache N` (1 to 64, else none), `dump` also `--from N` (0 to 4,194,303, else
+/// 0); `replay`, `restore`, `follow` and `templates` have no other; `gen` has `--number N` (0 to
+/// 4,294,967,295, else 0) and `--count N` (1 to 200,000, else 1,000). A value is not empty, and as a
+/// word of its own does not begin with `-`; a number is 1 to 10 digits. None: the words are not of
+/// this grammar. `Memory`: an allocation was refused.
 #[tactic(auto, unfolding(crate::specs::Words::command_of))]
 pub fn command(alloc: Global, words: &[Text]) -> Result<Option<Command>, Memory>
     ensures { IfOk result (λ command. command ≡ command_of words.now) }
@@ -68,10 +70,10 @@ pub fn command(alloc: Global, words: &[Text]) -> Result<Option<Command>, Memory>
 }
 
 /// The options of `serve`.
-fn serve_names() -> [&'static str; 3]
+fn serve_names() -> [&'static str; 4]
     ensures { map (λ n. n.now) result ≡ serve_options }
 {
-    ["file", "workers", "budget"]
+    ["file", "workers", "budget", "cache"]
 }
 
 /// `serve` with the options that the words spell.
@@ -90,11 +92,15 @@ fn serve(alloc: Global, words: &[&str]) -> Result<Option<Serve>, Memory>
     let Some(budget) = number_or(BUDGET, 1, MOST_BUDGET, values.budget) else {
         return Ok(None);
     };
+    let Some(cache) = number_if(1, MOST_CACHED, values.cache) else {
+        return Ok(None);
+    };
     let file = file_of(alloc, values.file)?;
     Ok(Some(Serve {
         file,
         workers,
         budget,
+        cache,
     }))
 }
 

@@ -17,6 +17,8 @@ pub struct Serve {
     pub workers: u32,
     /// How many steps a slice of a read may take, 1 to 1,000,000.
     pub budget: u32,
+    /// How many replies each session keeps, 1 to 64. None: they are not kept.
+    pub cache: Option<u32>,
 }
 
 /// Where a verb finds its store, which is all that it asks for.

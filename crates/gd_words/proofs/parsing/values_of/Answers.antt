@@ -27,6 +27,7 @@ returns-in-Ok-clause-values c = λ given e.
       c.get_str-in-Ok-3.ensures ∙ first_value-rows (found_of m) (codes "from") ∙ value (codes "from"),
       c.get_str-in-Ok-4.ensures ∙ first_value-rows (found_of m) (codes "number") ∙ value (codes "number"),
       c.get_str-in-Ok-5.ensures ∙ first_value-rows (found_of m) (codes "count") ∙ value (codes "count"),
+      c.get_str-in-Ok-6.ensures ∙ first_value-rows (found_of m) (codes "cache") ∙ value (codes "cache"),
     )
 
 pub unreachable-requires : goal.unreachable-requires
