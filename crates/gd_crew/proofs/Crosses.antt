@@ -2,6 +2,8 @@
 use denote.Param.Send.{IsSend, IsSync, sendable}
 use denote.Ref.{NamedLft}
 use Rattle.std.proofs.Crossing.{crosses}
+use Rattle.gd_cache.proofs.cache.ReplyCache.TheSendSync as reply_cache
+use Rattle.gd_cache.proofs.key.ReplyText.TheSendSync as reply_text
 use Rattle.gd_frozen.proofs.cursor.Cursor.TheSendSync as cursor_sent
 use Rattle.gd_json.proofs.value.Json.TheLaws.TheKnot as json_knot
 use Rattle.gd_json.proofs.value.JsonText.TheSendSync as text
@@ -139,7 +141,7 @@ write_shared : IsSync (write_request.the_field).row
 write_shared = search (sendable, crosses, text.the_sync, changed_shared) depth 40 fits 5000
 
 job_field : (a : NamedLft) → IsSend (job.the_field a).row
-job_field a = search (sendable, crosses, set_shared, write_shared) depth 40 fits 5000
+job_field a = search (sendable, crosses, set_shared, write_shared, reply_cache.the_sync, reply_text.the_sync) depth 40 fits 5000
 
 seated_field : (a : NamedLft) → IsSend (seated.the_field a).row
 seated_field a = search (sendable, crosses, session_field, job_field, reply.the_field_send, stop.the_field_send) depth 40 fits 5000

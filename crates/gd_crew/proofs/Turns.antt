@@ -15,8 +15,9 @@ use Rattle.gd_runs.specs.Side.{WriteLine, Begun}
 use Rattle.gd_runs.proofs.Rounds.{no_some, some_same}
 use Rattle.gd_core_laws.specs.Round.{one_write}
 use Rattle.gd_core_laws.proofs.Reading.{owes}
-use Rattle.gd_crew.specs.Runs.{JobValue, ReplyValue, Share, seen_of, is_read, reads, writes, last_write, AreOfRound, RepliesAt, IsReply, IsStop, IsReading, BeginsShare, RunsPart, IsOver}
+use Rattle.gd_crew.specs.Runs.{JobValue, ReplyValue, Share, seen_of, is_read, reads, writes, last_write, AreOfRound, RepliesAt, IsReply, IsStop, IsReading, IsLookRight, LookRight, BeginsShare, RunsPart, IsOver}
 use Rattle.gd_crew.specs.Turns.{SameJobs, Grows, Waits, Answers, ReadTurn, begins, goes_on, is_refused, is_answered, is_shut, WriteTurn}
+use Rattle.gd_cache.proofs.Answered.{kept_later}
 use Rattle.gd_crew.proofs.Grown.{reading_grows, reply_grows}
 
 -- ---- lists
@@ -143,6 +144,17 @@ reply_stays floor xs ys p j r e = record {
   });
 }
 
+-- what may be looked up stays right
+looks_stay : (xs ys : List Batch) (js : List JobValue) → IsPrefix xs ys → LookRight xs js → LookRight ys js
+looks_stay xs ys [] p all = tt
+looks_stay xs ys (j ∷ js) p (one, rest) = (IfSome_then j.look one (λ l is. record { keeps = kept_later xs ys l.cache p is.keeps; text = is.text }), looks_stay xs ys js p rest)
+
+-- where the reply to the next job may be looked up, what is kept is right
+pub look_next : (batches : List Batch) (js : List JobValue) (k : ℕ) (j : JobValue) → slice_get js k ≡ Some j → LookRight batches js → IfSome j.look (IsLookRight batches j.work)
+look_next batches [] k j at all = no_some at
+look_next batches (i ∷ js) zero j at (one, rest) = subst (λ (x : JobValue). IfSome x.look (IsLookRight batches x.work)) (some_same at) one
+look_next batches (i ∷ js) (suc k) j at (one, rest) = look_next batches js k j at rest
+
 -- the replies that were kept stay right
 replies_stay : (floor : ℕ) (w x : Share) → AllZip (IsReply floor w.entered) (reads (take w.done w.jobs)) w.replies → IsPrefix w.entered x.entered → reads (take x.done x.jobs) ≡ reads (take w.done w.jobs) → x.replies ≡ w.replies
     → AllZip (IsReply floor x.entered) (reads (take x.done x.jobs)) x.replies
@@ -174,9 +186,9 @@ module _ (l : Begun) (table : Book) (v w x : Share) (j : JobValue) (there : slic
   same_reads done = λ i. reads (take (done i) (same.jobs i))
 
   -- the jobs, the table and the room stay
-  stays : (done : x.done ≤ length x.jobs) → x.before ≡ last_write (take x.done x.jobs) → IsPrefix w.entered x.entered → seen_of w ≤ seen_of x → v.turned_away ≤ x.turned_away
+  stays : (done : x.done ≤ length x.jobs) → x.before ≡ last_write (take x.done x.jobs) → IsPrefix w.entered x.entered → IsPrefix w.told x.told → seen_of w ≤ seen_of x → v.turned_away ≤ x.turned_away
       → AllZip (IsReply floor x.entered) (reads (take x.done x.jobs)) x.replies → IfSome x.reading (IsReading floor x) → is_some x.at ≡ is_some x.reading → IfSome x.stop (IsStop v.turned_away x) → RunsPart l table v x
-  stays done before entered seen turned replies reading at stop = record {
+  stays done before entered told seen turned replies reading at stop = record {
     of_round = subst (λ (t : ℕ × List JobValue). AreOfRound l t.0 t.1) (λ i. (sym same.sid i, sym same.jobs i)) run.of_round;
     of_table = same.table ∙ run.of_table;
     room = (let few = run.room in let jobs = ap (λ (js : List JobValue). length (reads js)) same.jobs in let room = same.room in omega (arith, few, jobs, room));
@@ -191,6 +203,7 @@ module _ (l : Begun) (table : Book) (v w x : Share) (j : JobValue) (there : slic
     reading = reading;
     at = at;
     stop = stop;
+    looks = subst (LookRight x.told) (sym same.jobs) (looks_stay w.told x.told w.jobs told run.looks);
   }
 
   as_many : x.done ≡ w.done → x.done ≤ length x.jobs
@@ -207,7 +220,7 @@ module _ (l : Begun) (table : Book) (v w x : Share) (j : JobValue) (there : slic
 
   waited : Grows w x → Waits w x → IfSome x.reading (IsReading floor x) → is_some x.at ≡ is_some x.reading → RunsPart l table v x
   waited g h reading at =
-      stays (as_many h.done) (same_before h.done h.before) g.entered g.seen (not_less g.turned_away) (replies_stay floor w x run.replies g.entered (same_reads h.done) h.replies) reading at (if_none (IsStop v.turned_away x) x.stop h.stop)
+      stays (as_many h.done) (same_before h.done h.before) g.entered g.told g.seen (not_less g.turned_away) (replies_stay floor w x run.replies g.entered (same_reads h.done) h.replies) reading at (if_none (IsStop v.turned_away x) x.stop h.stop)
 
   answered : (s : ℕ) (q : ReadSet) → j.work ≡ read s q → (at : ℕ) (reply : Option (List ℕ)) → Grows w x → Answers w j at reply x → IfSome reply (λ bytes. RepliesAt floor x.entered j at bytes) → RunsPart l table v x
   answered s q asks at reply g h is =
@@ -215,7 +228,7 @@ module _ (l : Begun) (table : Book) (v w x : Share) (j : JobValue) (there : slic
       let new = zip_push (IsReply floor x.entered) (reads (take w.done w.jobs)) w.replies j (record { line = j.line; at = at; reply = reply }) old (record { line = refl; reply = is }) in
       let js : reads (take x.done x.jobs) ≡ reads (take w.done w.jobs) ++ j ∷ [] = (λ i. reads (take (h.done i) (same.jobs i))) ∙ reads_read w.jobs w.done j there s q asks in
       let before : x.before ≡ last_write (take x.done x.jobs) = h.before ∙ (run.before ∙ (sym (last_read w.jobs w.done j there s q asks) ∙ sym (λ i. last_write (take (h.done i) (same.jobs i))))) in
-      stays (one_more_done h.done) before g.entered g.seen (not_less g.turned_away)
+      stays (one_more_done h.done) before g.entered g.told g.seen (not_less g.turned_away)
       (subst (λ (t : List JobValue × List ReplyValue). AllZip (IsReply floor x.entered) t.0 t.1) (λ i. (sym js i, sym h.replies i)) new)
       (if_none (IsReading floor x) x.reading h.reading) (ap is_some h.at ∙ sym (ap is_some h.reading)) (if_none (IsStop v.turned_away x) x.stop h.stop)
 
@@ -225,17 +238,17 @@ module _ (l : Begun) (table : Book) (v w x : Share) (j : JobValue) (there : slic
 
   -- a turn at a read job
   pub read_kept : (s : ℕ) (q : ReadSet) → j.work ≡ read s q → ReadTurn w j q x → RunsPart l table v x
-  read_kept s q asks (begins r g late begun holds at h) = waited g h (if_is (IsReading floor x) x.reading r holds (record {
+  read_kept s q asks (begins r n g late within begun holds at h) = waited g h (if_is (IsReading floor x) x.reading r holds (record {
     job = j;
     there = (λ i. slice_get (same.jobs i) (h.done i)) ∙ there;
     session = s;
     request = q;
     asks = asks;
-    at = length x.entered;
+    at = n;
     began = at;
     begun = begun;
     late = (let seen = run.seen in omega (arith, late, seen));
-    within = le_refl (length x.entered);
+    within = within;
   })) (ap is_some at ∙ sym (ap is_some holds))
   read_kept s q asks (goes_on g holds at h) = waited g h (reading_stays floor w x run.reading g.entered holds at h.done same.jobs) (ap is_some at ∙ (run.at ∙ sym (ap is_some holds)))
   read_kept s q asks (is_refused at reply g is h) = answered s q asks at reply g h (IfSome_then reply is (λ bytes t. record {
@@ -261,12 +274,11 @@ module _ (l : Begun) (table : Book) (v w x : Share) (j : JobValue) (there : slic
         within = omega (arith, snapshot, longer, within);
         is = owed ∙ (owes x.entered i.at j.line i.request r (reading_grows w.entered x.entered i.at i.request g.entered i.within ∙ i.begun) ∙ ap (λ (n : ℕ). reply_of x.entered n j.line i.request) snapshot);
       }))
-  read_kept s q asks (is_shut entered told rose more holds at h) =
-      let seen : seen_of w ≤ seen_of x = (let a = ap length entered in let b = ap length told in omega (arith, a, b)) in
+  read_kept s q asks (is_shut entered told seen rose more holds at h) =
       let before = run.turned_away in
-      stays (as_many h.done) (same_before h.done h.before) (same_prefix w.entered x.entered entered) seen (omega (arith, before, more))
-      (replies_stay floor w x run.replies (same_prefix w.entered x.entered entered) (same_reads h.done) h.replies)
-      (reading_stays floor w x run.reading (same_prefix w.entered x.entered entered) holds at h.done same.jobs)
+      stays (as_many h.done) (same_before h.done h.before) entered told seen (omega (arith, before, more))
+      (replies_stay floor w x run.replies entered (same_reads h.done) h.replies)
+      (reading_stays floor w x run.reading entered holds at h.done same.jobs)
       (ap is_some at ∙ (run.at ∙ sym (ap is_some holds)))
       (if_is (IsStop v.turned_away x) x.stop _ h.stop (record {
         job = j;
@@ -278,15 +290,15 @@ module _ (l : Begun) (table : Book) (v w x : Share) (j : JobValue) (there : slic
   -- a turn at a write job
   pub write_kept : (s : ℕ) (q : WriteRequest) → j.work ≡ write s q → WriteTurn w j x → RunsPart l table v x
   write_kept s q asks h =
-      let seen : seen_of w ≤ seen_of x = (let a = ap length h.entered in let b = h.told in omega (arith, a, b)) in
+      let seen : seen_of w ≤ seen_of x = (let a = ap length h.entered in let b = prefix_length w.told x.told h.told in omega (arith, a, b)) in
       let front = same_prefix w.entered x.entered h.entered in
       let idle : (r : Reading) → IsReading floor w r → ⊥ = λ r i. not_both (ap (λ (k : JobValue). k.work) (some_same (sym i.there ∙ there)) ∙ asks) i.asks in
       let holds_none : IfSome x.reading (IsReading floor x) = subst (λ (o : Option Reading). IfSome o (IsReading floor x)) (sym h.reading) (IfSome_then w.reading run.reading (λ r i. absurd (idle r i))) in
       let both : is_some x.at ≡ is_some x.reading = ap is_some h.at ∙ (run.at ∙ sym (ap is_some h.reading)) in
       ⊎_elim
-      (λ (done, before, stop). stays (one_more_done done) (before ∙ (sym (last_written w.jobs w.done j there s q asks) ∙ sym (λ i. last_write (take (done i) (same.jobs i))))) front seen (not_less h.turned_away)
+      (λ (done, before, stop). stays (one_more_done done) (before ∙ (sym (last_written w.jobs w.done j there s q asks) ∙ sym (λ i. last_write (take (done i) (same.jobs i))))) front h.told seen (not_less h.turned_away)
       (replies_stay floor w x run.replies front ((λ i. reads (take (done i) (same.jobs i))) ∙ reads_write w.jobs w.done j there s q asks) h.replies) holds_none both (if_none (IsStop v.turned_away x) x.stop stop))
-      (λ (done, before, stop). stays (as_many done) (same_before done before) front seen (not_less h.turned_away) (replies_stay floor w x run.replies front (same_reads done) h.replies) holds_none both
+      (λ (done, before, stop). stays (as_many done) (same_before done before) front h.told seen (not_less h.turned_away) (replies_stay floor w x run.replies front (same_reads done) h.replies) holds_none both
       (if_is (IsStop v.turned_away x) x.stop _ stop (record {
         job = j;
         there = (λ i. slice_get (same.jobs i) (done i)) ∙ there;
@@ -323,4 +335,5 @@ share_begins l table v b = record {
   reading = if_none (IsReading (seen_of v) v) v.reading b.reading;
   at = ap is_some b.at ∙ sym (ap is_some b.reading);
   stop = if_none (IsStop v.turned_away v) v.stop b.stop;
+  looks = b.looks;
 }

@@ -1,6 +1,6 @@
 -- A session's jobs in a round: what a worker has done of them, and what it may do next.
 use Rattle.std.specs.Prelude.{◌≡◌, ℕ, ◌^◌, ◌<◌, ◌≤◌, ◌==◌, max, List, [], ◌∷◌, ◌++◌, length, take, map, filter, slice_get, Bool, true, false, Option, Some, None, Ok, IfSome, is_some}
-use Rattle.std.specs.List.{AllZip, last_or}
+use Rattle.std.specs.List.{AllByRecursion, AllZip, last_or}
 use mathlib.Core.List.{IsPrefix}
 use Rattle.logbook.specs.Pages.{Book}
 use Rattle.gd_base.specs.Counts.{Rose}
@@ -9,15 +9,24 @@ use Rattle.gd_runs.specs.Request.{Line, read, write, ReadSet, reply_of}
 use Rattle.gd_runs.specs.Core.{Reading, reading_of}
 use Rattle.gd_runs.specs.Side.{WriteLine, Begun}
 use Rattle.gd_core_laws.specs.Round.{one_write}
+use Rattle.gd_cache.specs.Asked.{IsKeyOf}
+use Rattle.gd_cache.specs.Right.{KeepsRight}
+use Rattle.gd_cache.specs.Shown.{Shown}
 use Rattle.gd_crew.specs.declared.job.Stop.{Stop}
 use Rattle.gd_crew.specs.declared.job.StopCause.{StopCause}
 use Rattle.gd_crew.specs.declared.job.StopCause.TheVariants as cause
 
--- a read or a write line of a round, with its length
+-- where the reply to a read may be kept: a cache, and the text of the read
+pub record LookValue : Type 0 where
+  pub cache : Shown
+  pub text : List ℕ
+
+-- a read or a write line of a round, with its length, and where the reply to it may be kept
 pub record JobValue : Type 0 where
   pub line : ℕ
   pub bytes : ℕ
   pub work : Line
+  pub look : Option LookValue
 
 -- the reply that is kept of a read line, with its snapshot; none stands for want of memory
 pub record ReplyValue : Type 0 where
@@ -112,7 +121,16 @@ pub record IsReading (floor : ℕ) (v : Share) (r : Reading) : Type 0 where
 
 -- ---- a run
 
--- A session before its first job in a round, with room for its replies.
+-- where the reply to a job may be kept, what is kept is right over these batches, under the text of the read that the job is
+pub record IsLookRight (batches : List Batch) (work : Line) (l : LookValue) : Type 0 where
+  pub keeps : KeepsRight batches l.cache
+  pub text : (s : ℕ) (q : ReadSet) → work ≡ read s q → IsKeyOf l.text q
+
+-- so it is of each of these jobs
+abbrev pub LookRight : List Batch → List JobValue → Type 0
+LookRight batches jobs = AllByRecursion (λ j. IfSome j.look (IsLookRight batches j.work)) jobs
+
+-- A session before its first job in a round, with room for its replies; what may be looked up is right over what it was told.
 pub record BeginsShare (l : Begun) (table : Book) (v : Share) : Type 0 where
   pub of_round : AreOfRound l v.sid v.jobs
   pub of_table : v.table ≡ table
@@ -123,6 +141,7 @@ pub record BeginsShare (l : Begun) (table : Book) (v : Share) : Type 0 where
   pub at : v.at ≡ None
   pub replies : v.replies ≡ []
   pub stop : v.stop ≡ None
+  pub looks : LookRight v.told v.jobs
 
 -- A session after some of its jobs: the read jobs among them have their replies, and no other; it holds at most a reading of the next job, and it stopped, if it did, at that job.
 pub record RunsPart (l : Begun) (table : Book) (v w : Share) : Type 0 where
@@ -140,6 +159,7 @@ pub record RunsPart (l : Begun) (table : Book) (v w : Share) : Type 0 where
   pub reading : IfSome w.reading (IsReading (seen_of v) w)
   pub at : is_some w.at ≡ is_some w.reading
   pub stop : IfSome w.stop (IsStop v.turned_away w)
+  pub looks : LookRight w.told w.jobs
 
 -- it stopped, or all its jobs are done
 abbrev pub IsOver : Share → Type 0

@@ -1,5 +1,5 @@
 -- A session with its jobs as the definitions have it, and what a worker's run does to all of its sessions.
-use Rattle.std.specs.Prelude.{◌≡◌, ℕ, ◌+◌, ◌<◌, ◌≤◌, List, [], ◌∷◌, ◌++◌, length, map, Option, Some, None, Result, Ok, Err, slice_index_or, vec_capacity}
+use Rattle.std.specs.Prelude.{◌≡◌, ℕ, ◌+◌, ◌<◌, ◌≤◌, List, [], ◌∷◌, ◌++◌, length, map, Option, Some, None, Result, Ok, Err, option_map, slice_index_or, vec_capacity}
 use Rattle.logbook.specs.Pages.{Book}
 use Rattle.gd_base.specs.declared.memory.Memory.{Memory}
 use Rattle.gd_mql.specs.Requests.{read_set_view, write_view}
@@ -7,6 +7,7 @@ use Rattle.gd_runs.specs.Request.{Line, read, write}
 use Rattle.gd_runs.specs.Side.{Begun}
 use Rattle.gd_seats.specs.Session.{SessionValue, reads as what_reads}
 use Rattle.gd_crew.specs.declared.job.Job.{Job}
+use Rattle.gd_crew.specs.declared.job.LookUp.{LookUp}
 use Rattle.gd_crew.specs.declared.job.ReadReply.{ReadReply}
 use Rattle.gd_crew.specs.declared.job.StopCause.TheVariants as cause
 use Rattle.gd_crew.specs.declared.job.Work.{Work}
@@ -15,16 +16,25 @@ use Rattle.gd_crew.specs.declared.reading.ReadTurn.{ReadTurn}
 use Rattle.gd_crew.specs.declared.reading.ReadTurn.TheVariants as turn
 use Rattle.gd_crew.specs.declared.seated.Seated.{Seated}
 use Rattle.gd_crew.specs.Reading.{bytes_of}
-use Rattle.gd_crew.specs.Runs.{JobValue, ReplyValue, Share, reads, BeginsShare, RunsPart, RunsShare, IsOver}
+use Rattle.gd_crew.specs.Runs.{JobValue, LookValue, ReplyValue, Share, reads, BeginsShare, RunsPart, RunsShare, IsOver}
 
 -- the read or the write that this refers to
 abbrev pub work_view : Work → Line
-work_view (Read sid r) = read sid (read_set_view r.now)
+work_view (Read sid r look) = read sid (read_set_view r.now)
 work_view (Write sid w) = write sid (write_view w.now)
+
+-- where a reply may be kept
+abbrev pub look_view : LookUp → LookValue
+look_view l = record { cache = l.cache.now; text = l.text.now }
+
+-- where the reply to a read may be kept, if it may
+abbrev pub look_in : Work → Option LookValue
+look_in (Read sid r look) = option_map look_view look
+look_in (Write sid w) = None
 
 -- the job that this is
 abbrev pub job_view : Job → JobValue
-job_view j = record { line = j.line; bytes = j.bytes; work = work_view j.work }
+job_view j = record { line = j.line; bytes = j.bytes; work = work_view j.work; look = look_in j.work }
 
 -- the kept reply that this is
 abbrev pub reply_view : ReadReply → ReplyValue

@@ -1,5 +1,6 @@
 -- What a turn at a write line leaves of a session.
-use Rattle.std.specs.Prelude.{◌≡◌, ◌≤◌, length, Option, Some, None}
+use Rattle.std.specs.Prelude.{◌≡◌, Option, Some, None}
+use mathlib.Core.List.{IsPrefix}
 use Rattle.gd_shared.specs.History.{FrontValue}
 use Rattle.gd_shared.specs.Shared.{longer}
 use Rattle.gd_seats.specs.Session.{SessionValue}
@@ -13,6 +14,6 @@ LearnsOf (Some receipt) old new = new ≡ record old { seat = record old.seat { 
 pub record HasLearned (old new : SessionValue) : Type 0 where
   pub table : new.seat.history ≡ old.seat.history
   pub entered : new.seat.entered ≡ old.seat.entered
-  pub told : length old.seat.told ≤ length new.seat.told
+  pub told : IsPrefix old.seat.told new.seat.told
   pub turned_away : new.seat.turned_away ≡ old.seat.turned_away
   pub held : new.held ≡ old.held

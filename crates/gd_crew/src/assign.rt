@@ -1,7 +1,9 @@
 //! The workers of a round, with the seats and the jobs of its sessions.
-ghost use Rattle.std.specs.Prelude.{◌≡◌, ◌≤◌, ◌<◌, ◌+◌, length, vec_capacity, IfOk, OnOk};
+ghost use Rattle.std.specs.Prelude.{◌≡◌, ◌≤◌, ◌<◌, ◌+◌, List, length, vec_capacity, IfOk, IfSome, OnOk};
 ghost use Rattle.std.specs.Prelude.{MatchResult};
-ghost use Rattle.std.specs.List.{All};
+ghost use Rattle.std.specs.List.{All, AllByRecursion};
+ghost use Rattle.gd_prim.specs.declared.Batch.{Batch};
+ghost use Rattle.gd_cache.specs.Right.{KeepsRight};
 ghost use Rattle.gd_crew.specs.Jobs.{AreNumbered};
 ghost use Rattle.gd_crew.specs.Ready.{IsIdle, IsReady, IsManned, MayHire, lent};
 
@@ -10,6 +12,7 @@ use crate::seated::Seated;
 use crate::seats::lend;
 use crate::worker::Worker;
 use gd_base::memory::Memory;
+use gd_cache::cache::ReplyCache;
 use gd_disk::disk::Disk;
 use gd_outside::clock::Clock;
 use gd_round_lines::work::{ReadLine, Works};
@@ -86,9 +89,11 @@ fn seat_among<'a>(
     sid: u32,
     shown: Receipt,
     works: &'a Works,
+    cache: Option<&'a ReplyCache>,
     seats: &mut Vec<Session>,
 ) -> Result<(), Memory>
     requires numbered { AreNumbered works.now }
+    requires right { IfSome cache (λ c. KeepsRight shown.list c.now) }
     requires idle { All (IsIdle shown.history) seats.old.items }
     requires room { length seats.old.items ≤ vec_capacity seats.old }
     requires some { 0 < length seats.old.items }
@@ -101,7 +106,7 @@ fn seat_among<'a>(
     ensures capacity { vec_capacity seats.new ≡ vec_capacity seats.old }
 {
     seated.reserve(1)?;
-    let one = lend(alloc, sid, shown, works, seats)?;
+    let one = lend(alloc, sid, shown, works, cache, seats)?;
     seated.push_reserved(one);
     Ok(())
 }
@@ -115,12 +120,14 @@ fn seat<'a>(
     sid: u32,
     shown: Receipt,
     works: &'a Works,
+    cache: Option<&'a ReplyCache>,
     hired: &mut Vec<Worker<'a>>,
     seats: &mut Vec<Session>,
 ) -> Result<(), Memory>
     requires workers { 0 < workers }
     requires budget { (0 < budget) × (budget ≤ 1_000_000) }
     requires numbered { AreNumbered works.now }
+    requires right { IfSome cache (λ c. KeepsRight shown.list c.now) }
     requires idle { All (IsIdle shown.history) seats.old.items }
     requires room { length seats.old.items ≤ vec_capacity seats.old }
     requires some { 0 < length seats.old.items }
@@ -134,7 +141,15 @@ fn seat<'a>(
 {
     let place = place_of(alloc, hired, sid % workers, budget)?;
     let worker = &mut hired[place];
-    seat_among(alloc, &mut worker.seated, sid, shown, works, seats)
+    seat_among(alloc, &mut worker.seated, sid, shown, works, cache, seats)
+}
+
+/// The cache of a session, where replies are kept.
+fn cache_of(caches: &[ReplyCache], sid: u32) -> Option<&ReplyCache>
+    ensures { (batches : List Batch) → AllByRecursion (KeepsRight batches) caches.now
+        → IfSome result (λ c. KeepsRight batches c.now) }
+{
+    caches.get(sid as usize)
 }
 
 /// Lends seats to these sessions, in their order. `Memory`: an allocation was refused.
@@ -145,12 +160,14 @@ fn seat_all<'a, D: Disk, C: Clock>(
     side: &WriteSide<D, C>,
     sessions: &[u32],
     works: &'a Works,
+    caches: &'a [ReplyCache],
     hired: &mut Vec<Worker<'a>>,
     seats: &mut Vec<Session>,
 ) -> Result<(), Memory>
     requires workers { 0 < workers }
     requires budget { (0 < budget) × (budget ≤ 1_000_000) }
     requires numbered { AreNumbered works.now }
+    requires right { AllByRecursion (KeepsRight side.now.shown) caches.now }
     requires idle { All (IsIdle side.now.table) seats.old.items }
     requires room { length seats.old.items + lent hired.old.items ≤ vec_capacity seats.old }
     requires enough { length sessions.now ≤ length seats.old.items }
@@ -163,26 +180,31 @@ fn seat_all<'a, D: Disk, C: Clock>(
 {
     for sid in sessions {
         let shown = side.tell();
-        seat(alloc, workers, budget, *sid, shown, works, hired, seats)?;
+        let cache = cache_of(caches, *sid);
+        seat(alloc, workers, budget, *sid, shown, works, cache, hired, seats)?;
     }
     Ok(())
 }
 
 /// Lends a seat to each session that has a line in a round, which learns of all that is shown, with
 /// its reads and writes. Session `s` goes to worker `s` modulo `workers`; one who has no session is
-/// left out. A slice of a read has this budget of steps. Where there are fewer seats than sessions
-/// nobody works. `Memory`: an allocation was refused; the seats are back, and nobody works.
+/// left out. A slice of a read has this budget of steps. The replies to the reads of a session are
+/// looked up in its cache, at the place of its number, where there is one. Where there are fewer
+/// seats than sessions nobody works. `Memory`: an allocation was refused; the seats are back, and
+/// nobody works.
 pub fn assign<'a, D: Disk, C: Clock>(
     alloc: Global,
     workers: u32,
     budget: u64,
     side: &WriteSide<D, C>,
     works: &'a Works,
+    caches: &'a [ReplyCache],
     seats: &mut Vec<Session>,
 ) -> Result<Vec<Worker<'a>>, Memory>
     requires workers { 0 < workers }
     requires budget { (0 < budget) × (budget ≤ 1_000_000) }
     requires numbered { AreNumbered works.now }
+    requires right { AllByRecursion (KeepsRight side.now.shown) caches.now }
     requires idle { All (IsIdle side.now.table) seats.old.items }
     requires room { length seats.old.items ≤ vec_capacity seats.old }
     ensures idle { All (IsIdle side.now.table) seats.new.items }
@@ -204,6 +226,7 @@ pub fn assign<'a, D: Disk, C: Clock>(
         side,
         sessions.as_slice(),
         works,
+        caches,
         &mut hired,
         seats,
     ) {

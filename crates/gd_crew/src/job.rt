@@ -1,11 +1,29 @@
 //! What a worker has to do, and what it did.
+use gd_cache::cache::ReplyCache;
+use gd_cache::key::ReplyText;
 use gd_mql::request::{ReadSet, WriteRequest};
 
-/// What a job asks: a read or a write of a session, whose request stays with the caller.
+/// Where the reply to a read may be kept: the cache of its session, in which nothing changes while
+/// the workers run, and the text of what it asks.
+#[derive(Clone, Copy)]
+pub struct LookUp<'a> {
+    pub cache: &'a ReplyCache,
+    pub text: &'a ReplyText,
+}
+
+/// What a job asks: a read or a write of a session, whose request stays with the caller. The reply
+/// to a read is looked up first, where it may be kept.
 #[derive(Clone, Copy)]
 pub enum Work<'a> {
-    Read { sid: u32, request: &'a ReadSet },
-    Write { sid: u32, request: &'a WriteRequest },
+    Read {
+        sid: u32,
+        request: &'a ReadSet,
+        look: Option<LookUp<'a>>,
+    },
+    Write {
+        sid: u32,
+        request: &'a WriteRequest,
+    },
 }
 
 /// A read or a write line of a round, with its length.

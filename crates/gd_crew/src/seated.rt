@@ -127,7 +127,11 @@ impl<'a> Seated<'a> {
         let job = &self.jobs[self.done];
         let line = job.line;
         match job.work {
-            Work::Read { sid: _, request } => {
+            Work::Read {
+                sid: _,
+                request,
+                look,
+            } => {
                 let turn = read_turn(
                     &mut self.session,
                     alloc,
@@ -137,6 +141,7 @@ impl<'a> Seated<'a> {
                     budget,
                     line,
                     request,
+                    look,
                     steps,
                 );
                 self.take_read(gate, number, line, turn);

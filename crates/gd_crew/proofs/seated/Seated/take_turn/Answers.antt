@@ -5,7 +5,7 @@ use Rattle.gd_crew.specs.Round.{begun, IsOfRound}
 use Rattle.gd_crew.specs.Seated.{share_of, job_view, work_view}
 use Rattle.gd_crew.proofs.Before.{of_round}
 use Rattle.gd_crew.proofs.Turns as turns
-use Rattle.gd_crew.proofs.Turned.{at_job, has_room, turned_read, turned_write}
+use Rattle.gd_crew.proofs.Turned.{at_job, looks_for, has_room, turned_read, turned_write}
 use Rattle.gd_crew.proofs.seated.Seated.take_turn.Goals as goal
 
 pub read_turn-turn-requires-clause-line : goal.read_turn-turn-requires-clause-line
@@ -13,6 +13,12 @@ read_turn-turn-requires-clause-line g c κs within =
     let s = c.args.self.now in let j = c.index-job.result.now in
     let at : slice_get s.jobs.items s.done ≡ Some j = slice_get_read _ _ _ j refl c.requires.more c.index-job.ensures in
     c.requires.part.1.of_round.lines s.done (job_view j) (at_job s j at)
+
+pub read_turn-turn-requires-clause-right : goal.read_turn-turn-requires-clause-right
+read_turn-turn-requires-clause-right g c κs within =
+    let s = c.args.self.now in let j = c.index-job.result.now in
+    let at : slice_get s.jobs.items s.done ≡ Some j = slice_get_read _ _ _ j refl c.requires.more c.index-job.ensures in
+    looks_for s.session.seat.told j.work c.in-Read.sid c.in-Read.request c.in-Read.look c.in-Read.is (turns.look_next s.session.seat.told (share_of s).jobs s.done (job_view j) (at_job s j at) c.requires.part.1.looks)
 
 pub take_read-requires-clause-room : goal.take_read-requires-clause-room
 take_read-requires-clause-room g c κs within =
