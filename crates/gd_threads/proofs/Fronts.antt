@@ -23,6 +23,10 @@ use Rattle.gd_threads.specs.Served.{RoundsValue}
 use Rattle.gd_threads.specs.Rounds.{MayCountInRound, StandsForRoundFront}
 use Rattle.gd_threads.specs.Working.{KeepsNow, RunsWrites}
 
+-- a side at the number of a line, whatever sessions keep
+abbrev pub at_line : {D C : Type 0} → SideValue D C → ℕ → RoundsValue D C
+at_line side line = record { side = side; lines = line; keeping = record { caches = []; reads = 0 } }
+
 module _ {D C : Type 0} (first begun : ℕ) (lines : List RoundLine) (works : Works) (within : AreWithin first (first + length lines) works) (replies : List (List ℕ)) (late : SideValue D C)
     (of : AllByRecursion (IsOfWrites works.writes.items) late.outcomes) (answers : AnswersJoined first begun works late replies) where
   -- the reply to a line of which it is kept that it is in doubt says so
@@ -46,14 +50,14 @@ module _ {D C : Type 0} (first begun : ℕ) (lines : List RoundLine) (works : Wo
       by x w at_w line j place was reply (by_caller y r at_r r_line is most) = absurd (within.apart y x r w at_r at_w (r_line ∙ sym place ∙ sym line))
       by x w at_w line j place was reply (by_worker v is reply_is most above later before) = absurd (within.apart is.place x is.read w is.there at_w (is.line ∙ sym place ∙ sym line))
 
-  may_count : (old : SideValue D C) (n : ℕ) (b : Batch) → MayCount old.history old.doubt late.outcomes n b → MayCountInRound (record { side = old; lines = first }) replies n b
+  may_count : (old : SideValue D C) (n : ℕ) (b : Batch) → MayCount old.history old.doubt late.outcomes n b → MayCountInRound (at_line old first) replies n b
   may_count old n b (e, is, why) = (e, is, ⊎_elim (λ before. inl before) (λ kept. inr (told_in_doubt e.line n kept)) why)
 
   -- a front behind the writes is one behind the round
-  pub round_front : (old : SideValue D C) (new : RoundsValue D C) → new.side.history ≡ late.history → (file : List ℕ) → StandsBetween old.history old.doubt late.history late.outcomes file → StandsForRoundFront (record { side = old; lines = first }) new replies file
+  pub round_front : (old : SideValue D C) (new : RoundsValue D C) → new.side.history ≡ late.history → (file : List ℕ) → StandsBetween old.history old.doubt late.history late.outcomes file → StandsForRoundFront (at_line old first) new replies file
   round_front old new same file front =
-      subst (λ (h : _). StandsForFront (batches old.history) (batches h) (MayCountInRound (record { side = old; lines = first }) replies) file) (sym same)
-      (front_more (batches old.history) (MayCount old.history old.doubt late.outcomes) (MayCountInRound (record { side = old; lines = first }) replies) (batches late.history) (batches late.history) file (may_count old) (begins_itself (batches late.history)) front)
+      subst (λ (h : _). StandsForFront (batches old.history) (batches h) (MayCountInRound (at_line old first) replies) file) (sym same)
+      (front_more (batches old.history) (MayCount old.history old.doubt late.outcomes) (MayCountInRound (at_line old first) replies) (batches late.history) (batches late.history) file (may_count old) (begins_itself (batches late.history)) front)
 
 module _ {D C : Type 0} (content : D → Option (List ℕ)) (moment : D → ℕ) (images : D → List ℕ → Type 0) (images_since : D → ℕ → List ℕ → Type 0) (faults : D → ℕ) (may : C → ℕ → Bool) where
   -- what a stop left while the writes of a round were run
@@ -77,10 +81,10 @@ module _ {D C : Type 0} (content : D → Option (List ℕ)) (moment : D → ℕ)
 
   -- and where nothing was done
   pub fronts_none : (first n : ℕ) (old : SideValue D C) (replies : List (List ℕ)) → KeepsNow content moment images images_since may old → Tells (content old.log.disk)
-      → LeavesSince moment images images_since (moment old.log.disk) old.log.disk (StandsForRoundFront (record { side = old; lines = first }) (record { side = old; lines = n }) replies)
+      → LeavesSince moment images images_since (moment old.log.disk) old.log.disk (StandsForRoundFront (at_line old first) (at_line old n) replies)
   fronts_none first n old replies keeps tells =
       let whole = λ (c : List ℕ) (now : images old.log.disk c).
-      front_whole (batches old.history) old.history old.doubt (MayCountInRound (record { side = old; lines = first }) replies) c (begins_itself (batches old.history)) (λ e is. (e, refl, inl (is, refl))) (keeps.keeps.holds c (tells, now)) in
+      front_whole (batches old.history) old.history old.doubt (MayCountInRound (at_line old first) replies) c (begins_itself (batches old.history)) (λ e is. (e, refl, inl (is, refl))) (keeps.keeps.holds c (tells, now)) in
       record {
         later = omega arith;
         now = whole;

@@ -6,3 +6,4 @@ pub mod Passed
 pub mod Served
 pub mod Sides
 pub mod Stopped
+pub mod Kept

@@ -30,7 +30,9 @@ use Rattle.gd_crew.specs.Joined.{begun_by}
 use Rattle.gd_threads.specs.Served.{RoundsValue}
 use Rattle.gd_threads.specs.Rounds.{Serves, StandsForRound, StandsForRoundFront, AnswersRound}
 use Rattle.gd_threads.specs.Working.{ShowsMore, RunsWrites}
-use Rattle.gd_threads.proofs.Fronts.{fronts_run, round_front}
+use Rattle.gd_lookup.specs.Keeping.{KeepingValue}
+use Rattle.gd_lookup.specs.Calls.{CountsLines}
+use Rattle.gd_threads.proofs.Fronts.{at_line, fronts_run, round_front}
 use Rattle.gd_threads.proofs.Loaded.{callers_loaded}
 use Rattle.gd_threads.proofs.Sides.{locked_for, stands_for}
 use Rattle.gd_threads.proofs.Stopped.{stopped}
@@ -80,7 +82,8 @@ module _ {D C : Type 0} (content : D → Option (List ℕ)) (moment : D → ℕ)
 
 module _ {D C : Type 0} (content : D → Option (List ℕ)) (moment : D → ℕ) (images : D → List ℕ → Type 0) (images_since : D → ℕ → List ℕ → Type 0) (faults : D → ℕ) (may : C → ℕ → Bool)
     (first : ℕ) (lines : List RoundLine) (works : Works) (within : AreWithin first (first + length lines) works) (reads : (given : List Numbered) → AreKept lines (texts_of given) → AreRead first given works)
-    (some_given : List Numbered) (some_kept : AreKept lines (texts_of some_given)) (begun : ℕ) (replies : List (List ℕ)) where
+    (some_given : List Numbered) (some_kept : AreKept lines (texts_of some_given)) (begun : ℕ) (replies : List (List ℕ))
+    (had has : KeepingValue) (counted : (texts : List (List ℕ)) → AreKept lines texts → CountsLines first texts replies had has) where
   abbrev Runs : SideValue D C → SideValue D C → Type 0
   Runs mid late = RunsWrites content moment images images_since faults may works mid late
 
@@ -88,7 +91,7 @@ module _ {D C : Type 0} (content : D → Option (List ℕ)) (moment : D → ℕ)
   written_lines = map write_of works.writes.items
 
   abbrev after : SideValue D C → RoundsValue D C
-  after late = record { side = record late { outcomes = [] }; lines = first + length lines }
+  after late = record { side = record late { outcomes = [] }; lines = first + length lines; keeping = has }
 
   read_in : (round : ℕ) (texts : List (List ℕ)) → AreKept lines texts → AreRead first (in_round round texts) works
   read_in round texts kept = reads (in_round round texts) (subst (AreKept lines) (sym (texts_in round texts)) kept)
@@ -98,7 +101,7 @@ module _ {D C : Type 0} (content : D → Option (List ℕ)) (moment : D → ℕ)
   over old list = record old { shown = list }
 
   round_is_served : (old : SideValue D C) (list : List Batch) (late : SideValue D C) → old.outcomes ≡ [] → IsFreshFrom first old.history old.doubt → length old.shown ≤ length list → length list ≤ size old.history → (length list ≡ size old.history) ⊎ (length list ≡ length old.shown) → begun ≡ length list
-      → Runs (over old list) late → AnswersJoined first begun works late replies → Serves may lines (record { side = old; lines = first }) (after late) replies
+      → Runs (over old list) late → AnswersJoined first begun works late replies → Serves may lines (at_line old first) (after late) replies
   round_is_served old list late none fresh above below shows shown runs answers loaded before output earlier round texts len kept stands =
       let given = in_round round texts in
       let joined = runs.joined in
@@ -120,7 +123,7 @@ module _ {D C : Type 0} (content : D → Option (List ℕ)) (moment : D → ℕ)
   module _ (old : SideValue D C) (list : List Batch) (late : SideValue D C) (none : old.outcomes ≡ []) (fresh : IsFreshFrom first old.history old.doubt) (above : length old.shown ≤ length list) (below : length list ≤ size old.history)
       (shows : (length list ≡ size old.history) ⊎ (length list ≡ length old.shown)) (runs : Runs (over old list) late) where
     abbrev Stands : List ℕ → Type 0
-    Stands = StandsForRound may lines (record { side = old; lines = first })
+    Stands = StandsForRound may lines (at_line old first)
 
     -- under the lock
     by_lock : Tells (content old.log.disk) → (file : List ℕ) → images_since runs.joined.log.disk (moment old.log.disk) file → Stands file
@@ -165,7 +168,7 @@ module _ {D C : Type 0} (content : D → Option (List ℕ)) (moment : D → ℕ)
 
   -- and for a front of the history with which the round ends
   front_in_round : (old : SideValue D C) (list : List Batch) (late : SideValue D C) → Runs (over old list) late → AnswersJoined first begun works late replies → Tells (content old.log.disk)
-      → LeavesSince moment images images_since (moment old.log.disk) late.log.disk (StandsForRoundFront (record { side = old; lines = first }) (after late) replies)
+      → LeavesSince moment images images_since (moment old.log.disk) late.log.disk (StandsForRoundFront (at_line old first) (after late) replies)
   front_in_round old list late runs answers tells =
       let left = fronts_run content moment images images_since faults may works (over old list) late runs tells in
       let of = kept_of_writes content moment images images_since faults may first (first + length lines) works within (over old list) late runs in
@@ -174,7 +177,7 @@ module _ {D C : Type 0} (content : D → Option (List ℕ)) (moment : D → ℕ)
 
   -- LAW: the lines of a round that were read and answered
   answered_over : (old : SideValue D C) (list : List Batch) (late : SideValue D C) → old.outcomes ≡ [] → IsFreshFrom first old.history old.doubt → length old.shown ≤ length list → length list ≤ size old.history → (length list ≡ size old.history) ⊎ (length list ≡ length old.shown) → begun ≡ length list
-      → Runs (over old list) late → AnswersJoined first begun works late replies → AnswersRound content moment images images_since faults may lines (record { side = old; lines = first }) (after late) replies
+      → Runs (over old list) late → AnswersJoined first begun works late replies → AnswersRound content moment images images_since faults may lines (record { side = old; lines = first; keeping = had }) (after late) replies
   answered_over old list late none fresh above below shows shown runs answers =
       let mid = over old list in
       let had = within.replies in
@@ -193,10 +196,11 @@ module _ {D C : Type 0} (content : D → Option (List ℕ)) (moment : D → ℕ)
         later = omega (arith, later, left_later);
         rose = round_rose first begun some_given works (reads some_given some_kept) late replies answers (faults old.log.disk) (faults late.log.disk)
             (count_rose content moment images images_since faults may first (first + length lines) works within mid late runs);
+        counted = counted;
       }
 
   pub answered : (old mid late new : SideValue D C) → old.outcomes ≡ [] → IsFreshFrom first old.history old.doubt → ShowsMore old mid → begun ≡ length mid.shown → Runs mid late → AnswersJoined first begun works late replies
-      → new ≡ record late { outcomes = [] } → AnswersRound content moment images images_since faults may lines (record { side = old; lines = first }) (record { side = new; lines = first + length lines }) replies
+      → new ≡ record late { outcomes = [] } → AnswersRound content moment images images_since faults may lines (record { side = old; lines = first; keeping = had }) (record { side = new; lines = first + length lines; keeping = has }) replies
   answered old mid late new none fresh shows shown runs answers is =
-      subst (λ (s : SideValue D C). AnswersRound content moment images images_since faults may lines (record { side = old; lines = first }) (record { side = s; lines = first + length lines }) replies) (sym is)
+      subst (λ (s : SideValue D C). AnswersRound content moment images images_since faults may lines (record { side = old; lines = first; keeping = had }) (record { side = s; lines = first + length lines; keeping = has }) replies) (sym is)
       (answered_over old shows.list late none fresh shows.above shows.below shows.all (shown ∙ ap (λ (s : SideValue D C). length s.shown) shows.is) (subst (λ (s : SideValue D C). Runs s late) shows.is runs) answers)

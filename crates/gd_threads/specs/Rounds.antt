@@ -13,6 +13,7 @@ use Rattle.gd_writer.specs.Parts.{Tells}
 use Rattle.gd_crew.specs.Round.{LeavesSince}
 use Rattle.gd_caller.specs.Served.{printed, StandsServed}
 use Rattle.gd_caller.specs.Writes.{RoseBy}
+use Rattle.gd_lookup.specs.Calls.{CountsLines}
 use Rattle.gd_threads.specs.Served.{RoundsValue, state_at}
 
 -- whichever lines came before, and however these were read, the round of them is served with these replies
@@ -36,7 +37,11 @@ MayCountInRound old replies n b = (e : Entry) × (e.batch ≡ b)
 abbrev pub StandsForRoundFront : {D C : Type 0} → RoundsValue D C → RoundsValue D C → List (List ℕ) → List ℕ → Type 0
 StandsForRoundFront old new replies file = StandsForFront (batches old.side.history) (batches new.side.history) (MayCountInRound old replies) file
 
--- The lines of a round were answered with these replies. Where what was served before stands, this round is served behind it. There is a reply for each line, the number of the next line rises by the lines, the batches that were loaded stay, the disk goes on to tell its content, the clock keeps its moments, and the disk's count rose by the replies that tell a failure of it. Where the disk tells its content, all that a stop left since the round began, in a write or between two, stands for a state to which the round is served, and for a front of the history with which it ends, or that and one batch that may count.
+-- whichever bytes these lines had, their replies were counted in what sessions keep
+abbrev pub CountsRound : {D C : Type 0} → List RoundLine → RoundsValue D C → RoundsValue D C → List (List ℕ) → Type 0
+CountsRound lines old new replies = (texts : List (List ℕ)) → AreKept lines texts → CountsLines old.lines texts replies old.keeping new.keeping
+
+-- The lines of a round were answered with these replies. Where what was served before stands, this round is served behind it. There is a reply for each line, the number of the next line rises by the lines, the batches that were loaded stay, the disk goes on to tell its content, the clock keeps its moments, and the disk's count rose by the replies that tell a failure of it. Where the disk tells its content, all that a stop left since the round began, in a write or between two, stands for a state to which the round is served, and for a front of the history with which it ends, or that and one batch that may count. The answers to reads were counted in what sessions keep.
 pub record AnswersRound {D C : Type 0} (content : D → Option (List ℕ)) (moment : D → ℕ) (images : D → List ℕ → Type 0) (images_since : D → ℕ → List ℕ → Type 0) (faults : D → ℕ) (may : C → ℕ → Bool) (lines : List RoundLine) (old new : RoundsValue D C) (replies : List (List ℕ)) : Type 0 where
   pub served : Serves may lines old new replies
   pub many : length replies ≡ length lines
@@ -48,3 +53,4 @@ pub record AnswersRound {D C : Type 0} (content : D → Option (List ℕ)) (mome
   pub clock : may new.side.clock ≡ may old.side.clock
   pub later : faults old.side.log.disk ≤ faults new.side.log.disk
   pub rose : RoseBy (faults old.side.log.disk) (faults new.side.log.disk) (fault_count old.lines replies)
+  pub counted : CountsRound lines old new replies

@@ -1,6 +1,6 @@
 //! A run that is served round by round, on threads.
 ghost use Rattle.std.specs.Prelude.{◌≡◌, ◌≤◌, ◌<◌, ◌+◌, ◌*◌, ◌^◌, ℕ, List, [], length, map, vec_len};
-ghost use Rattle.std.specs.Prelude.{vec_capacity, IfOk, IfErr, MatchResult, true};
+ghost use Rattle.std.specs.Prelude.{vec_capacity, option_map, IfOk, IfErr, MatchResult, true};
 ghost use Rattle.std.specs.List.{All};
 ghost use Rattle.std.specs.Option.{ForSome};
 ghost use Rattle.gd_base.specs.Counts.{Rose};
@@ -22,6 +22,7 @@ ghost use Rattle.gd_round_lines.specs.Replies.{reply_texts, no_memory};
 ghost use Rattle.gd_caller.specs.Served.{StandsForState};
 ghost use Rattle.gd_round_lines.specs.Works.{texts_of, AreRead, AreWithin};
 ghost use Rattle.gd_crew.specs.Ready.{IsIdle};
+ghost use Rattle.gd_lookup.specs.Laws.{first_kept};
 ghost use Rattle.gd_threads.specs.Served.{state_at};
 ghost use Rattle.gd_threads.specs.Rounds.{AnswersRound};
 ghost use Rattle.gd_threads.specs.Working.{KeepsNow};
@@ -33,6 +34,7 @@ use gd_crew::collect::collect;
 use gd_disk::disk::Disk;
 use gd_input::line::RoundLine;
 use gd_journal::fault::JournalFault;
+use gd_lookup::keeping::Keeping;
 use gd_outside::clock::Clock;
 use gd_outside::gate::Gate;
 use gd_reply::reply::Reply;
@@ -65,17 +67,19 @@ fn crew_size(most: NonZeroU32, lines: usize) -> u32
 }
 
 /// A run that is served round by round, by so many workers: the write side, the seats from which
-/// the workers read, the number of the next line, and how many steps a slice of a read may take. It
-/// is ended by `close` alone. Contracts see the write side and the number.
+/// the workers read, the number of the next line, how many steps a slice of a read may take, and
+/// what sessions keep of replies. It is ended by `close` alone. Contracts see the write side, the
+/// number and what sessions keep.
 ///
 /// Its type keeps that each entry, and a write in doubt, is of a line before the next one, that
-/// nothing is kept of write lines, and that no seat reads.
+/// nothing is kept of write lines, that no seat reads, and that what sessions keep is right.
 pub struct Rounds<D: Disk, C: Clock> {
     side: WriteSide<D, C>,
     seats: Vec<Session>,
     lines: u64,
     budget: u64,
     workers: NonZeroU32,
+    keeping: Keeping,
 }
 
 impl<D: Disk, C: Clock> Model for Rounds<D, C> {
@@ -88,9 +92,9 @@ impl<D: Disk, C: Clock> Model for Rounds<D, C> {
 
     ghost coded = { Prim.hlevel (codes, members_code, json_code, D.code, C.code) };
 
-    ghost view = { λ r. record { side = r.side; lines = r.lines } };
+    ghost view = { λ r. record { side = r.side; lines = r.lines; keeping = r.keeping } };
 
-    ghost invariant = { λ r. IsBetween r.side r.lines r.seats r.budget };
+    ghost invariant = { λ r. IsBetween r.side r.lines r.seats r.budget r.keeping };
 }
 
 /// The run that steps are counted for.
@@ -114,9 +118,10 @@ fn idle_sessions(mut seats: Vec<Seat>, mut sessions: Vec<Session>) -> Vec<Sessio
 impl<D: Disk, C: Clock> Rounds<D, C> {
     /// Opens the store that a disk holds, before the first line is served: all is shown. So many
     /// workers are to run each round, and its reads go on in slices of a budget of steps, or of
-    /// 1,000,000 where the budget is greater. It waits for nobody, since there is no reader yet. An
-    /// error hands the disk and the clock back; it is one of `open_log`: `NotStore`, `Damaged`,
-    /// `DiskFault`, or `Memory`, also for the seats.
+    /// 1,000,000 where the budget is greater. Each session keeps so many replies, if a number is
+    /// given. It waits for nobody, since there is no reader yet. An error hands the disk and the
+    /// clock back; it is one of `open_log`: `NotStore`, `Damaged`, `DiskFault`, or `Memory`, also
+    /// for the seats and for what sessions keep.
     pub fn start<R: Wait>(
         rt: &R,
         alloc: Global,
@@ -124,7 +129,9 @@ impl<D: Disk, C: Clock> Rounds<D, C> {
         clock: C,
         budget: NonZeroU64,
         workers: NonZeroU32,
+        cache: Option<NonZeroU32>,
     ) -> Result<Rounds<D, C>, (JournalFault, D, C)>
+        ensures keeps { IfOk result (λ rounds. rounds.keeping ≡ first_kept (option_map (λ n. n.value) cache)) }
         ensures none { IfOk result (λ rounds. rounds.lines ≡ 0) }
         ensures begins { IfOk result (λ rounds. Begins (D.content disk) (C.may clock) C.may
             rounds.side) }
@@ -144,6 +151,10 @@ impl<D: Disk, C: Clock> Rounds<D, C> {
             Ok(sessions) => sessions,
             Err(_) => return Err((JournalFault::Memory, disk, clock)),
         };
+        let keeping = match Keeping::of(alloc, cache) {
+            Ok(keeping) => keeping,
+            Err(_) => return Err((JournalFault::Memory, disk, clock)),
+        };
         match WriteSide::start(rt, alloc, disk, clock) {
             Ok((side, seats)) => {
                 // It is said here that the history is legal.
@@ -154,6 +165,7 @@ impl<D: Disk, C: Clock> Rounds<D, C> {
                     lines: 0,
                     budget: budget.get().min(MOST_STEPS),
                     workers,
+                    keeping,
                 })
             }
             Err(refused) => Err(refused),
@@ -165,7 +177,11 @@ impl<D: Disk, C: Clock> Rounds<D, C> {
     fn pass_over(&mut self, count: usize) -> Replies
         requires { self.old.lines + count < 2 ^ 63 }
         ensures replies { reply_texts result ≡ no_memory self.old.lines count }
-        ensures lines { self.new ≡ record { side = self.old.side; lines = self.old.lines + count } }
+        ensures lines { self.new ≡ record {
+          side = self.old.side;
+          lines = self.old.lines + count;
+          keeping = self.old.keeping;
+        } }
         ensures keeps { KeepsNow D.content D.moment D.images D.images_since C.may self.old.side }
     {
         // A side says here what it keeps.
@@ -176,6 +192,13 @@ impl<D: Disk, C: Clock> Rounds<D, C> {
             first,
             end: self.lines,
         }
+    }
+
+    /// What sessions keep of the replies to their reads.
+    pub fn keeping(&self) -> &Keeping
+        ensures { result.now ≡ self.now.keeping }
+    {
+        &self.keeping
     }
 
     /// Ends the run, and gives the disk and the clock back. It waits for readers.
@@ -195,6 +218,7 @@ impl<D: Disk, C: Clock> Rounds<D, C> {
             lines: _,
             budget: _,
             workers: _,
+            keeping: _,
         } = self;
         side.close(rt)
     }
@@ -220,7 +244,14 @@ impl<D: Disk + Send, C: Clock + Send> Rounds<D, C> {
         ensures { AnswersRound D.content D.moment D.images D.images_since D.faults C.may lines.now
             self.old self.new (reply_texts result) }
     {
-        match read_lines(rt, alloc, self.workers, self.lines, lines, false) {
+        match read_lines(
+            rt,
+            alloc,
+            self.workers,
+            self.lines,
+            lines,
+            self.keeping.is_on(),
+        ) {
             Ok(works) => Replies::Made(self.answer_works(rt, alloc, gate, lines, works)),
             Err(_) => self.pass_over(lines.len()),
         }
@@ -243,6 +274,8 @@ impl<D: Disk + Send, C: Clock + Send> Rounds<D, C> {
         ensures { AnswersRound D.content D.moment D.images D.images_since D.faults C.may lines.now
             self.old self.new (map reply_text result.items) }
     {
+        // A side says here what it keeps.
+        let _stored = self.side.stored();
         let begun = show(rt, &mut self.side);
         let hired = hire(
             alloc,
@@ -250,6 +283,7 @@ impl<D: Disk + Send, C: Clock + Send> Rounds<D, C> {
             self.budget,
             &self.side,
             &works,
+            self.keeping.caches(),
             &mut self.seats,
         );
         let workers = run(
@@ -262,6 +296,8 @@ impl<D: Disk + Send, C: Clock + Send> Rounds<D, C> {
             &works,
             hired,
         );
+        // A side says here what it keeps.
+        let _kept = self.side.stored();
         let worked = collect(
             alloc,
             &self.side,
@@ -279,6 +315,7 @@ impl<D: Disk + Send, C: Clock + Send> Rounds<D, C> {
             works,
             worked,
             self.budget,
+            &mut self.keeping,
             &mut steps,
         );
         self.lines += lines.len() as u64;

@@ -9,12 +9,14 @@ ghost use Rattle.gd_runs.specs.Explained.{Numbered};
 ghost use Rattle.gd_core_laws.specs.Round.{write_lines};
 ghost use Rattle.gd_round_lines.specs.Fresh.{IsFreshFrom};
 ghost use Rattle.gd_round_lines.specs.Works.{texts_of, write_of, AreRead, AreWithin};
+ghost use Rattle.gd_lookup.specs.Keeping.{AllRight};
 ghost use Rattle.gd_crew.specs.Jobs.{AreNumbered};
 ghost use Rattle.gd_crew.specs.Ready.{IsIdle, IsManned, lent};
 ghost use Rattle.gd_crew.specs.Joined.{HasWorked, IsJoined};
 ghost use Rattle.gd_threads.specs.Working.{ShowsMore, KeepsNow, Joins, RunsWrites};
 
 use core::mem::replace_with;
+use gd_cache::cache::ReplyCache;
 use gd_caller::writes::write_left;
 use gd_crew::assign::assign;
 use gd_crew::round::run_round;
@@ -44,19 +46,22 @@ pub(crate) fn show<R: Wait, D: Disk, C: Clock>(rt: &R, side: &mut WriteSide<D, C
     side.shown()
 }
 
-/// The workers of a round, with the sessions that have a line in it. There is none where not all
-/// lines were read, or where there was no memory to assign them.
+/// The workers of a round, with the sessions that have a line in it, which look the replies to
+/// their reads up in these caches, if there are any. There is none where not all lines were read, or
+/// where there was no memory to assign them.
 pub(crate) fn hire<'a, D: Disk, C: Clock>(
     alloc: Global,
     workers: u32,
     budget: u64,
     side: &WriteSide<D, C>,
     works: &'a Works,
+    caches: &'a [ReplyCache],
     seats: &mut Vec<Session>,
 ) -> Vec<Worker<'a>>
     requires workers { 0 < workers }
     requires budget { (0 < budget) × (budget ≤ 1_000_000) }
     requires numbered { AreNumbered works.now }
+    requires right { AllRight side.now.shown caches.now }
     requires idle { All (IsIdle side.now.table) seats.old.items }
     requires room { length seats.old.items ≤ vec_capacity seats.old }
     ensures idle { All (IsIdle side.now.table) seats.new.items }
@@ -66,7 +71,7 @@ pub(crate) fn hire<'a, D: Disk, C: Clock>(
     ensures capacity { vec_capacity seats.new ≡ vec_capacity seats.old }
 {
     if works.whole {
-        return match assign(alloc, workers, budget, side, works, seats) {
+        return match assign(alloc, workers, budget, side, works, caches, seats) {
             Ok(hired) => hired,
             Err(_) => Vec::new(alloc),
         };

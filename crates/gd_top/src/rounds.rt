@@ -8,6 +8,7 @@ ghost use Rattle.gd_base.specs.Counts.{Rose, RoseBy};
 ghost use Rattle.gd_input.specs.Line.{IsShort};
 ghost use Rattle.gd_input.specs.Taken.{TakesAtLeast};
 ghost use Rattle.gd_threads.specs.Served.{state_at};
+ghost use Rattle.gd_top.specs.Counted.{ServesKeeping};
 ghost use Rattle.gd_top.specs.Lines.{AnswersLines};
 ghost use Rattle.gd_top.specs.Opened.{HoldsAs, IsAtStart};
 ghost use Rattle.gd_top.specs.Serves.{Serves, ServesFront, ServesRounds};
@@ -75,6 +76,15 @@ pub fn serve_rounds<
         (HoldsAs (C.may rounds.old.side.clock) (state_at rounds.new.side))
         (RoseBy (D.faults rounds.old.side.log.disk) (D.faults rounds.new.side.log.disk))
         (K.held sink.old) (K.held sink.new))) }
+
+    // The answers to reads were counted in what sessions keep.
+    ensures served { OnOk result (IfSome (S.left source.old)
+        (ServesKeeping (C.may rounds.old.side.clock)
+        (λ loaded. loaded ≡ rounds.old.side.history.loaded)
+        (HoldsAs (C.may rounds.old.side.clock) (state_at rounds.new.side))
+        (RoseBy (D.faults rounds.old.side.log.disk) (D.faults rounds.new.side.log.disk))
+        (K.held sink.old) (K.held sink.new) rounds.old.keeping rounds.new.keeping)) }
+    ensures caches { length rounds.new.keeping.caches ≡ length rounds.old.keeping.caches }
     ensures at_end { OnOk result (IsAtEnd (S.left source.new)) }
 
     // At the end all that was printed is sent on, and at each stop but one of the sink all, or
@@ -111,6 +121,7 @@ pub fn serve_rounds<
         → TakesAtLeast (2 ^ 40) (S.left source.old) (S.left source.new) (S.given source.old)
         (S.given source.new) }
     ensures disk_later { D.faults rounds.old.side.log.disk ≤ D.faults rounds.new.side.log.disk }
+    ensures sink_later { K.faults sink.old ≤ K.faults sink.new }
 {
     let mut reader = Reader::new(alloc);
     loop {

@@ -1,21 +1,26 @@
 //! The verb `serve`: lines are answered, round by round, over the store of a disk.
-ghost use Rattle.std.specs.Prelude.{◌≡◌, ◌≤◌, ◌^◌, true};
+ghost use Rattle.std.specs.Prelude.{◌≡◌, ◌≤◌, ◌<◌, ◌^◌, ◌⊎◌, ◌∷◌, ◌++◌, [], ℕ, Option, length, true};
+ghost use Rattle.std.specs.Prelude.{option_map, IfSome};
 ghost use Rattle.std.specs.Option.{is_some};
-ghost use Rattle.std.specs.Io.KnownBytes.{IsAtEnd};
+ghost use Rattle.std.specs.Io.KnownBytes.{Appends, IsAtEnd};
 ghost use Rattle.gd_base.specs.Counts.{Rose, RoseBy};
 ghost use Rattle.gd_input.specs.Taken.{TakesAtLeast};
+ghost use Rattle.gd_outside.specs.Gains.{GainsFront};
+ghost use Rattle.gd_lookup.specs.Laws.{first_kept};
 ghost use Rattle.gd_threads.specs.Served.{state_at};
 ghost use Rattle.gd_words.specs.Verbs.{serves};
 ghost use Rattle.gd_top.specs.Ends.{IsIdle, Causes, SendsRounds, may_tell};
 ghost use Rattle.gd_top.specs.Held.{Loads, Leaves, MayMean, DoesMean};
 ghost use Rattle.gd_top.specs.Kept.{Keeps, StaysTold};
 ghost use Rattle.gd_top.specs.Opened.{HoldsAs, IsAtStart};
-ghost use Rattle.gd_top.specs.Serves.{PrintsLines};
+ghost use Rattle.gd_top.specs.Counted.{PrintsServed, line_of};
 
 use crate::pace::Pace;
+use crate::printing::print_counts;
 use crate::rounds::serve_rounds;
 use crate::status::Status;
 use gd_disk::disk::Disk;
+use gd_lookup::keeping::Keeping;
 use gd_outside::clock::Clock;
 use gd_outside::gate::Gate;
 use gd_outside::sink::Sink;
@@ -25,7 +30,30 @@ use std::alloc::Global;
 use std::sync::Wait;
 use std::thread::Threads;
 
-/// Serves the whole input, and says how that ended.
+/// Prints the line of the counts, where sessions keep replies, and says how that ended.
+fn finish<K: Sink>(keeping: &Keeping, sink: &mut K) -> Status
+    requires sent { K.sent sink.old ≡ true }
+    ensures off { keeping.now.caches ≡ [] → (result ≡ Status.Done) × (sink.new ≡ sink.old) }
+    ensures done { length keeping.now.caches ≡ 64 → result ≡ Status.Done
+        → Appends (K.held sink.old) (K.held sink.new) (line_of keeping.now ++ 10 ∷ []) }
+    ensures front { result ≡ Status.SinkFault
+        → GainsFront (K.held sink.old) (K.held sink.new) (line_of keeping.now ++ 10 ∷ []) }
+    ensures ends { (result ≡ Status.Done) ⊎ (result ≡ Status.SinkFault) }
+    ensures sent { result ≡ Status.Done → K.sent sink.new ≡ true }
+    ensures failed { result ≡ Status.SinkFault → Rose (K.faults sink.old) (K.faults sink.new) }
+    ensures later { K.faults sink.old ≤ K.faults sink.new }
+{
+    if !keeping.is_on() {
+        return Status::Done;
+    }
+    match print_counts(sink, keeping.hits(), keeping.reads(), keeping.refused()) {
+        Ok(()) => Status::Done,
+        Err(_failed) => Status::SinkFault,
+    }
+}
+
+/// Serves the whole input, and says how that ended. Where sessions keep replies, the line of the
+/// counts is printed behind those to the lines.
 fn serve_all<
     R: Threads + Wait + Sync,
     D: Disk + Send,
@@ -42,7 +70,9 @@ fn serve_all<
     sink: &mut K,
 ) -> Status
     requires { IsAtStart rounds.old }
-    ensures prints { PrintsLines result (C.may rounds.old.side.clock)
+    ensures prints { (cache : Option ℕ) → IfSome cache (λ n. 0 < n)
+        → rounds.old.keeping ≡ first_kept cache
+        → PrintsServed cache result (C.may rounds.old.side.clock)
         (λ loaded. loaded ≡ rounds.old.side.history.loaded)
         (HoldsAs (C.may rounds.old.side.clock) (state_at rounds.new.side))
         (RoseBy (D.faults rounds.old.side.log.disk) (D.faults rounds.new.side.log.disk)) ⊥
@@ -61,7 +91,7 @@ fn serve_all<
     ensures later { D.faults rounds.old.side.log.disk ≤ D.faults rounds.new.side.log.disk }
 {
     match serve_rounds(rt, alloc, gate, rounds, source, sink) {
-        Ok(()) => Status::Done,
+        Ok(()) => finish(rounds.keeping(), sink),
         Err(stop) => Status::of_stop(stop),
     }
 }
@@ -85,7 +115,9 @@ pub(crate) fn serve_over<
     clock: C,
     gate: &G,
 ) -> (Status, D)
-    ensures prints { PrintsLines result.0 (C.may clock) (Loads (D.content disk))
+    requires some { IfSome pace.cache (λ n. 0 < n.value) }
+    ensures prints { PrintsServed (option_map (λ n. n.value) pace.cache) result.0 (C.may clock)
+        (Loads (D.content disk))
         (Leaves (C.may clock) (D.content disk) (D.images result.1))
         (RoseBy (D.faults disk) (D.faults result.1))
         (IsIdle source.old source.new sink.old sink.new
@@ -101,7 +133,7 @@ pub(crate) fn serve_over<
     ensures tells { may_tell serves result.0 ≡ true }
     ensures kept { Keeps (D.content disk) (D.content result.1) (D.images disk) (D.images result.1) }
 {
-    match Rounds::start(rt, alloc, disk, clock, pace.budget, pace.workers) {
+    match Rounds::start(rt, alloc, disk, clock, pace.budget, pace.workers, pace.cache) {
         Ok(mut rounds) => {
             let status = serve_all(rt, alloc, gate, &mut rounds, source, sink);
             let (disk, _clock) = rounds.close(rt);

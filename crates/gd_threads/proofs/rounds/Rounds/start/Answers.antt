@@ -1,4 +1,6 @@
-use Rattle.std.proofs.Common.{◌∙◌, arith}
+use Rattle.std.proofs.Common.{◌∙◌, sym, subst, option_map, arith}
+use Rattle.gd_lookup.specs.Keeping.{KeepingValue, AllRight}
+use Rattle.gd_lookup.proofs.Counted.{first_right}
 use Rattle.gd_threads.proofs.Between.{begins_fresh}
 use Rattle.gd_threads.proofs.rounds.Rounds.start.Goals as goal
 
@@ -20,4 +22,5 @@ invariant_of-result g c =
       room = omega (arith, capacity, room);
       some = omega (arith, least, some);
       few = omega (arith, least);
+      kept = subst (λ (k : KeepingValue). AllRight side.shown k.caches) (sym c.in-Ok-of.ensures) (first_right side.shown (option_map (λ n. n.value) c.args.cache));
     }
