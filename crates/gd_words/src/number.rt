@@ -2,8 +2,7 @@
 ghost use Rattle.std.specs.Prelude.{◌≡◌, option_map};
 ghost use Rattle.std.specs.List.{list_all};
 ghost use Rattle.std.specs.Char.{is_ascii_digit};
-ghost use Rattle.gd_words.specs.Words.{number_of, number_if as number_if_of};
-ghost use Rattle.gd_words.specs.Words.{number_or as number_or_of};
+ghost use Rattle.gd_words.specs.Words.{number_of, number_or as number_or_of};
 
 /// The most digits that a number may have.
 const MOST_DIGITS: usize = 10;
@@ -16,7 +15,7 @@ fn are_digits(text: &str) -> bool
 }
 
 /// The number that a text of 1 to 10 digits is, from `low` to `high`. None for any other text.
-fn number(text: &str, low: u32, high: u32) -> Option<u32>
+pub fn number(text: &str, low: u32, high: u32) -> Option<u32>
     ensures { result ≡ number_of low high text.now }
 {
     if text.len() > MOST_DIGITS || !are_digits(text) {
@@ -25,16 +24,6 @@ fn number(text: &str, low: u32, high: u32) -> Option<u32>
     match text.parse::<u32>() {
         Ok(number) if number >= low && number <= high => Some(number),
         _ => None,
-    }
-}
-
-/// The number of a value, or no number where there is none. None for any other text.
-pub fn number_if(low: u32, high: u32, value: Option<&str>) -> Option<Option<u32>>
-    ensures { result ≡ number_if_of low high (option_map (λ v. v.now) value.entry) }
-{
-    match value {
-        Some(text) => Some(Some(number(text, low, high)?)),
-        None => Some(None),
     }
 }
 

@@ -4,11 +4,13 @@ ghost use Rattle.std.specs.Prelude.{option_map, All};
 ghost use Rattle.gd_words.specs.Options.{options_of};
 ghost use Rattle.gd_words.specs.Words.{serve_options, serve_of, dump_options, dump_of};
 ghost use Rattle.gd_words.specs.Words.{place_options, place_in, command_of, generate_options};
-ghost use Rattle.gd_words.specs.Words.{generate_of, number_or as number_or_of};
+ghost use Rattle.gd_words.specs.Words.{generate_of, number_if, number_or as number_or_of};
 
-use crate::number::{number_if, number_or};
+use crate::number::{number, number_or};
 use crate::parsing::values_of;
-use crate::verbs::{Command, Dump, Generate, MOST_NODES, NodeCount, Place, Serve};
+use crate::verbs::{
+    Command, Dump, Generate, MOST_NODES, MOST_REPLIES, NodeCount, Place, ReplyCount, Serve,
+};
 use gd_base::memory::Memory;
 use gd_base::text::Text;
 use std::alloc::Global;
@@ -22,8 +24,6 @@ const MOST_WORKERS: u32 = 16;
 pub const BUDGET: u32 = 10_000;
 
 const MOST_BUDGET: u32 = 1_000_000;
-
-const MOST_CACHED: u32 = 64;
 
 const MOST_FROM: u32 = 4_194_303;
 
@@ -76,6 +76,20 @@ fn serve_names() -> [&'static str; 4]
     ["file", "workers", "budget", "cache"]
 }
 
+/// How many replies a value asks for, or no number where there is none. None: it asks for none that
+/// a session may keep.
+fn reply_count(value: Option<&str>) -> Option<Option<ReplyCount>>
+    ensures { result ≡ number_if 1 64 (option_map (λ v. v.now) value.entry) }
+{
+    match value {
+        Some(text) => {
+            let replies = number(text, 1, MOST_REPLIES)?;
+            Some(Some(ReplyCount::new(replies)))
+        }
+        None => Some(None),
+    }
+}
+
 /// `serve` with the options that the words spell.
 fn serve(alloc: Global, words: &[&str]) -> Result<Option<Serve>, Memory>
     requires { All (λ w. length w.now ≤ 4096) words.now }
@@ -92,7 +106,7 @@ fn serve(alloc: Global, words: &[&str]) -> Result<Option<Serve>, Memory>
     let Some(budget) = number_or(BUDGET, 1, MOST_BUDGET, values.budget) else {
         return Ok(None);
     };
-    let Some(cache) = number_if(1, MOST_CACHED, values.cache) else {
+    let Some(cache) = reply_count(values.cache) else {
         return Ok(None);
     };
     let file = file_of(alloc, values.file)?;

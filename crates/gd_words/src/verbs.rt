@@ -8,6 +8,9 @@ use std::marker::Model;
 /// The most nodes that may be asked for.
 pub const MOST_NODES: u32 = 200_000;
 
+/// The most replies that a session may keep.
+pub const MOST_REPLIES: u32 = 64;
+
 /// Serve lines and rounds.
 #[derive(Debug, PartialEq, Eq, Drop)]
 pub struct Serve {
@@ -17,8 +20,8 @@ pub struct Serve {
     pub workers: u32,
     /// How many steps a slice of a read may take, 1 to 1,000,000.
     pub budget: u32,
-    /// How many replies each session keeps, 1 to 64. None: they are not kept.
-    pub cache: Option<u32>,
+    /// How many replies each session keeps. None: they are not kept.
+    pub cache: Option<ReplyCount>,
 }
 
 /// Where a verb finds its store, which is all that it asks for.
@@ -35,6 +38,44 @@ pub struct Dump {
     pub file: Option<Text>,
     /// The number of the first batch that is written, 0 to 4,194,303.
     pub from: u32,
+}
+
+/// A number of replies that a session keeps, 1 to `MOST_REPLIES`. Contracts see the number.
+#[derive(Clone, Copy, Debug, PartialEq, Eq)]
+pub struct ReplyCount {
+    replies: u32,
+}
+
+impl Model for ReplyCount {
+    ghost use Rattle.std.specs.Prelude.{ℕ, ◌≤◌};
+
+    ghost Value = { ℕ };
+
+    ghost view = { λ count. count.replies };
+
+    ghost inverse = { λ replies. record { replies = replies } };
+
+    ghost invariant = { λ count. (1 ≤ count.replies) × (count.replies ≤ 64) };
+}
+
+impl ReplyCount {
+    /// So many replies.
+    pub fn new(replies: u32) -> ReplyCount
+        requires some { 1 ≤ replies }
+        requires within { replies ≤ MOST_REPLIES }
+        ensures { result ≡ replies }
+    {
+        ReplyCount { replies }
+    }
+
+    /// How many replies these are.
+    pub fn replies(self) -> u32
+        ensures replies { result ≡ self }
+        ensures some { 1 ≤ result }
+        ensures within { result ≤ MOST_REPLIES }
+    {
+        self.replies
+    }
 }
 
 /// A number of nodes, 1 to `MOST_NODES`. Contracts see the number.
