@@ -37,7 +37,7 @@ entry_most (Some kept_unsettled) m less = omega arith
 entry_most (Some kept_memory) m less = omega arith
 
 -- what is kept of a line is of one of the writes
-kept_write : (writes : List WriteLine) (outs : List Told) (k : ℕ) (kept : Kept) → AllByRecursion (IsOfWrites writes) outs → kept_of outs k ≡ Some kept → (y : ℕ) × (w : WriteLine) × (slice_get writes y ≡ Some w) × (w.line ≡ k)
+pub kept_write : (writes : List WriteLine) (outs : List Told) (k : ℕ) (kept : Kept) → AllByRecursion (IsOfWrites writes) outs → kept_of outs k ≡ Some kept → (y : ℕ) × (w : WriteLine) × (slice_get writes y ≡ Some w) × (w.line ≡ k)
 kept_write writes [] k kept all is = no_some is
 kept_write writes (t ∷ outs) k kept ((y, w, at, line), rest) is = by (t.line == k) refl is (λ later. kept_write writes outs k kept rest later)
   where
@@ -67,7 +67,7 @@ rise_place reads n x r q rise at_r at_q less = ⊎_elim (λ before. before) (λ 
     (λ behind. let more = rise n x r q behind at_r at_q in omega (arith, more, less))
     rest)) (less_or x n)
 
-rise_same : (reads : List ReadLine) (n x : ℕ) (r q : ReadLine) → RisesBy (λ (a : ReadLine). a.line) reads → slice_get reads n ≡ Some r → slice_get reads x ≡ Some q → q.line ≡ r.line → q ≡ r
+pub rise_same : (reads : List ReadLine) (n x : ℕ) (r q : ReadLine) → RisesBy (λ (a : ReadLine). a.line) reads → slice_get reads n ≡ Some r → slice_get reads x ≡ Some q → q.line ≡ r.line → q ≡ r
 rise_same reads n x r q rise at_r at_q line = ⊎_elim
     (λ before. let less = rise x n q r before at_q at_r in absurd (omega (arith, less, line)))
     (λ rest. ⊎_elim

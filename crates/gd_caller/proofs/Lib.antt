@@ -8,3 +8,5 @@ pub mod Left
 pub mod Tells
 pub mod Faults
 pub mod Lines
+pub mod Counting
+pub mod CountedLines

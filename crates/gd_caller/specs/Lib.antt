@@ -5,3 +5,4 @@ pub mod Fits
 pub mod Writes
 pub mod Tells
 pub mod Joined
+pub mod Counts

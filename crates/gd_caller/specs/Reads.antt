@@ -1,5 +1,5 @@
 -- What answering the reads of a round does to its replies.
-use Rattle.std.specs.Prelude.{◌≡◌, ◌⊎◌, ◌≤◌, ℕ, ◌-◌, List, map, Option, Some, slice_get, slice_set}
+use Rattle.std.specs.Prelude.{◌≡◌, ◌⊎◌, ◌≤◌, ℕ, ◌-◌, List, map, take, Option, Some, slice_get, slice_set}
 use Rattle.gd_prim.specs.declared.Batch.{Batch}
 use Rattle.gd_runs.specs.Request.{reply_of}
 use Rattle.gd_runs.specs.Side.{Told, WriteLine}
@@ -14,6 +14,10 @@ use Rattle.gd_caller.specs.Fits.{FollowsWrites}
 -- the reply to a read over batches, so many of which are shown, at the greatest number that fits it
 abbrev pub read_reply : List Batch → ℕ → List WriteLine → List Told → ReadLine → List ℕ
 read_reply batches shown writes outs r = reply_of batches (least_later writes outs r.line r.session shown) r.line (read_set_view r.request)
+
+-- What a worker kept of a read is the reply to it, at a number of what is shown.
+abbrev pub IsReplyTo : List Batch → ℕ → ReadLine → Worked → Type 0
+IsReplyTo batches shown r w = (w.at ≤ shown) × (w.reply.items ≡ reply_of (take shown batches) w.at r.line (read_set_view r.request))
 
 -- What a worker kept fits a read: its number is not below the floor of its session, and has what the session's writes before it told, and is not above the number of any behind it.
 pub record FitsRead (shown : ℕ) (writes : List Written) (outs : List Told) (r : ReadLine) (floor : ℕ) (w : Worked) : Type 0 where

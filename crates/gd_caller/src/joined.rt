@@ -5,6 +5,8 @@ ghost use Rattle.gd_runs.specs.Legal.{batches};
 ghost use Rattle.gd_reply.specs.Replies.{reply_text};
 ghost use Rattle.gd_round_lines.specs.Works.{AreWithin};
 ghost use Rattle.gd_round_lines.specs.Worked.{AreWorked};
+ghost use Rattle.gd_lookup.specs.Keeping.{AllRight};
+ghost use Rattle.gd_caller.specs.Counts.{CountsReads};
 ghost use Rattle.gd_caller.specs.Joined.{IsOfWrites, AnswersJoined};
 
 use crate::numbers::Standing;
@@ -12,6 +14,7 @@ use crate::reads::answer_reads;
 use crate::told::tell_all;
 use gd_base::steps::Steps;
 use gd_disk::disk::Disk;
+use gd_lookup::keeping::Keeping;
 use gd_outside::clock::Clock;
 use gd_reply::reply::Reply;
 use gd_round_lines::work::Works;
@@ -24,7 +27,8 @@ use std::alloc::Global;
 /// the working store at the greatest number that fits it, in slices of a budget of steps. No read
 /// is answered by a worker below `begun`, how much was shown when the round began. Where there is
 /// no memory for a reply, the line has the one that says so. Nothing is kept of a write from then
-/// on.
+/// on. Where sessions keep replies, the caller looks a read up before it reads the store, and each
+/// answer is counted, in the order of the lines.
 pub fn answer_joined<D: Disk, C: Clock, L>(
     alloc: Global,
     side: &mut WriteSide<D, C>,
@@ -33,6 +37,7 @@ pub fn answer_joined<D: Disk, C: Clock, L>(
     works: Works,
     worked: Vec<Option<Worked>>,
     budget: u64,
+    keeping: &mut Keeping,
     steps: &mut Steps<L>,
 ) -> Vec<Reply>
     requires within { AreWithin first (first + length works.numbers.items) works }
@@ -41,8 +46,14 @@ pub fn answer_joined<D: Disk, C: Clock, L>(
         (length side.old.shown) worked.items }
     requires lines { first + length works.numbers.items < 2 ^ 63 }
     requires budget { 0 < budget }
+
+    // What sessions keep is right over all that is shown, and stays so.
+    requires kept { AllRight side.old.shown keeping.old.caches }
+    ensures kept { AllRight side.old.shown keeping.new.caches }
     ensures side { side.new ≡ record side.old { outcomes = [] } }
     ensures answers { AnswersJoined first begun works side.old (map reply_text result.items) }
+    ensures counted { CountsReads first (map reply_text works.replies.items)
+        (map reply_text result.items) keeping.old works.reads.items keeping.new }
 {
     // A side says here what it keeps.
     let _stored = side.stored();
@@ -69,6 +80,7 @@ pub fn answer_joined<D: Disk, C: Clock, L>(
         reads,
         worked,
         budget,
+        keeping,
         &mut replies,
         steps,
     );

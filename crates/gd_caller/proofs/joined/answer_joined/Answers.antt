@@ -1,4 +1,4 @@
-use Rattle.std.proofs.Common.{◌+◌, ℕ, List, length, map, sym, subst, ap, ◌∙◌, arith}
+use Rattle.std.proofs.Common.{◌+◌, ℕ, List, length, map, take, sym, subst, ap, ◌∙◌, arith}
 use Rattle.std.proofs.lemmas.List.{length-map}
 use Rattle.std.specs.List.{AllByRecursion}
 use Rattle.gd_prim.specs.declared.Batch.{Batch}
@@ -15,6 +15,9 @@ use Rattle.gd_caller.specs.Joined.{IsOfWrites, JoinedReply, AnswersReads}
 use Rattle.gd_caller.proofs.Left.{still_shown, still_batches}
 use Rattle.gd_caller.proofs.Lines.{short_take}
 use Rattle.gd_caller.proofs.Tells.{numbers_told, outcomes_within}
+use Rattle.gd_lookup.specs.Keeping.{AllRight}
+use Rattle.gd_round_lines.proofs.Read.{all_at}
+use Rattle.gd_caller.proofs.Counting.{reads_from, told_first}
 use Rattle.gd_caller.proofs.joined.answer_joined.Goals as goal
 
 pub tell_all-requires-clause-within : goal.tell_all-requires-clause-within
@@ -83,7 +86,7 @@ returns-clause-answers g c =
     subst (λ (bs : List Batch). AnswersReads first begun w.reads.items w.writes.items bs (length s.shown) s.outcomes t0 t1) store
     (subst (λ (n : ℕ). AnswersReads first begun w.reads.items w.writes.items c.store.result.now n s.outcomes t0 t1) shown
     (subst (λ (ws : List WriteLine). AnswersReads first begun w.reads.items ws c.store.result.now c.shown.result s.outcomes t0 t1) c.as_slice.ensures.value
-    (c.answer_reads.ensures s.outcomes (subst (AreNumbers first s.outcomes) (sym c.as_slice-2.ensures.value) are) (subst (λ (ws : List WriteLine). AllByRecursion (IsOfWrites ws) s.outcomes) (sym c.as_slice.ensures.value) c.requires.outcomes)))) in
+    (c.answer_reads.ensures.answers s.outcomes (subst (AreNumbers first s.outcomes) (sym c.as_slice-2.ensures.value) are) (subst (λ (ws : List WriteLine). AllByRecursion (IsOfWrites ws) s.outcomes) (sym c.as_slice.ensures.value) c.requires.outcomes)))) in
     let many = a.many in
     let count = t.count in
     let long = length-map w.replies.items reply_text in
@@ -95,3 +98,39 @@ returns-clause-answers g c =
           let (was, at_was, told_is) = t.reply j told at_told in
           (was, at_was, subst (λ (x : List ℕ). JoinedReply first begun w.reads.items w.writes.items (batches s.history) (length s.shown) s.outcomes a.tells j x reply) told_is is);
     }
+
+-- what is shown is what the reads are answered over
+pub answer_reads-requires-clause-kept : goal.answer_reads-requires-clause-kept
+answer_reads-requires-clause-kept g c =
+    let s = c.args.side.now in
+    let taken = c.take_outcomes-outcomes.new.self in
+    let shown = c.shown.ensures ∙ still_shown s taken c.take_outcomes-outcomes.ensures.side in
+    let store = c.store.ensures ∙ still_batches s taken c.take_outcomes-outcomes.ensures.side in
+    subst (λ (l : List Batch). AllRight l c.args.keeping.now.caches) (c.stored-stored.ensures.keeps.shows ∙ (λ i. take (sym shown i) (sym store i))) c.requires.kept
+
+pub returns-clause-kept : goal.returns-clause-kept
+returns-clause-kept g c =
+    let s = c.args.side.now in
+    let taken = c.take_outcomes-outcomes.new.self in
+    let shown = c.shown.ensures ∙ still_shown s taken c.take_outcomes-outcomes.ensures.side in
+    let store = c.store.ensures ∙ still_batches s taken c.take_outcomes-outcomes.ensures.side in
+    subst (λ (l : List Batch). AllRight l c.answer_reads.new.keeping.caches) (sym (c.stored-stored.ensures.keeps.shows ∙ (λ i. take (sym shown i) (sym store i)))) c.answer_reads.ensures.kept
+
+pub returns-clause-counted : goal.returns-clause-counted
+returns-clause-counted g c =
+    let s = c.args.side.now in
+    let w = c.args.works in
+    let first = c.args.first in
+    let texts = map reply_text w.replies.items in
+    let t0 = map reply_text c.tell_all.new.replies.items in
+    let t1 = map reply_text c.answer_reads.new.replies.items in
+    let t = subst (λ (ts : List Told). TellsAll first ts w.numbers.items c.tell_all.new.numbers.items texts t0) c.take_outcomes-outcomes.ensures.outcomes c.tell_all.ensures in
+    let long = length-map w.replies.items reply_text in
+    let replies = c.requires.within.replies in
+    reads_from first texts t0 t1 w.reads.items c.args.keeping.now c.answer_reads.new.keeping
+    (λ x q at.
+    let within = all_at (IsReadWithin first (first + length w.numbers.items)) w.reads.items x q c.requires.within.reads at in
+    let low = within.0 in
+    let high = within.1 in
+    told_first first w.reads.items w.writes.items s.outcomes texts t0 c.requires.within.apart c.requires.outcomes t.count t.reply x q at low (omega (arith, low, high, long, replies)))
+    c.answer_reads.ensures.counted

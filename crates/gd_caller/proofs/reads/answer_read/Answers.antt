@@ -1,10 +1,11 @@
-use Rattle.std.proofs.Common.{◌-◌, ℕ, inl, inr, ⊎_elim, map, get_or, refl, ap, ◌∙◌, arith}
-use Rattle.std.proofs.lemmas.List.{map-set}
-use Rattle.std.proofs.lemmas.Option.{slice_get-get_or}
+use Rattle.std.proofs.Common.{ℕ, Option, inl, inr, ⊎_elim, take, get_or, refl, subst, ap, ◌∙◌, arith}
+use Rattle.std.specs.Prelude.{IfSome}
+use Rattle.std.proofs.lemmas.Option.{IfSome_then, slice_get-get_or}
 use Rattle.gd_runs.specs.Request.{reply_of}
 use Rattle.gd_mql.specs.Requests.{read_set_view}
-use Rattle.gd_reply.specs.declared.reply.Reply.TheVariants.{Line}
-use Rattle.gd_reply.specs.Replies.{reply_text}
+use Rattle.gd_round_lines.specs.declared.worked.Worked.{Worked}
+use Rattle.gd_caller.specs.Reads.{IsReplyTo}
+use Rattle.gd_caller.proofs.Counting.{shown_long}
 use Rattle.gd_caller.proofs.reads.answer_read.Goals as goal
 
 pub returns-in-Some-clause-answers : goal.returns-in-Some-clause-answers
@@ -12,8 +13,6 @@ returns-in-Some-clause-answers g c outs are =
     let r = c.args.read in
     let floors = c.args.floors.now in
     let kept = c.in-Some.kept in
-    let was = c.args.replies.now.items in
-    let place = r.line - c.args.standing.now.first in
     let fits = c.in-Some.ensures.fits outs are in
     let many = c.requires.floors in
     let small = c.requires.read.2 in
@@ -25,7 +24,7 @@ returns-in-Some-clause-answers g c outs are =
       floors_are = refl;
       above_floor = fits.above;
       above_at = omega arith;
-      replies = inr (kept.reply.items, ap (map reply_text) c.put.ensures ∙ map-set reply_text was place (Line kept.reply), inr (kept, c.in-Some.ensures.same, refl, refl, fits));
+      replies = inr (kept.reply.items, c.settle.ensures.replies, inr (kept, c.in-Some.ensures.same, refl, refl, fits));
     }
 
 pub returns-in-None-clause-answers : goal.returns-in-None-clause-answers
@@ -50,3 +49,14 @@ returns-in-None-clause-answers g c outs are =
           (λ is. inr (reply_of s.store.now c.least_later-at.result r.line (read_set_view r.request), is, inl (least, ap (λ (n : ℕ). reply_of s.store.now n r.line (read_set_view r.request)) least)))
           c.answer_at.ensures.replies;
     }
+
+pub returns-in-Some-clause-kept : goal.returns-in-Some-clause-kept
+returns-in-Some-clause-kept g c =
+    let s = c.args.standing.now in
+    let r = c.args.read in
+    let kept = c.in-Some.kept in
+    let (below, is) = subst (λ (o : Option Worked). IfSome o (IsReplyTo s.store.now s.shown r)) c.in-Some.ensures.same c.requires.worked in
+    c.settle.ensures.right (take s.shown s.store.now) kept.at (shown_long s.store.now s.shown kept.at below c.requires.shown) (omega arith) is c.requires.kept
+
+pub fitting-requires-clause-shown : goal.fitting-requires-clause-shown
+fitting-requires-clause-shown g c = IfSome_then c.args.worked c.requires.worked (λ w is. is.0)

@@ -1,8 +1,9 @@
 use Rattle.std.proofs.Common.{◌≡◌, ◌+◌, ◌-◌, ℕ, List, [], ◌∷◌, ◌++◌, Some, slice_get, length, map, replicate, reverse, sym, subst, ap, ◌∙◌, arith, length-append}
-use Rattle.std.proofs.lemmas.List.{reverse-reverse}
+use Rattle.std.proofs.lemmas.List.{length-map, reverse-reverse}
 use Rattle.gd_reply.specs.Replies.{reply_text}
 use Rattle.gd_round_lines.specs.Works.{IsReadWithin}
-use Rattle.gd_caller.proofs.Joins.{Joining, joining_none, joining_more, next_read, taken_worked, taken_shown, left_worked}
+use Rattle.gd_caller.proofs.Joins.{Joining, joining_none, joining_more, next_read, taken_worked, left_worked}
+use Rattle.gd_caller.proofs.Counting.{Counting, counting_none, counting_more, is_reply_to}
 use Rattle.gd_round_lines.proofs.Read.{all_at}
 use Rattle.gd_round_lines.proofs.Sets.{replicate_all}
 use Rattle.gd_caller.proofs.reads.answer_reads.Goals as goal
@@ -18,6 +19,8 @@ loop-read-init g c =
           (λ n f at. let is = replicate_all 64 n c.args.begun f at in omega (arith, is))
           (λ x q at. (all_at (IsReadWithin s.first (s.first + length c.args.replies.now.items)) reads x q c.requires.reads at).0);
       worked = λ j w at. at;
+      counting = counting_none s.first (map reply_text c.args.replies.now.items) reads c.args.keeping.now;
+      kept = c.requires.kept;
       floors = omega arith;
       count = omega arith;
     }
@@ -40,9 +43,13 @@ answer_read-requires-clause-read g c =
 pub answer_read-requires-clause-worked : goal.answer_read-requires-clause-worked
 answer_read-requires-clause-worked g c =
     let s = c.args.standing.now in
-    let place = c.in-Some.read.line - s.first in
-    taken_shown s.first c.args.reads.items s.store.now s.shown place c.take_kept-kept.result
-    (taken_worked s.first c.args.reads.items s.store.now s.shown place c.loop-read.worked.items c.args.worked.items c.take_kept-kept.result c.requires.worked c.loop-read.invariant.worked c.take_kept-kept.ensures.taken)
+    let reads = c.args.reads.items in
+    let r = c.in-Some.read in
+    let place = r.line - s.first in
+    let (at, rest) = next_read reads c.loop-read.invariant.done c.loop-read.reads.items c.pop.new.self.items r c.loop-read.invariant.all c.in-Some.ensures.items in
+    is_reply_to s.first reads s.store.now s.shown (length c.loop-read.invariant.done) r c.take_kept-kept.result c.requires.shown c.requires.rise at
+    (all_at (IsReadWithin s.first (s.first + length c.args.replies.now.items)) reads (length c.loop-read.invariant.done) r c.requires.reads at).0
+    (taken_worked s.first reads s.store.now s.shown place c.loop-read.worked.items c.args.worked.items c.take_kept-kept.result c.requires.worked c.loop-read.invariant.worked c.take_kept-kept.ensures.taken)
 
 pub loop-read-preserved : goal.loop-read-preserved
 loop-read-preserved g c =
@@ -66,6 +73,14 @@ loop-read-preserved g c =
           (taken_worked s.first reads s.store.now s.shown place c.loop-read.worked.items c.args.worked.items c.take_kept-kept.result c.requires.worked inv.worked c.take_kept-kept.ensures.taken)
           (inv.joining outs are of) (c.answer_read.ensures.answers outs are));
       worked = λ j w there. left_worked c.loop-read.worked.items c.args.worked.items place inv.worked j w (subst (λ (l : List _). slice_get l j ≡ Some (Some w)) c.take_kept-kept.ensures.left there);
+      counting = subst (λ (n : ℕ). Counting s.first texts next reads n c.args.keeping.now c.answer_read.new.keeping) (sym many)
+          (counting_more s.first texts now next reads (length inv.done) r c.args.keeping.now c.loop-read.keeping c.answer_read.new.keeping c.requires.rise
+          (λ x q there. (all_at (IsReadWithin s.first (s.first + length c.args.replies.now.items)) reads x q c.requires.reads there).0)
+          at
+          (let within = all_at (IsReadWithin s.first (s.first + length c.args.replies.now.items)) reads (length inv.done) r c.requires.reads at in
+          let low = within.0 in let high = within.1 in let count = inv.count in let long = length-map c.loop-read.replies.items reply_text in omega (arith, low, high, count, long))
+          inv.counting c.answer_read.ensures.counted);
+      kept = c.answer_read.ensures.kept;
       floors = c.answer_read.ensures.floors;
       count = c.answer_read.ensures.count ∙ inv.count;
     }
