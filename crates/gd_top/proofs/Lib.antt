@@ -6,6 +6,7 @@ pub mod Answered
 pub mod Known
 pub mod Weaker
 pub mod Complete
+pub mod Counted
 pub mod Plain
 pub mod Split
 pub mod Caused

@@ -20,7 +20,13 @@ use Rattle.gd_round_laws.proofs.Counts.{fault_count-append}
 use Rattle.gd_caller.specs.Served.{printed}
 use Rattle.gd_top.specs.Opened.{HoldsAs}
 use Rattle.gd_top.specs.Answered.{Answers, AnswersFront, ServedUpto}
-use Rattle.gd_top.specs.Serves.{Accounts, Serves, ServesFront, ServesRounds}
+use Rattle.gd_lookup.specs.Keeping.{KeepingValue}
+use Rattle.gd_lookup.specs.Calls.{CountsLines}
+use Rattle.gd_lookup.proofs.Calls.{lines_append}
+use Rattle.gd_round_lines.specs.Works.{texts_of}
+use Rattle.gd_threads.proofs.Served.{texts_in}
+use Rattle.gd_top.specs.Counted.{ServesKeeping}
+use Rattle.gd_top.specs.Serves.{Accounts, ServesFront, ServesRounds}
 use Rattle.gd_top.proofs.Printed.{printed-append, length-passed}
 use Rattle.gd_top.proofs.Split.{told_is}
 
@@ -34,24 +40,24 @@ same_count (l ∷ ls) [] kept = absurd kept
 same_count (l ∷ ls) (t ∷ ts) (here, later) = ap suc (same_count ls ts later)
 
 -- what was printed in full is a front too
-pub whole_front : (may : ℕ → Bool) (s : State) (k : ℕ) (t : State) (n : ℕ) (texts : List (List ℕ)) (old new : Option (List ℕ)) (a b : ℕ) → Answers may s k t n texts old new a b → AnswersFront may s k t texts old new a b
-whole_front may s k t n texts old new a b answers = record {
+pub whole_front : (may : ℕ → Bool) (s : State) (k : ℕ) (t : State) (n : ℕ) (texts : List (List ℕ)) (old new : Option (List ℕ)) (a b : ℕ) (had has : KeepingValue) → Answers may s k t n texts old new a b had has → AnswersFront may s k t texts old new a b had has
+whole_front may s k t n texts old new a b had has answers = record {
   replies = answers.replies;
   answered = answers.answered;
   front = record { piece = printed answers.replies; rest = []; parts = append-nil (printed answers.replies); gained = answers.gained };
 }
 
 -- what was printed stays after a flush
-pub held_on : (may : ℕ → Bool) (s : State) (k : ℕ) (t : State) (n : ℕ) (texts : List (List ℕ)) (old mid new : Option (List ℕ)) (a b : ℕ) → Answers may s k t n texts old mid a b → Keeps mid new → Answers may s k t n texts old new a b
-held_on may s k t n texts old mid new a b answers kept = record {
+pub held_on : (may : ℕ → Bool) (s : State) (k : ℕ) (t : State) (n : ℕ) (texts : List (List ℕ)) (old mid new : Option (List ℕ)) (a b : ℕ) (had has : KeepingValue) → Answers may s k t n texts old mid a b had has → Keeps mid new → Answers may s k t n texts old new a b had has
+held_on may s k t n texts old mid new a b had has answers kept = record {
   replies = answers.replies;
   answered = answers.answered;
   next = answers.next;
   gained = Appends-kept old mid new (printed answers.replies) answers.gained kept;
 }
 
-pub front_held : (may : ℕ → Bool) (s : State) (k : ℕ) (t : State) (texts : List (List ℕ)) (old mid new : Option (List ℕ)) (a b : ℕ) → AnswersFront may s k t texts old mid a b → Keeps mid new → AnswersFront may s k t texts old new a b
-front_held may s k t texts old mid new a b front kept = record {
+pub front_held : (may : ℕ → Bool) (s : State) (k : ℕ) (t : State) (texts : List (List ℕ)) (old mid new : Option (List ℕ)) (a b : ℕ) (had has : KeepingValue) → AnswersFront may s k t texts old mid a b had has → Keeps mid new → AnswersFront may s k t texts old new a b had has
+front_held may s k t texts old mid new a b had has front kept = record {
   replies = front.replies;
   answered = front.answered;
   front = record { piece = front.front.piece; rest = front.front.rest; parts = front.front.parts; gained = Appends-kept old mid new front.front.piece front.front.gained kept };
@@ -68,8 +74,8 @@ counts_then replies more k many = fault_count-append 0 replies more ∙ ap (λ (
 -- ---- whole rounds
 
 -- before the first round
-pub served_none : (loaded : List Batch) (may : ℕ → Bool) → all_follow builtin 0 loaded ≡ true → (held : Option (List ℕ)) (n : ℕ) (s : State) (k : ℕ) (input : List ℕ) → k ≡ 0 → s ≡ opened loaded → ServedUpto false loaded may held held n n s k input input
-served_none loaded may follow held n s k input none is = record {
+pub served_none : (loaded : List Batch) (may : ℕ → Bool) → all_follow builtin 0 loaded ≡ true → (held : Option (List ℕ)) (n : ℕ) (had : KeepingValue) (s : State) (k : ℕ) (input : List ℕ) → k ≡ 0 → s ≡ opened loaded → ServedUpto false loaded may held held n n had had s k input input
+served_none loaded may follow held n had s k input none is = record {
   round = 0;
   given = [];
   replies = [];
@@ -82,6 +88,7 @@ served_none loaded may follow held n s k input none is = record {
   each = refl;
   gained = Appends-nil held;
   rose = omega arith;
+  counted = refl;
 }
 
 -- lines of whole rounds, and then those of one round more
@@ -99,10 +106,23 @@ whole_then : (xs ys more : List ℕ) (round : ℕ) → ((zs : List ℕ) → whol
 whole_then xs ys more round first later =
     ap whole_rounds (append_assoc xs ys more) ∙ (first (ys ++ more) ∙ (ap (λ (n : ℕ). round + n) (later more) ∙ omega arith))
 
+-- the bytes of lines, and those of a round behind them
+texts_then : (given : List Numbered) (round : ℕ) (texts : List (List ℕ)) → texts_of (given ++ in_round round texts) ≡ texts_of given ++ texts
+texts_then [] round texts = texts_in round texts
+texts_then (l ∷ ls) round texts = ap (λ (bs : List (List ℕ)). l.bytes ∷ bs) (texts_then ls round texts)
+
+-- the answers of whole rounds were counted, and then those of one round more
+counted_then : (given : List Numbered) (round : ℕ) (texts replies more : List (List ℕ)) (had has now : KeepingValue) (k : ℕ) → k ≡ length replies → length replies ≡ length given → CountsLines 0 (texts_of given) replies had has → CountsLines k texts more has now
+    → CountsLines 0 (texts_of (given ++ in_round round texts)) (replies ++ more) had now
+counted_then given round texts replies more had has now k place each first later =
+    let long = length-map given (λ (l : Numbered). l.bytes) in
+    subst (λ (bs : List (List ℕ)). CountsLines 0 bs (replies ++ more) had now) (sym (texts_then given round texts))
+    (lines_append 0 (texts_of given) replies texts more had has now (omega (arith, each, long)) first (subst (λ (m : ℕ). CountsLines m texts more has now) (omega (arith, place, each, long)) later))
+
 -- one round more
-pub served_more : (loaded : List Batch) (may : ℕ → Bool) (old mid new : Option (List ℕ)) (a b c : ℕ) (s : State) (k : ℕ) (t : State) (n : ℕ) (input left after : List ℕ) (taken : Round) → ServedUpto false loaded may old mid a b s k input left → TakesRound taken left after
-    → ((texts : List (List ℕ)) → AreKept taken.lines.items texts → Answers may s k t n texts mid new b c) → ServedUpto taken.ended loaded may old new a c t n input after
-served_more loaded may old mid new a b c s k t n input left after taken upto takes answers =
+pub served_more : (loaded : List Batch) (may : ℕ → Bool) (old mid new : Option (List ℕ)) (a b c : ℕ) (had has now : KeepingValue) (s : State) (k : ℕ) (t : State) (n : ℕ) (input left after : List ℕ) (taken : Round) → ServedUpto false loaded may old mid a b had has s k input left → TakesRound taken left after
+    → ((texts : List (List ℕ)) → AreKept taken.lines.items texts → Answers may s k t n texts mid new b c has now) → ServedUpto taken.ended loaded may old new a c had now t n input after
+served_more loaded may old mid new a b c had has now s k t n input left after taken upto takes answers =
     let here = answers takes.lines takes.kept in
     record {
       round = upto.round + 1;
@@ -117,6 +137,7 @@ served_more loaded may old mid new a b c s k t n input left after taken upto tak
       each = omega (arith, upto.each, here.answered.many, length-append upto.replies here.replies, length-append upto.given (in_round upto.round takes.lines), length-in_round upto.round takes.lines);
       gained = subst (λ (out : List ℕ). Appends old new out) (sym (printed-append upto.replies here.replies)) (Appends-trans old mid new (printed upto.replies) (printed here.replies) upto.gained here.gained);
       rose = subst (λ (m : ℕ). RoseBy a c m) (sym (counts_then upto.replies here.replies k upto.many)) (rose_then a b c (fault_count 0 upto.replies) (fault_count k here.replies) upto.rose here.answered.rose);
+      counted = counted_then upto.given upto.round takes.lines upto.replies here.replies had has now k upto.many upto.each upto.counted here.answered.counted;
     }
 
 -- ---- what was printed is accounted for
@@ -134,7 +155,7 @@ accounts loaded may a b s lines output replies all prints each rose = record {
   counted = subst (RoseBy a b) (sym (told_is loaded may lines output s.history all.runs replies all.explained prints (sym each))) rose;
 }
 
-module _ (over : Bool) (loaded : List Batch) (may : ℕ → Bool) (old new : Option (List ℕ)) (a b : ℕ) (s : State) (k : ℕ) (input left : List ℕ) (upto : ServedUpto over loaded may old new a b s k input left) where
+module _ (over : Bool) (loaded : List Batch) (may : ℕ → Bool) (old new : Option (List ℕ)) (a b : ℕ) (had has : KeepingValue) (s : State) (k : ℕ) (input left : List ℕ) (upto : ServedUpto over loaded may old new a b had has s k input left) where
   -- the rounds that were answered
   so_far : Accounts may (λ l. l ≡ loaded) (HoldsAs may s) (RoseBy a b) upto.given (printed upto.replies)
   so_far = accounts loaded may a b s upto.given (printed upto.replies) upto.replies (rounds_are_accounted loaded may s upto.round upto.given (printed upto.replies) upto.stand) refl upto.each upto.rose
@@ -154,13 +175,17 @@ module _ (over : Bool) (loaded : List Batch) (may : ℕ → Bool) (old new : Opt
       }
 
   -- at the end of the input
-  pub served_all : left ≡ [] → Serves may (λ l. l ≡ loaded) (HoldsAs may s) (RoseBy a b) old new input
+  pub served_all : left ≡ [] → ServesKeeping may (λ l. l ≡ loaded) (HoldsAs may s) (RoseBy a b) old new had has input
   served_all end =
       let lines : lines_of input ≡ upto.given = upto.lines ∙ (ap (λ (bytes : List ℕ). upto.given ++ numbered upto.round 0 (pieces [] bytes)) end ∙ append-nil upto.given) in
       record {
         output = printed upto.replies;
         accounts = subst (λ (ls : List Numbered). Accounts may (λ l. l ≡ loaded) (HoldsAs may s) (RoseBy a b) ls (printed upto.replies)) (sym lines) so_far;
         gained = upto.gained;
+        replies = upto.replies;
+        many = upto.each ∙ ap length (sym lines);
+        prints = refl;
+        counted = subst (λ (ls : List Numbered). CountsLines 0 (texts_of ls) upto.replies had has) (sym lines) upto.counted;
       }
 
 -- ---- fronts
@@ -198,16 +223,16 @@ front_at loaded may old new a b input round given more output rest replies s lin
     }
 
 -- whole rounds and nothing of the next one
-pub front_of_rounds : (loaded : List Batch) (may : ℕ → Bool) (old new : Option (List ℕ)) (a b : ℕ) (s : State) (k : ℕ) (input left : List ℕ) → ServedUpto false loaded may old new a b s k input left
+pub front_of_rounds : (loaded : List Batch) (may : ℕ → Bool) (old new : Option (List ℕ)) (a b : ℕ) (had has : KeepingValue) (s : State) (k : ℕ) (input left : List ℕ) → ServedUpto false loaded may old new a b had has s k input left
     → ServesFront may (λ l. l ≡ loaded) (HoldsAs may s) (RoseBy a b) old new input
-front_of_rounds loaded may old new a b s k input left upto =
+front_of_rounds loaded may old new a b had has s k input left upto =
     front_at loaded may old new a b input upto.round upto.given (numbered upto.round 0 (pieces [] left)) (printed upto.replies) [] upto.replies s upto.lines upto.stand (append-nil (printed upto.replies)) upto.each upto.rose upto.gained
 
 -- whole rounds and a part of the next one
-pub front_in_round : (loaded : List Batch) (may : ℕ → Bool) (old mid new : Option (List ℕ)) (a b c : ℕ) (s : State) (k : ℕ) (t : State) (input left after : List ℕ) (taken : Round)
-    → ServedUpto false loaded may old mid a b s k input left → TakesRound taken left after
-    → ((texts : List (List ℕ)) → AreKept taken.lines.items texts → AnswersFront may s k t texts mid new b c) → ServesFront may (λ l. l ≡ loaded) (HoldsAs may t) (RoseBy a c) old new input
-front_in_round loaded may old mid new a b c s k t input left after taken upto takes fronts =
+pub front_in_round : (loaded : List Batch) (may : ℕ → Bool) (old mid new : Option (List ℕ)) (a b c : ℕ) (had has now : KeepingValue) (s : State) (k : ℕ) (t : State) (input left after : List ℕ) (taken : Round)
+    → ServedUpto false loaded may old mid a b had has s k input left → TakesRound taken left after
+    → ((texts : List (List ℕ)) → AreKept taken.lines.items texts → AnswersFront may s k t texts mid new b c has now) → ServesFront may (λ l. l ≡ loaded) (HoldsAs may t) (RoseBy a c) old new input
+front_in_round loaded may old mid new a b c had has now s k t input left after taken upto takes fronts =
     let here = fronts takes.lines takes.kept in
     let first = printed upto.replies in
     let whole : (first ++ here.front.piece) ++ here.front.rest ≡ printed (upto.replies ++ here.replies) =

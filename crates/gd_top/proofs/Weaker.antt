@@ -29,11 +29,11 @@ module _ (may : ℕ → Bool) (begins begins' : List Batch → Type 0) (leaves l
   serves old new None s = tt
   serves old new (Some input) s = record { output = s.output; accounts = accounts _ s.output s.accounts; gained = s.gained }
 
-  serves_front : (old new known : Option (List ℕ)) → IfSome known (ServesFront may begins leaves rises old new) → IfSome known (ServesFront may begins' leaves' rises' old new)
+  pub serves_front : (old new known : Option (List ℕ)) → IfSome known (ServesFront may begins leaves rises old new) → IfSome known (ServesFront may begins' leaves' rises' old new)
   serves_front old new None s = tt
   serves_front old new (Some input) s = record { output = s.output; rest = s.rest; accounts = accounts _ _ s.accounts; gained = s.gained }
 
-  serves_rounds : (old new now known : Option (List ℕ)) → IfSome known (ServesRounds may begins leaves rises old new now) → IfSome known (ServesRounds may begins' leaves' rises' old new now)
+  pub serves_rounds : (old new now known : Option (List ℕ)) → IfSome known (ServesRounds may begins leaves rises old new now) → IfSome known (ServesRounds may begins' leaves' rises' old new now)
   serves_rounds old new now None s = tt
   serves_rounds old new now (Some input) s = record { taken = s.taken; parts = s.parts; output = s.output; accounts = accounts _ s.output s.accounts; gained = s.gained }
 

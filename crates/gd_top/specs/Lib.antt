@@ -1,5 +1,6 @@
 pub mod Answered
 pub mod Answers
+pub mod Counted
 pub mod Dumps
 pub mod Ends
 pub mod Follows

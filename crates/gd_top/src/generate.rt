@@ -7,10 +7,11 @@ ghost use Rattle.gd_outside.specs.Gains.{GainsFront};
 ghost use Rattle.gd_gen.specs.Lines.{lines_of as generated};
 ghost use Rattle.gd_gen.specs.Summary.{summary_of as sum_of};
 ghost use Rattle.gd_words.specs.Verbs.{generates};
-ghost use Rattle.gd_top.specs.Ends.{Causes, may_tell};
+ghost use Rattle.gd_top.specs.Ends.{IsIdle, Causes, may_tell};
 ghost use Rattle.gd_top.specs.Generates.{AnswersGenerated, PrintsSummary};
-ghost use Rattle.gd_top.specs.Held.{Loads, MayMean, DoesMean};
-ghost use Rattle.gd_top.specs.Kept.{Keeps};
+ghost use Rattle.gd_top.specs.Held.{Loads, Leaves, MayMean, DoesMean};
+ghost use Rattle.gd_top.specs.Kept.{Keeps, StaysTold};
+ghost use Rattle.gd_top.specs.Serves.{PrintsLines};
 ghost use Rattle.gd_top.specs.Summed.{SumsOutput};
 
 use crate::pace::Pace;
@@ -26,6 +27,7 @@ use gd_outside::gate::Gate;
 use gd_outside::memory::{MemorySink, MemorySource};
 use gd_outside::printing::write_line;
 use gd_outside::sink::Sink;
+use gd_outside::source::Source;
 use gd_words::reader::{BUDGET, WORKERS};
 use gd_words::verbs::Generate;
 use std::alloc::Global;
@@ -42,6 +44,28 @@ fn requests(alloc: Global, generate: &Generate) -> Result<(MemorySource, MemoryS
     let source = MemorySource::new(alloc, &lines, &[])?;
     let output = MemorySink::new(alloc, &[])?;
     Ok((source, output))
+}
+
+/// Serves a whole input over the store that a disk holds, as `serve` does where its words name no
+/// workers, no budget and no cache. The disk is handed back, however it ends.
+fn serve_plainly<
+    R: Threads + Wait + Sync,
+    D: Disk + Send,
+    S: Source,
+    K: Sink,
+    C: Clock + Send + Drop,
+    G: Gate,
+>(rt: &R, alloc: Global, disk: D, source: &mut S, sink: &mut K, clock: C, gate: &G) -> (Status, D)
+    ensures prints { PrintsLines result.0 (C.may clock) (Loads (D.content disk))
+        (Leaves (C.may clock) (D.content disk) (D.images result.1))
+        (RoseBy (D.faults disk) (D.faults result.1))
+        (IsIdle source.old source.new sink.old sink.new
+        × StaysTold (D.content disk) (D.content result.1) (D.images disk) (D.images result.1))
+        (S.left source.old) (S.left source.new) (K.held sink.old) (K.held sink.new) }
+    ensures kept { Keeps (D.content disk) (D.content result.1) (D.images disk) (D.images result.1) }
+{
+    let pace = Pace::new(WORKERS, BUDGET, None);
+    serve_over(rt, alloc, disk, pace, source, sink, clock, gate)
 }
 
 /// Serves the lines that a command generates over the store that a disk holds, as `serve` does where
@@ -62,12 +86,10 @@ fn outputs_over<R: Threads + Wait + Sync, D: Disk + Send, C: Clock + Send + Drop
 {
     match requests(alloc, generate) {
         Ok((mut source, mut output)) => {
-            let pace = Pace::new(WORKERS, BUDGET);
-            let (status, disk) = serve_over(
+            let (status, disk) = serve_plainly(
                 rt,
                 alloc,
                 disk,
-                pace,
                 &mut source,
                 &mut output,
                 clock,

@@ -5,7 +5,8 @@ ghost use Rattle.std.specs.Io.KnownBytes.{IsAtEnd};
 ghost use Rattle.gd_base.specs.Counts.{Rose, RoseBy};
 ghost use Rattle.gd_bytes.specs.Disk.{HoldsSame};
 ghost use Rattle.gd_input.specs.Taken.{TakesAtLeast};
-ghost use Rattle.gd_words.specs.Verbs.{serves, verb_in, file_of, reads_input, prints_output};
+ghost use Rattle.gd_words.specs.Verbs.{serves, caches, verb_in, file_of, reads_input};
+ghost use Rattle.gd_words.specs.Verbs.{prints_output};
 ghost use Rattle.gd_top.specs.Ends.{IsIdle, Causes, SendsRounds, RisesAt, may_tell};
 ghost use Rattle.gd_top.specs.Held.{MayMean, MayMeanAt, DoesMean, told_at};
 ghost use Rattle.gd_top.specs.Kept.{Keeps, StaysAt, StaysTold};
@@ -65,6 +66,8 @@ fn run_over<
     ensures no_output { prints_output (verb_in command.now) ≡ false → sink.new ≡ sink.old }
     ensures rounds_sent { verb_in command.now ≡ serves
         → SendsRounds result.0 K.sent sink.old sink.new }
+    ensures cached_sent { (n : ℕ) → verb_in command.now ≡ caches n
+        → SendsRounds result.0 K.sent sink.old sink.new }
     ensures causes { Causes result.0 (Rose (S.faults source.old) (S.faults source.new))
         (Rose (K.faults sink.old) (K.faults sink.new))
         (Rose (D.faults disk) (D.faults result.1))
@@ -77,7 +80,7 @@ fn run_over<
 {
     match command {
         Command::Serve(settings) => {
-            let pace = Pace::new(settings.workers, settings.budget);
+            let pace = Pace::new(settings.workers, settings.budget, settings.cache);
             serve_over(rt, alloc, disk, pace, source, sink, clock, gate)
         }
         Command::Replay(_) => replay_over(rt, alloc, disk, source, sink, clock),
@@ -126,6 +129,8 @@ fn run_in_file<
     ensures no_output { prints_output (verb_in command.now) ≡ false → sink.new ≡ sink.old }
     ensures rounds_sent { verb_in command.now ≡ serves
         → SendsRounds result K.sent sink.old sink.new }
+    ensures cached_sent { (n : ℕ) → verb_in command.now ≡ caches n
+        → SendsRounds result K.sent sink.old sink.new }
     ensures causes { Causes result (Rose (S.faults source.old) (S.faults source.new))
         (Rose (K.faults sink.old) (K.faults sink.new))
         (Rose (F.faults shelf.old) (F.faults shelf.new))
@@ -172,6 +177,8 @@ fn run_in_memory<R: Threads + Wait + Sync, S: Source, K: Sink, C: Clock + Send +
     ensures no_output { prints_output (verb_in command.now) ≡ false → sink.new ≡ sink.old }
     ensures rounds_sent { verb_in command.now ≡ serves
         → SendsRounds result K.sent sink.old sink.new }
+    ensures cached_sent { (n : ℕ) → verb_in command.now ≡ caches n
+        → SendsRounds result K.sent sink.old sink.new }
     ensures causes { Causes result (Rose (S.faults source.old) (S.faults source.new))
         (Rose (K.faults sink.old) (K.faults sink.new)) ⊥
         (TakesAtLeast (2 ^ 40) (S.left source.old) (S.left source.new) (S.given source.old)
@@ -217,6 +224,8 @@ pub fn run<R: Threads + Wait + Sync, S: Source, K: Sink, F: Shelf, C: Clock + Se
         → K.sent sink.new ≡ true }
     ensures no_output { prints_output (verb_in command.now) ≡ false → sink.new ≡ sink.old }
     ensures rounds_sent { verb_in command.now ≡ serves
+        → SendsRounds result K.sent sink.old sink.new }
+    ensures cached_sent { (n : ℕ) → verb_in command.now ≡ caches n
         → SendsRounds result K.sent sink.old sink.new }
 
     // Each status has its cause, and what is said of the file is so.

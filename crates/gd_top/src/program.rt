@@ -11,6 +11,7 @@ ghost use Rattle.gd_words.specs.Verbs as verb;
 ghost use Rattle.gd_words.specs.Verbs.{Verb, verb_of, path_of, reads_input, prints_output};
 ghost use Rattle.gd_words.specs.Words.{command_of};
 ghost use Rattle.gd_top.specs.Answers.{PrintsAnswers};
+ghost use Rattle.gd_top.specs.Counted.{PrintsCounted};
 ghost use Rattle.gd_top.specs.Dumps.{PrintsDump};
 ghost use Rattle.gd_top.specs.Ends.{IsHindered, IsIdle, SendsRounds, RisesAt, is_of_text};
 ghost use Rattle.gd_top.specs.Ends.{may_tell};
@@ -86,6 +87,19 @@ pub fn graphd<
     // stands for the same batches as before (`nothing`).
     ensures serves { verb_of words.now ≡ Some verb.serves → PrintsLines result (C.may clock)
         (BeginsWith (F.content shelf.old) (path_of words.now))
+        (EndsWith (C.may clock) (F.content shelf.old) (F.images shelf.new) (path_of words.now))
+        (RisesAt (path_of words.now) (F.faults shelf.old) (F.faults shelf.new))
+        (IsIdle source.old source.new sink.old sink.new
+        × StaysAt (F.content shelf.old) (F.content shelf.new) (F.images shelf.old)
+        (F.images shelf.new) (path_of words.now))
+        (S.left source.old) (S.left source.new) (K.held sink.old) (K.held sink.new) }
+
+    // Words that serve with sessions that keep so many replies each. All is as without that, but
+    // that behind the output for the whole input stands a line more, which tells how many reads
+    // were answered and, where no put was refused, how many of these found their reply kept, by the
+    // definition. Where the sink failed, a front of both was printed.
+    ensures cached { (n : ℕ) → verb_of words.now ≡ Some (verb.caches n) → PrintsCounted n result
+        (C.may clock) (BeginsWith (F.content shelf.old) (path_of words.now))
         (EndsWith (C.may clock) (F.content shelf.old) (F.images shelf.new) (path_of words.now))
         (RisesAt (path_of words.now) (F.faults shelf.old) (F.faults shelf.new))
         (IsIdle source.old source.new sink.old sink.new
@@ -177,6 +191,8 @@ pub fn graphd<
     ensures no_output { (v : Verb) → verb_of words.now ≡ Some v → prints_output v ≡ false
         → sink.new ≡ sink.old }
     ensures rounds_sent { verb_of words.now ≡ Some verb.serves
+        → SendsRounds result K.sent sink.old sink.new }
+    ensures cached_sent { (n : ℕ) → verb_of words.now ≡ Some (verb.caches n)
         → SendsRounds result K.sent sink.old sink.new }
 
     // A status that speaks of the input, of the output or of a text comes only with a verb that has

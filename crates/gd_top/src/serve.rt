@@ -30,6 +30,23 @@ use std::alloc::Global;
 use std::sync::Wait;
 use std::thread::Threads;
 
+/// Prints the line of the counts of what sessions keep, and says how that ended.
+fn print_kept<K: Sink>(keeping: &Keeping, sink: &mut K) -> Status
+    ensures done { result ≡ Status.Done
+        → Appends (K.held sink.old) (K.held sink.new) (line_of keeping.now ++ 10 ∷ []) }
+    ensures front { result ≡ Status.SinkFault
+        → GainsFront (K.held sink.old) (K.held sink.new) (line_of keeping.now ++ 10 ∷ []) }
+    ensures ends { (result ≡ Status.Done) ⊎ (result ≡ Status.SinkFault) }
+    ensures sent { result ≡ Status.Done → K.sent sink.new ≡ true }
+    ensures failed { result ≡ Status.SinkFault → Rose (K.faults sink.old) (K.faults sink.new) }
+    ensures later { K.faults sink.old ≤ K.faults sink.new }
+{
+    match print_counts(sink, keeping.hits(), keeping.reads(), keeping.refused()) {
+        Ok(()) => Status::Done,
+        Err(_failed) => Status::SinkFault,
+    }
+}
+
 /// Prints the line of the counts, where sessions keep replies, and says how that ended.
 fn finish<K: Sink>(keeping: &Keeping, sink: &mut K) -> Status
     requires sent { K.sent sink.old ≡ true }
@@ -43,13 +60,10 @@ fn finish<K: Sink>(keeping: &Keeping, sink: &mut K) -> Status
     ensures failed { result ≡ Status.SinkFault → Rose (K.faults sink.old) (K.faults sink.new) }
     ensures later { K.faults sink.old ≤ K.faults sink.new }
 {
-    if !keeping.is_on() {
-        return Status::Done;
+    if keeping.is_on() {
+        return print_kept(keeping, sink);
     }
-    match print_counts(sink, keeping.hits(), keeping.reads(), keeping.refused()) {
-        Ok(()) => Status::Done,
-        Err(_failed) => Status::SinkFault,
-    }
+    Status::Done
 }
 
 /// Serves the whole input, and says how that ended. Where sessions keep replies, the line of the
@@ -115,7 +129,6 @@ pub(crate) fn serve_over<
     clock: C,
     gate: &G,
 ) -> (Status, D)
-    requires some { IfSome pace.cache (λ n. 0 < n.value) }
     ensures prints { PrintsServed (option_map (λ n. n.value) pace.cache) result.0 (C.may clock)
         (Loads (D.content disk))
         (Leaves (C.may clock) (D.content disk) (D.images result.1))
@@ -133,7 +146,15 @@ pub(crate) fn serve_over<
     ensures tells { may_tell serves result.0 ≡ true }
     ensures kept { Keeps (D.content disk) (D.content result.1) (D.images disk) (D.images result.1) }
 {
-    match Rounds::start(rt, alloc, disk, clock, pace.budget, pace.workers, pace.cache) {
+    match Rounds::start(
+        rt,
+        alloc,
+        disk,
+        clock,
+        pace.budget,
+        pace.workers,
+        pace.cache,
+    ) {
         Ok(mut rounds) => {
             let status = serve_all(rt, alloc, gate, &mut rounds, source, sink);
             let (disk, _clock) = rounds.close(rt);

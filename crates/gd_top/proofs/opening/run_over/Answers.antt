@@ -1,13 +1,16 @@
-use Rattle.std.proofs.Common.{◌≡◌, ◌∙◌, ap, sym, true, false, refl}
+use Rattle.std.proofs.Common.{◌≡◌, ◌∙◌, ℕ, Option, ap, subst, sym, true, false, refl}
 use Rattle.gd_words.specs.declared.verbs.Command.{Command}
-use Rattle.gd_words.specs.Verbs.{serves, replays, dumps, restores, follows, answers, generates, verb_in, reads_input, prints_output}
+use Rattle.gd_words.specs.Verbs.{serves, caches, replays, dumps, restores, follows, answers, generates, verb_in, reads_input, prints_output}
 use Rattle.gd_top.specs.Ends.{IsIdle}
-use Rattle.gd_top.specs.Held.{Loads}
+use Rattle.gd_top.specs.Counted.{PrintsServed}
+use Rattle.gd_top.specs.Held.{Leaves, Loads}
 use Rattle.gd_top.specs.Kept.{StaysTold}
 use Rattle.gd_top.specs.Restores.{LeavesBatches}
 use Rattle.gd_top.proofs.Caused.{causes_weaker}
 use Rattle.gd_base.specs.Counts.{RoseBy}
+use Rattle.gd_top.proofs.Counted.{serving_reads, serving_prints, serving_tells}
 use Rattle.gd_top.proofs.Dumped.{dump_weaker}
+use Rattle.gd_top.proofs.Framed.{printed_serving}
 use Rattle.gd_top.proofs.Generated.{summary_weaker}
 use Rattle.gd_top.proofs.Restored.{restores_weaker}
 use Rattle.gd_top.proofs.opening.run_over.Goals as goal
@@ -15,19 +18,34 @@ use Rattle.gd_top.proofs.opening.run_over.Goals as goal
 -- ---- serve
 
 pub returns-in-Serve-clause-prints : goal.returns-in-Serve-clause-prints
-returns-in-Serve-clause-prints g c = rw c.in-Serve.is c.serve_over.ensures.prints
+returns-in-Serve-clause-prints g c =
+    let d = g.D.Disk in
+    let run = c.serve_over in
+    let source = c.args.source.now in
+    let sink = c.args.sink.now in
+    let told = d.content c.args.disk in
+    let may = g.C.Clock.may c.args.clock in
+    let rises = RoseBy (d.faults c.args.disk) (d.faults run.result.1) in
+    let unbegun = IsIdle source run.new.source sink run.new.sink × StaysTold told (d.content run.result.1) (d.images c.args.disk) (d.images run.result.1) in
+    let served = subst (λ (cache : Option ℕ). PrintsServed cache run.result.0 may (Loads told) (Leaves may told (d.images run.result.1)) rises unbegun (g.S.Source.left source) (g.S.Source.left run.new.source) (g.K.Sink.held sink) (g.K.Sink.held run.new.sink))
+    c.new-pace.ensures.cache run.ensures.prints in
+    rw c.in-Serve.is
+    (printed_serving c.in-Serve.settings.cache run.result.0 may told (d.images run.result.1) rises unbegun (g.S.Source.left source) (g.S.Source.left run.new.source) (g.K.Sink.held sink) (g.K.Sink.held run.new.sink) served)
 
 pub returns-in-Serve-clause-rounds_sent : goal.returns-in-Serve-clause-rounds_sent
 returns-in-Serve-clause-rounds_sent g c is = c.serve_over.ensures.rounds_sent
 
+pub returns-in-Serve-clause-cached_sent : goal.returns-in-Serve-clause-cached_sent
+returns-in-Serve-clause-cached_sent g c n is = c.serve_over.ensures.rounds_sent
+
 pub returns-in-Serve-clause-no_input : goal.returns-in-Serve-clause-no_input
-returns-in-Serve-clause-no_input g c is = let other : true ≡ false = sym (ap (λ (command : Command). reads_input (verb_in command)) c.in-Serve.is) ∙ is in absurd (cc)
+returns-in-Serve-clause-no_input g c is = let other : true ≡ false = sym (serving_reads c.in-Serve.settings.cache) ∙ (sym (ap (λ (command : Command). reads_input (verb_in command)) c.in-Serve.is) ∙ is) in absurd (cc)
 
 pub returns-in-Serve-clause-no_output : goal.returns-in-Serve-clause-no_output
-returns-in-Serve-clause-no_output g c is = let other : true ≡ false = sym (ap (λ (command : Command). prints_output (verb_in command)) c.in-Serve.is) ∙ is in absurd (cc)
+returns-in-Serve-clause-no_output g c is = let other : true ≡ false = sym (serving_prints c.in-Serve.settings.cache) ∙ (sym (ap (λ (command : Command). prints_output (verb_in command)) c.in-Serve.is) ∙ is) in absurd (cc)
 
 pub returns-in-Serve-clause-tells : goal.returns-in-Serve-clause-tells
-returns-in-Serve-clause-tells g c = rw c.in-Serve.is c.serve_over.ensures.tells
+returns-in-Serve-clause-tells g c = rw c.in-Serve.is (serving_tells c.in-Serve.settings.cache c.serve_over.result.0 c.serve_over.ensures.tells)
 
 -- ---- replay
 
@@ -36,6 +54,9 @@ returns-in-Replay-clause-prints g c = rw c.in-Replay.is c.replay_over.ensures.pr
 
 pub returns-in-Replay-clause-rounds_sent : goal.returns-in-Replay-clause-rounds_sent
 returns-in-Replay-clause-rounds_sent g c is = let other : replays ≡ serves = sym (ap (λ (command : Command). verb_in command) c.in-Replay.is) ∙ is in absurd (cc)
+
+pub returns-in-Replay-clause-cached_sent : goal.returns-in-Replay-clause-cached_sent
+returns-in-Replay-clause-cached_sent g c n is = let other : replays ≡ caches n = sym (ap (λ (command : Command). verb_in command) c.in-Replay.is) ∙ is in absurd (cc)
 
 pub returns-in-Replay-clause-no_input : goal.returns-in-Replay-clause-no_input
 returns-in-Replay-clause-no_input g c is = let other : true ≡ false = sym (ap (λ (command : Command). reads_input (verb_in command)) c.in-Replay.is) ∙ is in absurd (cc)
@@ -68,6 +89,9 @@ returns-in-Dump-clause-no_output g c is = let other : true ≡ false = sym (ap (
 pub returns-in-Dump-clause-rounds_sent : goal.returns-in-Dump-clause-rounds_sent
 returns-in-Dump-clause-rounds_sent g c is = let other : dumps c.in-Dump.dump.from ≡ serves = sym (ap (λ (command : Command). verb_in command) c.in-Dump.is) ∙ is in absurd (cc)
 
+pub returns-in-Dump-clause-cached_sent : goal.returns-in-Dump-clause-cached_sent
+returns-in-Dump-clause-cached_sent g c n is = let other : dumps c.in-Dump.dump.from ≡ caches n = sym (ap (λ (command : Command). verb_in command) c.in-Dump.is) ∙ is in absurd (cc)
+
 pub returns-in-Dump-clause-tells : goal.returns-in-Dump-clause-tells
 returns-in-Dump-clause-tells g c = rw c.in-Dump.is c.dump_over.ensures.tells
 
@@ -95,6 +119,9 @@ returns-in-Restore-clause-sent g c is done = let other : false ≡ true = sym (a
 pub returns-in-Restore-clause-rounds_sent : goal.returns-in-Restore-clause-rounds_sent
 returns-in-Restore-clause-rounds_sent g c is = let other : restores ≡ serves = sym (ap (λ (command : Command). verb_in command) c.in-Restore.is) ∙ is in absurd (cc)
 
+pub returns-in-Restore-clause-cached_sent : goal.returns-in-Restore-clause-cached_sent
+returns-in-Restore-clause-cached_sent g c n is = let other : restores ≡ caches n = sym (ap (λ (command : Command). verb_in command) c.in-Restore.is) ∙ is in absurd (cc)
+
 pub returns-in-Restore-clause-tells : goal.returns-in-Restore-clause-tells
 returns-in-Restore-clause-tells g c = rw c.in-Restore.is c.restore_over.ensures.tells
 
@@ -105,6 +132,9 @@ returns-in-Templates-clause-prints g c = rw c.in-Templates.is c.templates_over.e
 
 pub returns-in-Templates-clause-rounds_sent : goal.returns-in-Templates-clause-rounds_sent
 returns-in-Templates-clause-rounds_sent g c is = let other : answers ≡ serves = sym (ap (λ (command : Command). verb_in command) c.in-Templates.is) ∙ is in absurd (cc)
+
+pub returns-in-Templates-clause-cached_sent : goal.returns-in-Templates-clause-cached_sent
+returns-in-Templates-clause-cached_sent g c n is = let other : answers ≡ caches n = sym (ap (λ (command : Command). verb_in command) c.in-Templates.is) ∙ is in absurd (cc)
 
 pub returns-in-Templates-clause-no_input : goal.returns-in-Templates-clause-no_input
 returns-in-Templates-clause-no_input g c is = let other : true ≡ false = sym (ap (λ (command : Command). reads_input (verb_in command)) c.in-Templates.is) ∙ is in absurd (cc)
@@ -122,6 +152,9 @@ returns-in-Follow-clause-prints g c = rw c.in-Follow.is c.follow_over.ensures.pr
 
 pub returns-in-Follow-clause-rounds_sent : goal.returns-in-Follow-clause-rounds_sent
 returns-in-Follow-clause-rounds_sent g c is = let other : follows ≡ serves = sym (ap (λ (command : Command). verb_in command) c.in-Follow.is) ∙ is in absurd (cc)
+
+pub returns-in-Follow-clause-cached_sent : goal.returns-in-Follow-clause-cached_sent
+returns-in-Follow-clause-cached_sent g c n is = let other : follows ≡ caches n = sym (ap (λ (command : Command). verb_in command) c.in-Follow.is) ∙ is in absurd (cc)
 
 pub returns-in-Follow-clause-no_input : goal.returns-in-Follow-clause-no_input
 returns-in-Follow-clause-no_input g c is = let other : true ≡ false = sym (ap (λ (command : Command). reads_input (verb_in command)) c.in-Follow.is) ∙ is in absurd (cc)
@@ -158,6 +191,9 @@ returns-in-Generate-clause-no_output g c is = let other : true ≡ false = sym (
 
 pub returns-in-Generate-clause-rounds_sent : goal.returns-in-Generate-clause-rounds_sent
 returns-in-Generate-clause-rounds_sent g c is = let other : generates c.in-Generate.generate.number c.in-Generate.generate.count ≡ serves = sym (ap (λ (command : Command). verb_in command) c.in-Generate.is) ∙ is in absurd (cc)
+
+pub returns-in-Generate-clause-cached_sent : goal.returns-in-Generate-clause-cached_sent
+returns-in-Generate-clause-cached_sent g c n is = let other : generates c.in-Generate.generate.number c.in-Generate.generate.count ≡ caches n = sym (ap (λ (command : Command). verb_in command) c.in-Generate.is) ∙ is in absurd (cc)
 
 pub returns-in-Generate-clause-tells : goal.returns-in-Generate-clause-tells
 returns-in-Generate-clause-tells g c = rw c.in-Generate.is c.generate_over.ensures.tells

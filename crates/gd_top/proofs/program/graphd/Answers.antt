@@ -100,6 +100,49 @@ returns-in-Ok-Some-clause-disk_steady g c none =
 pub returns-in-Ok-Some-clause-usage : goal.returns-in-Ok-Some-clause-usage
 returns-in-Ok-Some-clause-usage g c is = absurd (not_usage (verb_in c.in-Ok-Some.command) c.run.result c.run.ensures.tells is)
 
+-- ---- sessions keep replies
+
+pub returns-in-Ok-Some-clause-cached : goal.returns-in-Ok-Some-clause-cached
+returns-in-Ok-Some-clause-cached g c n is =
+    let run = c.run in
+    let f = g.F.Shelf in
+    let source = c.args.source.now in
+    let sink = c.args.sink.now in
+    let words : command_of c.args.words.now ≡ Some c.in-Ok-Some.command = first_of (search rules, grind (arith, common_steps)) in
+    verb_known (verb.caches n) run.result (g.C.Clock.may c.args.clock) (f.content c.args.shelf.now) (f.images run.new.shelf) (λ path. RisesAt path (f.faults c.args.shelf.now) (f.faults run.new.shelf))
+    (λ path. IsIdle source run.new.source sink run.new.sink × StaysAt (f.content c.args.shelf.now) (f.content run.new.shelf) (f.images c.args.shelf.now) (f.images run.new.shelf) path)
+    (g.S.Source.left source) (g.S.Source.left run.new.source) (g.K.Sink.held sink) (g.K.Sink.held run.new.sink) c.args.words.now c.in-Ok-Some.command words is run.ensures.prints
+
+pub returns-in-Ok-None-clause-cached : goal.returns-in-Ok-None-clause-cached
+returns-in-Ok-None-clause-cached g c n is =
+    let words : command_of c.args.words.now ≡ None = first_of (search rules, grind (arith, common_steps)) in
+    absurd (none_known (verb.caches n) c.args.words.now words is)
+
+pub returns-in-Err-clause-cached : goal.returns-in-Err-clause-cached
+returns-in-Err-clause-cached g c n is =
+    let f = g.F.Shelf in
+    let source = c.args.source.now in
+    let sink = c.args.sink.now in
+    let faults = f.faults c.args.shelf.now in
+    let path = path_of c.args.words.now in
+    let content = f.content c.args.shelf.now in
+    let images = f.images c.args.shelf.now in
+    printed_no_words (g.C.Clock.may c.args.clock) (RisesAt path faults faults) (IsIdle source source sink sink × StaysAt content content images images path) (g.S.Source.left source) (g.S.Source.left source) (g.K.Sink.held sink) (g.K.Sink.held sink) (verb.caches n)
+    content images path (record { source = refl; sink = refl }, stays_untouched content images path)
+
+pub returns-in-Ok-Some-clause-cached_sent : goal.returns-in-Ok-Some-clause-cached_sent
+returns-in-Ok-Some-clause-cached_sent g c n is =
+    let words : command_of c.args.words.now ≡ Some c.in-Ok-Some.command = first_of (search rules, grind (arith, common_steps)) in
+    c.run.ensures.cached_sent n (verb_is (verb.caches n) c.args.words.now c.in-Ok-Some.command words is)
+
+pub returns-in-Ok-None-clause-cached_sent : goal.returns-in-Ok-None-clause-cached_sent
+returns-in-Ok-None-clause-cached_sent g c n is =
+    let words : command_of c.args.words.now ≡ None = first_of (search rules, grind (arith, common_steps)) in
+    absurd (none_known (verb.caches n) c.args.words.now words is)
+
+pub returns-in-Err-clause-cached_sent : goal.returns-in-Err-clause-cached_sent
+returns-in-Err-clause-cached_sent g c n is other = inl refl
+
 -- ---- a dump
 
 pub returns-in-Ok-Some-clause-dumps : goal.returns-in-Ok-Some-clause-dumps

@@ -3,7 +3,7 @@ use Rattle.std.proofs.lemmas.Grind.{common_steps}
 use Rattle.gd_threads.specs.Served.{state_at}
 use Rattle.gd_round_lines.specs.Replies.{reply_texts}
 use Rattle.gd_outside.proofs.Fronts.{at_err}
-use Rattle.gd_top.proofs.Answered.{answered}
+use Rattle.gd_top.proofs.Answered.{answered, caches_kept}
 use Rattle.gd_top.proofs.Served.{whole_front, held_on, front_held}
 use Rattle.gd_top.proofs.rounds.answer_round.Goals as goal
 
@@ -19,13 +19,16 @@ returns-in_err-printed g c =
     let new = g.K.Sink.held c.flush-sent.new.self in
     let before = g.D.Disk.faults c.args.rounds.now.side.log.disk in
     let after = g.D.Disk.faults c.answer_round-replies.new.self.side.log.disk in
+    let had = c.args.rounds.now.keeping in
+    let has = c.answer_round-replies.new.self.keeping in
     let answers = answered g.D.Disk.content g.D.Disk.moment g.D.Disk.images g.D.Disk.images_since g.D.Disk.faults g.C.Clock.may c.args.lines.now c.args.rounds.now c.answer_round-replies.new.self (reply_texts c.answer_round-replies.result) c.answer_round-replies.ensures in
     record {
       all = first_of (search rules, grind (arith, common_steps));
-      front = λ texts kept. at_err c.from_residual.result (front_held may s k t texts old mid new before after
+      front = λ texts kept. at_err c.from_residual.result (front_held may s k t texts old mid new before after had has
           (record { replies = reply_texts c.answer_round-replies.result; answered = answers texts kept; front = c.in_err-printed.ensures.front }) c.flush-sent.ensures.bytes);
       sent = first_of (search rules, grind (arith, common_steps));
       next = first_of (search rules, grind (arith, common_steps));
+      caches = caches_kept c.args.lines.now c.args.rounds.now c.answer_round-replies.new.self (reply_texts c.answer_round-replies.result) c.requires.short c.answer_round-replies.ensures.counted;
       loaded = c.answer_round-replies.ensures.loaded;
       told = c.answer_round-replies.ensures.told;
       clock = c.answer_round-replies.ensures.clock;
@@ -47,13 +50,16 @@ returns-in_err-sent g c =
     let new = g.K.Sink.held c.flush-sent.new.self in
     let before = g.D.Disk.faults c.args.rounds.now.side.log.disk in
     let after = g.D.Disk.faults c.answer_round-replies.new.self.side.log.disk in
+    let had = c.args.rounds.now.keeping in
+    let has = c.answer_round-replies.new.self.keeping in
     let answers = answered g.D.Disk.content g.D.Disk.moment g.D.Disk.images g.D.Disk.images_since g.D.Disk.faults g.C.Clock.may c.args.lines.now c.args.rounds.now c.answer_round-replies.new.self (reply_texts c.answer_round-replies.result) c.answer_round-replies.ensures in
     record {
       all = first_of (search rules, grind (arith, common_steps));
-      front = λ texts kept. at_err c.from_residual-in_err-sent.result (whole_front may s k t n texts old new before after (held_on may s k t n texts old mid new before after
+      front = λ texts kept. at_err c.from_residual-in_err-sent.result (whole_front may s k t n texts old new before after had has (held_on may s k t n texts old mid new before after had has
           (record { replies = reply_texts c.answer_round-replies.result; answered = answers texts kept; next = next; gained = c.in_ok-printed.ensures.all }) c.flush-sent.ensures.bytes));
       sent = first_of (search rules, grind (arith, common_steps));
       next = first_of (search rules, grind (arith, common_steps));
+      caches = caches_kept c.args.lines.now c.args.rounds.now c.answer_round-replies.new.self (reply_texts c.answer_round-replies.result) c.requires.short c.answer_round-replies.ensures.counted;
       loaded = c.answer_round-replies.ensures.loaded;
       told = c.answer_round-replies.ensures.told;
       clock = c.answer_round-replies.ensures.clock;
@@ -75,13 +81,16 @@ returns g c =
     let new = g.K.Sink.held c.flush-sent.new.self in
     let before = g.D.Disk.faults c.args.rounds.now.side.log.disk in
     let after = g.D.Disk.faults c.answer_round-replies.new.self.side.log.disk in
+    let had = c.args.rounds.now.keeping in
+    let has = c.answer_round-replies.new.self.keeping in
     let answers = answered g.D.Disk.content g.D.Disk.moment g.D.Disk.images g.D.Disk.images_since g.D.Disk.faults g.C.Clock.may c.args.lines.now c.args.rounds.now c.answer_round-replies.new.self (reply_texts c.answer_round-replies.result) c.answer_round-replies.ensures in
     record {
-      all = λ texts kept. held_on may s k t n texts old mid new before after
+      all = λ texts kept. held_on may s k t n texts old mid new before after had has
           (record { replies = reply_texts c.answer_round-replies.result; answered = answers texts kept; next = next; gained = c.in_ok-printed.ensures.all }) c.flush-sent.ensures.bytes;
       front = first_of (search rules, grind (arith, common_steps));
       sent = first_of (search rules, grind (arith, common_steps));
       next = c.answer_round-replies.ensures.next;
+      caches = caches_kept c.args.lines.now c.args.rounds.now c.answer_round-replies.new.self (reply_texts c.answer_round-replies.result) c.requires.short c.answer_round-replies.ensures.counted;
       loaded = c.answer_round-replies.ensures.loaded;
       told = c.answer_round-replies.ensures.told;
       clock = c.answer_round-replies.ensures.clock;

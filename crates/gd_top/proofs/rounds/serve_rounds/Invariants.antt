@@ -11,7 +11,8 @@ use Rattle.gd_top.proofs.rounds.serve_rounds.Given as goal
 abbrev pub invariant-loop-round : goal.invariant-loop-round
 invariant-loop-round g l = record {
   upto : Known (g.S.Source.left l.fn.source) (prepend_known l.reader.bytes (g.S.Source.left l.source)) (ServedUpto false l.fn.rounds.side.history.loaded (g.C.Clock.may l.fn.rounds.side.clock) (g.K.Sink.held l.fn.sink) (g.K.Sink.held l.sink)
-      (g.D.Disk.faults l.fn.rounds.side.log.disk) (g.D.Disk.faults l.rounds.side.log.disk) (state_at l.rounds.side) l.rounds.lines);
+      (g.D.Disk.faults l.fn.rounds.side.log.disk) (g.D.Disk.faults l.rounds.side.log.disk) l.fn.rounds.keeping l.rounds.keeping (state_at l.rounds.side) l.rounds.lines);
+  caches : length l.rounds.keeping.caches ≡ length l.fn.rounds.keeping.caches;
   advances : Advances (g.S.Source.left l.fn.source) (prepend_known l.reader.bytes (g.S.Source.left l.source)) 0 l.reader.consumed;
   given : RoseBy (g.S.Source.given l.fn.source) (g.S.Source.given l.source) (l.reader.consumed + length l.reader.bytes);
   counted : l.rounds.lines ≤ 256 * l.reader.consumed;

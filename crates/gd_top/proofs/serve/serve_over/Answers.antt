@@ -1,4 +1,4 @@
-use Rattle.std.proofs.Common.{◌≡◌, ◌∙◌, ℕ, Bool, Option, option_map, refl, subst, ap, arith}
+use Rattle.std.proofs.Common.{◌≡◌, ◌∙◌, ℕ, Bool, option_map, refl, subst, ap, arith}
 use Rattle.std.specs.Option.{is_some}
 use Rattle.gd_base.specs.Counts.{RoseBy}
 use Rattle.gd_threads.specs.Served.{state_at}
@@ -12,7 +12,7 @@ use Rattle.gd_top.proofs.Framed.{refused_served}
 use Rattle.gd_top.proofs.Caused.{refused_tells}
 use Rattle.gd_words.specs.Verbs.{serves}
 use Rattle.gd_top.proofs.Settled.{loads, leaves}
-use Rattle.gd_top.proofs.Finished.{served_weaker, some_value}
+use Rattle.gd_top.proofs.Counted.{above_none, served_weaker}
 use Rattle.gd_top.proofs.Weaker.{rose_within}
 use Rattle.gd_top.proofs.serve.serve_over.Goals as goal
 
@@ -26,14 +26,15 @@ returns-in-Ok-clause-prints g c =
     let loaded = first.side.history.loaded in
     let before = d.faults first.side.log.disk in
     let after = d.faults last.side.log.disk in
-    let cache : Option ℕ = option_map (λ n. n.value) c.args.pace.cache in
+    let cache = option_map (λ n. n.value) c.args.pace.cache in
     served_weaker cache may (λ l. l ≡ loaded) (Loads told) (HoldsAs may (state_at last.side)) (Leaves may told (d.images c.close-disk.result.0)) (RoseBy before after) (RoseBy (d.faults c.args.disk) (d.faults c.close-disk.result.0))
     (loads told loaded c.in-Ok.ensures.begins.means)
     (leaves may told (d.content c.close-disk.result.0) (d.images c.close-disk.result.0) (state_at last.side)
     (ap (λ (pair : _ × _). is_some (d.content pair.0)) c.close-disk.ensures.parts ∙ (c.serve_all-status.ensures.told ∙ c.in-Ok.ensures.disk.told)) c.close-disk.ensures.holds)
     (λ n. rose_within before after (d.faults c.args.disk) (d.faults c.close-disk.result.0) n c.in-Ok.ensures.disk.later (omega (arith, ap (λ (pair : _ × _). d.faults pair.0) c.close-disk.ensures.parts)))
     c.serve_all-status.result ⊥ _ _ _ _ _ (λ e. absurd e)
-    (subst (λ (m : ℕ → Bool). PrintsServed cache c.serve_all-status.result m (λ l. l ≡ loaded) (HoldsAs m (state_at last.side)) (RoseBy before after) ⊥ (g.S.Source.left c.args.source.now) (g.S.Source.left c.serve_all-status.new.source) (g.K.Sink.held c.args.sink.now) (g.K.Sink.held c.serve_all-status.new.sink)) c.in-Ok.ensures.begins.clock (c.serve_all-status.ensures.prints cache (some_value (λ n. n.value) c.args.pace.cache c.requires.some) c.in-Ok.ensures.keeps))
+    (subst (λ (m : ℕ → Bool). PrintsServed cache c.serve_all-status.result m (λ l. l ≡ loaded) (HoldsAs m (state_at last.side)) (RoseBy before after) ⊥ (g.S.Source.left c.args.source.now) (g.S.Source.left c.serve_all-status.new.source) (g.K.Sink.held c.args.sink.now) (g.K.Sink.held c.serve_all-status.new.sink)) c.in-Ok.ensures.begins.clock
+    (c.serve_all-status.ensures.prints cache (above_none c.args.pace.cache) c.in-Ok.ensures.keeps))
 
 pub returns-in-Ok-clause-kept : goal.returns-in-Ok-clause-kept
 returns-in-Ok-clause-kept g c =

@@ -1,0 +1,18 @@
+use Rattle.std.proofs.Common.{◌++◌, codes, decimal}
+use Rattle.std.proofs.KnownBytes.{Appends-trans}
+use Rattle.gd_outside.proofs.Fronts.{at_err, front_first, front_second}
+use Rattle.gd_top.proofs.printing.print_hits.Goals as goal
+
+pub returns-in_err-print_number-clause-front : goal.returns-in_err-print_number-clause-front
+returns-in_err-print_number-clause-front g c =
+    at_err c.from_residual.result (front_first (g.K.Sink.held c.args.sink.now) (g.K.Sink.held c.print_number.new.sink) (codes "{\"cache\":{\"hits\":" ++ decimal c.args.hits) (codes ",\"reads\":" ++ decimal c.args.reads) c.in_err-print_number.ensures.front)
+
+pub returns-in_err-print_number-2-clause-front : goal.returns-in_err-print_number-2-clause-front
+returns-in_err-print_number-2-clause-front g c =
+    at_err c.from_residual-in_err-print_number-2.result (front_second (g.K.Sink.held c.args.sink.now) (g.K.Sink.held c.print_number.new.sink) (g.K.Sink.held c.print_number-2.new.sink)
+    (codes "{\"cache\":{\"hits\":" ++ decimal c.args.hits) (codes ",\"reads\":" ++ decimal c.args.reads) c.in_ok-print_number.ensures.all c.in_err-print_number-2.ensures.front)
+
+pub returns-clause-all : goal.returns-clause-all
+returns-clause-all g c =
+    Appends-trans (g.K.Sink.held c.args.sink.now) (g.K.Sink.held c.print_number.new.sink) (g.K.Sink.held c.print_number-2.new.sink)
+    (codes "{\"cache\":{\"hits\":" ++ decimal c.args.hits) (codes ",\"reads\":" ++ decimal c.args.reads) c.in_ok-print_number.ensures.all c.in_ok-print_number-2.ensures.all
