@@ -78,6 +78,9 @@ CRATES = [
      ["Request", "Input", "Legal", "Explained/Lines", "Explained/Outcomes", "Explained/Runs", "Explained/Rounds", "Explained",
       "RootSets", "Work", "Owed", "Scanned", "Shape/Answers", "Shape/Ids", "Shape", "Thawed", "Fitting",
       "Core", "Replay", "Pace", "Side"], True),
+    ("gd_cache", "Replies that a session keeps: the key of each, whether it is right, and which reads find theirs.",
+     ["Asked", "Line", "Right", "Hits", "Shown"], None),
+    ("gd_lookup", "What all sessions of a run keep, and what it counts.", ["Keeping", "Calls", "Laws"], None),
     ("gd_input", "What was taken of an input, and which of its rounds that is.", ["Taken"], False),
     ("gd_paging_laws", "Pages of a query that were read one after another.", ["Told", "Paged", "Explained"], False),
     ("gd_shared", "Published copies: what contracts see of a publisher and of seats.", ["Shared"], False),
@@ -86,7 +89,7 @@ CRATES = [
     ("gd_writer", "What a disk tells.", ["Parts"], None),
     ("gd_sessions", "What stands for a state of the core.", ["Running"], None),
     ("gd_core_laws", "Lines that are served through the core, one after another on one thread, and rounds of them on threads.", ["Serve", "Round", "Threads"], False),
-    ("gd_round_lines", "Lines of a round: from where on a history has none, and their replies.", ["Fresh", "Replies"], False),
+    ("gd_round_lines", "Lines of a round: from where on a history has none, their replies, and what they are once read.", ["Fresh", "Replies", "Works"], False),
     ("gd_caller", "What a round prints, and what its writes leave of the count of faults.", ["Served", "Writes"], False),
     ("gd_threads", "What contracts see of a run that is served on threads, and what a round comes to.", ["Served", "Rounds"], False),
     ("gd_round_laws", "Whole rounds, one after another.", ["Rounds"], False),
@@ -102,7 +105,7 @@ CRATES = [
     ("gd_patterns", "Lines of templates, answered over one list.", ["Patterns"], False),
     ("gd_outside", "A sink that fails on the way.", ["Gains"], False),
     ("gd_gen", "Generated requests: the lines of a number and a count, and the line to which an output comes.", ["Draws", "Lines", "Replies", "Summary"], False),
-    ("gd_top", "The top call: which words it takes, what it finds in a file and leaves there, what it prints for its input, and how it ends.", ["Words", "Ends", "Held", "Kept", "Serves", "Replays", "Dumps", "Restores", "Follows", "Answers", "Generates"], False),
+    ("gd_top", "The top call: which words it takes, what it finds in a file and leaves there, what it prints for its input, and how it ends.", ["Words", "Ends", "Held", "Kept", "Serves", "Counted", "Replays", "Dumps", "Restores", "Follows", "Answers", "Generates"], False),
 ]
 
 # comments that lean on the definition above them, said in full
@@ -111,6 +114,10 @@ SENTENCES = {
         "variant": "the place of the kind of a datum in the order of kinds: truth values, numbers, moments, texts, objects, nothing",
         "precision_index": "the place of a precision in their order: year, month, day, time",
         "contents_cmp": "the order of two data of one kind: texts by their bytes, moments by their number and then by precision",
+    },
+    "gd_cache/Right": {
+        "IsPlainCursor": "a cursor, where there is one, has no comma as it prints",
+        "IsPlainKept": "the cursor of what is kept, where there is one, has no comma as it prints",
     },
     "gd_prim/Builtin": {
         "object": "an object: a primitive without typ",
