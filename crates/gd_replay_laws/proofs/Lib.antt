@@ -4,3 +4,5 @@ pub mod Whole
 pub mod Bounds
 pub mod Plain
 pub mod Faults
+pub mod Words
+pub mod Paced

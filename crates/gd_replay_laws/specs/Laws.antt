@@ -6,7 +6,9 @@ use Rattle.gd_defs.specs.Write.{WriteRequest}
 use Rattle.gd_runs.specs.Explained.{Numbered, lines_of, tells_fault}
 use Rattle.gd_runs.specs.Core.{Event, write, State, opened}
 use Rattle.gd_runs.specs.Replay.{event_from, Replays}
+use Rattle.gd_runs.specs.Pace.{DueOf, Left, PacedReplays}
 use Rattle.gd_replay_laws.specs.Runs.{BuiltLine, BuiltReplies, IsBounded, AreBelow, AreBuilt}
+use Rattle.gd_replay_laws.specs.Paced.{PacedRun}
 use Rattle.gd_replay_laws.specs.Faults.{faults_from}
 
 -- A run of lines and a run of the lines behind them are a run.
@@ -22,6 +24,16 @@ LinesStayBelow = (told : Bool) (members : MembersOf) (may : ℕ → Bool) (s t :
 abbrev pub BuiltRunsAreReplays : Type 0
 BuiltRunsAreReplays = (told : Bool) (members : MembersOf) (may : ℕ → Bool) (loaded : List Batch) (input output : List ℕ) (t : State) → AreBuilt told (lines_of input) → BuiltReplies told members may (opened loaded) 0 (lines_of input) output t
     → Replays members may loaded input output t
+
+-- A paced run of lines and one of the lines behind them are a paced run.
+abbrev pub PacedRunsFollow : Type 0
+PacedRunsFollow = (told : Bool) (members : MembersOf) (d : DueOf) (may : ℕ → Bool) (s mid t : State) (a b z : Left) (k : ℕ) (before behind : List Numbered) (output rest : List ℕ) → PacedRun told members d may s a k before output mid b
+    → PacedRun told members d may mid b (k + length before) behind rest t z → PacedRun told members d may s a k (before ++ behind) (output ++ rest) t z
+
+-- Where no line freezes, nor thaws one query, and the file is told or no line opens again, a paced run as far as events are built is one of the definitions: no reading is unfinished too often.
+abbrev pub PacedRunsAreReplays : Type 0
+PacedRunsAreReplays = (told : Bool) (members : MembersOf) (d : DueOf) (may : ℕ → Bool) (loaded : List Batch) (input output : List ℕ) (t : State) (z : Left) → AreBuilt told (lines_of input)
+    → PacedRun told members d may (opened loaded) (λ i. 0) 0 (lines_of input) output t z → PacedReplays members d may loaded input output t
 
 -- The session of an event that bytes spell is one of 64, and its budget one that there may be.
 abbrev pub EventsAreBounded : Type 0

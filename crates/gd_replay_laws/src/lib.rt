@@ -4,6 +4,7 @@
 #![tactic(auto)]
 
 ghost use Rattle.gd_replay_laws.specs.Laws.{LinesStayBelow, RunsFollow, BuiltRunsAreReplays};
+ghost use Rattle.gd_replay_laws.specs.Laws.{PacedRunsFollow, PacedRunsAreReplays};
 ghost use Rattle.gd_replay_laws.specs.Laws.{EventsAreBounded, OnlyWritesTellFaults, FaultsAddUp};
 
 /// A run of lines and a run of the lines behind them are a run.
@@ -20,6 +21,17 @@ pub fn lines_stay_below()
 /// built prints what the definitions say.
 pub fn built_runs_are_replays()
     ensures { BuiltRunsAreReplays }
+{}
+
+/// A paced run of lines and one of the lines behind them are a paced run.
+pub fn paced_runs_follow()
+    ensures { PacedRunsFollow }
+{}
+
+/// Where no line freezes, nor thaws one query, and the file is told or no line opens again, a paced
+/// run is one of the definitions: no reading is unfinished too often.
+pub fn paced_runs_are_replays()
+    ensures { PacedRunsAreReplays }
 {}
 
 /// The session of an event is one of 64, and the budget of a slice one that there may be.
