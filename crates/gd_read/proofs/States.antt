@@ -1,13 +1,16 @@
 -- What a session holds of its reading: over the front that is shown, and over more batches.
-use Rattle.std.proofs.Common.{◌≡◌, ◌≢◌, ℕ, ◌+◌, ◌≤◌, List, ◌++◌, map, take, length, Option, Some, None, Ok, Err, refl, sym, ap, subst, ◌∙◌, arith}
+use Rattle.std.proofs.Common.{◌≡◌, ◌≢◌, ℕ, ◌+◌, ◌≤◌, List, ◌++◌, map, take, length, sum_by, Option, Some, None, Ok, Err, refl, sym, ap, subst, ◌∙◌, arith}
 use Rattle.std.proofs.lemmas.List.{length-take-le, take-take, take-append-le}
 use Rattle.gd_prim.specs.declared.Batch.{Batch}
+use Rattle.gd_prim.specs.declared.Primitive.{Primitive}
+use Rattle.gd_defs.specs.Asked.{asked_query}
 use Rattle.gd_runs.specs.Core as core
-use Rattle.gd_runs.specs.Request.{ReadSet}
+use Rattle.gd_runs.specs.Pace.{DueOf, first_number, query_left}
+use Rattle.gd_runs.specs.Request.{ReadRequest, ReadSet}
 use Rattle.gd_read.specs.Begun.{fault_at, HasOffset}
 use Rattle.gd_read.specs.Left.{reading_left}
 use Rattle.gd_read.specs.Reading.{reading_view, IsGoing, Replies}
-use Rattle.gd_read.specs.Session.{GoesOn, HoldsGoing, left_of, HasBegun, IsRefused}
+use Rattle.gd_read.specs.Session.{GoesOn, HoldsGoing, left_of, session_left, HasBegun, IsRefused}
 use Rattle.gd_read.specs.declared.fault.ReadFault.{ReadFault}
 use Rattle.gd_read.specs.declared.fault.ReadFault.TheVariants as read_fault
 use Rattle.gd_mql.specs.Requests.{read_view}
@@ -18,7 +21,7 @@ use Rattle.gd_read.specs.declared.reading.Reading.TheVariants as reading
 use Rattle.gd_read.specs.declared.reading.Progress.{Progress}
 use Rattle.gd_read.specs.declared.reading.Progress.TheVariants.{Reply, Unfinished}
 use Rattle.gd_read.specs.declared.session.SessionState.{SessionState}
-use Rattle.gd_read.proofs.Fronts.{front_query, front_queries, front_reading}
+use Rattle.gd_read.proofs.Fronts.{front_prims, front_query, front_queries, front_reading}
 
 -- ---- what begins
 
@@ -57,7 +60,34 @@ goes_front bs front shown r is long below going =
     let within : (reading_view r).dateline ≤ shown = omega (arith, below, few) in
     (within, subst (λ (f : List Batch). IsGoing f r) (ap (take (reading_view r).dateline) is ∙ take-take (reading_view r).dateline shown bs within) going)
 
+-- the first number of a reading over the front that is shown
+first_front : (bs : List Batch) (shown : ℕ) (due : DueOf) (r : Reading) → (reading_view r).dateline ≤ shown → first_number due (take shown bs) (reading_view r) ≡ first_number due bs (reading_view r)
+first_front bs shown due (reading.One r) below =
+    ap (λ (ps : List Primitive). query_left ps (mark_of r.subject.after) (asked_query ps (read_view r.subject.request).query)) (front_prims bs shown r.subject.dateline below)
+first_front bs shown due (reading.Several r) below =
+    ap (λ (ps : List Primitive). sum_by (λ (q : ReadRequest). query_left ps None (asked_query ps q.query)) (map part_request r.parts.items)) (front_prims bs shown r.dateline below)
+
+-- no more is left of it
+pub first_over : (n : ℕ) (bs front : List Batch) (shown : ℕ) (due : DueOf) (r : Reading) → front ≡ take shown bs → shown ≤ length bs → (reading_view r).dateline ≤ length front
+    → reading_left n (take (reading_view r).dateline front) r ≤ first_number due front (reading_view r) → left_of n bs r ≤ first_number due bs (reading_view r)
+first_over n bs front shown due r is long below first =
+    let few = few_of bs front shown is long in
+    let within : (reading_view r).dateline ≤ shown = omega (arith, below, few) in
+    by _ _ _ _ (ap (λ (f : List Batch). reading_left n f r) (ap (take (reading_view r).dateline) is ∙ take-take (reading_view r).dateline shown bs within))
+    (ap (λ (f : List Batch). first_number due f (reading_view r)) is ∙ first_front bs shown due r within) first
+  where
+    by : (a b c d : ℕ) → a ≡ b → c ≡ d → a ≤ c → b ≤ d
+    by a b c d one two few = omega (arith, one, two, few)
+
 -- ---- what goes on
+
+-- as much is left over more batches
+pub left_more : (n : ℕ) (bs more : List Batch) (shown : ℕ) (state : SessionState) → shown ≤ length bs → HoldsGoing bs shown state → session_left n (bs ++ more) state ≡ session_left n bs state
+left_more n bs more shown state long holds = by state.reading refl
+  where
+    by : (r : Option Reading) → state.reading ≡ r → session_left n (bs ++ more) state ≡ session_left n bs state
+    by None is = rw is refl
+    by (Some r) is = let goes = rw is at holds in rw is (ap (λ (f : List Batch). reading_left n f r) (take-append-le (reading_view r).dateline bs more (omega (arith, goes.0, long))))
 
 -- over more batches, of which no fewer are shown
 pub goes_more : (bs more : List Batch) (shown most : ℕ) (r : Reading) → shown ≤ length bs → shown ≤ most → GoesOn bs shown r → GoesOn (bs ++ more) most r

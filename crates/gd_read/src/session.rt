@@ -1,8 +1,9 @@
 //! What a session holds of its reading, without a seat.
 ghost use Rattle.std.specs.Prelude.{◌≡◌, ◌≢◌, ◌+◌, ◌-◌, ◌<◌, ◌≤◌, ◌^◌, ℕ, true, None, Some, length};
-ghost use Rattle.std.specs.Prelude.{min, option_map, IfOk, IfErr};
+ghost use Rattle.std.specs.Prelude.{min, option_map, IfOk, IfErr, IfSome};
 ghost use Rattle.gd_mql.specs.Requests.{read_set_view};
 ghost use Rattle.gd_runs.specs.Core as core;
+ghost use Rattle.gd_runs.specs.Pace.{DueOf, first_number};
 ghost use Rattle.gd_read.specs.Left.{IsPastIds};
 ghost use Rattle.gd_read.specs.Reading.{reading_view, Replies, is_unfinished};
 ghost use Rattle.gd_read.specs.Session.{reads, GoesOn, HoldsGoing, left_of, session_left, BeginsAs};
@@ -101,6 +102,10 @@ impl SessionState {
 
         // The reading goes on over the batches below its dateline, which is shown.
         ensures going { IfOk result (λ state. HoldsGoing store.now shown state) }
+
+        // No more is left of it than the first number of the definitions.
+        ensures first { IfOk result (λ state. (n : ℕ) (due : DueOf) → IfSome (reads state)
+            (λ r. session_left n store.now state ≤ first_number due store.now r)) }
         ensures later { steps.old ≤ steps.new }
     {
         let view = store.view(shown);

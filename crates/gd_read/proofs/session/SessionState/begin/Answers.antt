@@ -1,5 +1,5 @@
 use Rattle.gd_mql.specs.Requests.{read_set_view}
-use Rattle.gd_read.proofs.States.{has_begun, is_refused, goes_front}
+use Rattle.gd_read.proofs.States.{has_begun, is_refused, goes_front, first_over}
 use Rattle.gd_read.proofs.session.SessionState.begin.Goals as goal
 
 pub returns-in-Ok-clause-begins : goal.returns-in-Ok-clause-begins
@@ -8,6 +8,9 @@ returns-in-Ok-clause-begins g c =
 
 pub returns-in-Ok-clause-going : goal.returns-in-Ok-clause-going
 returns-in-Ok-clause-going g c = goes_front c.args.store.now c.view-view.result c.args.shown c.in-Ok.reading c.view-view.ensures c.requires.shown c.in-Ok.ensures.below c.in-Ok.ensures.going
+
+pub returns-in-Ok-clause-first : goal.returns-in-Ok-clause-first
+returns-in-Ok-clause-first g c = λ n due. first_over n c.args.store.now c.view-view.result c.args.shown due c.in-Ok.reading c.view-view.ensures c.requires.shown c.in-Ok.ensures.below (c.in-Ok.ensures.first n due)
 
 pub returns-in-Err-clause-begins : goal.returns-in-Err-clause-begins
 returns-in-Err-clause-begins g c =
