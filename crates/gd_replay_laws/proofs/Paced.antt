@@ -1,5 +1,6 @@
 -- Events keep the pace of what the readings have left.
 use Rattle.std.proofs.Common.{◌≡◌, ◌≢◌, ℕ, ◌+◌, ◌-◌, ◌≤◌, ◌==◌, List, [], ◌∷◌, length, codes, bytes_eq, Bool, true, false, if◌then◌else◌, Option, Some, None, Result, Ok, Err, ◌⊎◌, inl, inr, ⊎_elim, refl, sym, ap, subst, ◌∙◌, arith}
+use Rattle.std.specs.Prelude.{IfSome}
 use Rattle.std.specs.Bool.{MatchBool}
 use Rattle.std.proofs.lemmas.Bool.{eqb-true}
 use Rattle.gd_tree.specs.Json.{text, list, object, no_items, no_members, member}
@@ -118,7 +119,7 @@ within_one now next a i n within first others = λ j. by j (j == i) refl
     by j true is = subst (λ (m : ℕ). next m ≤ n) (sym (eqb-true j i is)) first
     by j false is = within_then (next j) (now j) (a j) (others j is) (within j)
 
-within_all : (now next : Left) (i : ℕ) → next i ≤ now i → ((j : ℕ) → (j == i) ≡ false → next j ≤ now j) → AreWithin next now
+pub within_all : (now next : Left) (i : ℕ) → next i ≤ now i → ((j : ℕ) → (j == i) ≡ false → next j ≤ now j) → AreWithin next now
 within_all now next i first others = λ j. by j (j == i) refl
   where
     by : (j : ℕ) (b : Bool) → (j == i) ≡ b → next j ≤ now j
@@ -129,11 +130,7 @@ within_all now next i first others = λ j. by j (j == i) refl
 
 -- what is left of the reading that a session holds is at most its first number, and nothing where it holds none
 abbrev pub IsFirst : DueOf → State → ℕ → ℕ → Type 0
-IsFirst d t i left = by (t.sessions i).reading
-  where
-    by : Option Reading → Type 0
-    by None = left ≡ 0
-    by (Some x) = left ≤ first_number d (batches t.history) x
+IsFirst d t i left = IfSome (t.sessions i).reading (λ x. left ≤ first_number d (batches t.history) x) × ((t.sessions i).reading ≡ None → left ≡ 0)
 
 module _ (members : MembersOf) (d : DueOf) (s : State) (k i : ℕ) (q : ReadSet) (line : List ℕ) (t : State) (now next : Left) (step : BeginStep s k i q line t) (first : IsFirst d t i (next i)) (others : (j : ℕ) → (j == i) ≡ false → next j ≤ now j) where
   -- a reading that is held is told
@@ -166,11 +163,11 @@ module _ (members : MembersOf) (d : DueOf) (s : State) (k i : ℕ) (q : ReadSet)
 
       by : (o : Option Reading) → (t.sessions i).reading ≡ o → (a : Left) → AreWithin now a → (b : Left) × (b ≡ count a) × AreWithin next b
       by None is a within =
-          let none = rw is at first in
+          let none = first.1 is in
           let same : count a ≡ a = ap (λ (o : Option Reading). if says_of o k (codes "begun") line then renewed d t i a else a) is in
           (a, sym same, within_more now next a (within_all now next i (omega (arith, none)) others) within)
       by (Some x) is a within =
-          let most = rw is at first in
+          let most = subst (λ (o : Option Reading). IfSome o (λ y. next i ≤ first_number d (batches t.history) y)) is first.0 in
           let said_so = begun_says x is in
           let same : count a ≡ with_left a i (first_number d (batches t.history) x) = ap (λ (b : Bool). if b then renewed d t i a else a) (ap (λ (o : Option Reading). says_of o k (codes "begun") line) is ∙ said_so) ∙ rw is refl in
           (with_left a i (first_number d (batches t.history) x), sym same, within_one now next a i (first_number d (batches t.history) x) within most others)
