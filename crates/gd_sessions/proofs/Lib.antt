@@ -10,3 +10,4 @@ pub mod One
 pub mod Goes
 pub mod Opened
 pub mod Left
+pub mod Paced

@@ -127,7 +127,7 @@ module _ {D C : Type 0} (side : SideValue D C) (hs : List Held) (i : ℕ) (befor
       subst (λ (t : State). WriteStep may old_state k bytes i w (kept_reply k kept) t) (told_state new hs i before after kept lt (mapped_at session_view hs i before new_session lt is) told)
       (kept_writes_are_steps may old_state k bytes i w kept (state_of new (sessions_of hs)) (step (sessions_of hs)))
 
-  told_held : (kept : Kept) (shown : ℕ) → IsToldKept kept shown before after → after.state ≡ before.state
+  pub told_held : (kept : Kept) (shown : ℕ) → IsToldKept kept shown before after → after.state ≡ before.state
   told_held (kept_stored e r) shown told = ap (λ (h : Held). h.state) told
   told_held (kept_late e) shown told = ap (λ (h : Held). h.state) told
   told_held (kept_refused f n) shown told = ap (λ (h : Held). h.state) told

@@ -28,7 +28,7 @@ mapped_set f (y ∷ ys) (suc i) x d lt = mapped_set f ys i x d (omega arith)
 
 -- ---- one session anew
 
-not_same : (i j : ℕ) → (j == i) ≡ false → j ≡ i → ⊥
+pub not_same : (i j : ℕ) → (j == i) ≡ false → j ≡ i → ⊥
 not_same i j is same = let bad : (i == i) ≡ false = subst (λ (k : ℕ). (k == i) ≡ false) same is in absurd (grind (arith, bad))
 
 pub sessions_set : (hs : List Held) (i : ℕ) (h : Held) → i < length hs → sessions_of (set hs i h) ≡ (λ j. if j == i then session_view h else sessions_of hs j)

@@ -25,6 +25,11 @@ pub made_refuses : (R P : List ℕ → Type 0) (k : ℕ) (made : Result (Vec ℕ
 made_refuses R P k (Ok bytes) reply more none is told = subst P (sym is) (more bytes.items told)
 made_refuses R P k (Err e) reply more none is told = subst P (sym is) none
 
+-- where something is given
+pub made_paced : (G : Type 0) (P : List ℕ → Type 0) (k : ℕ) (made : Result (Vec ℕ) Memory) (reply : List ℕ) → P (memory_line k) → reply ≡ made_text k made → IfOk made (λ bytes. G → P bytes.items) → G → P reply
+made_paced G P k (Ok bytes) reply none is told = λ given. subst P (sym is) (told given)
+made_paced G P k (Err e) reply none is told = λ given. subst P (sym is) none
+
 -- ---- freezing and thawing
 
 pub frozen_takes : (told : Bool) (members : MembersOf) (may : ℕ → Bool) (s : State) (k bytes i : ℕ) (r : Option core.Reading) → r ≡ (s.sessions i).reading → (line : List ℕ) → IsUnfrozen r k line → Takes told members may s k bytes (core.freeze i) line s

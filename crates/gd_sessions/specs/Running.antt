@@ -3,7 +3,10 @@ use Rattle.std.specs.Prelude.{◌≡◌, ◌≢◌, ℕ, ◌+◌, ◌-◌, ◌^�
 use Rattle.std.specs.List.{AllByRecursion}
 use Rattle.gd_base.specs.declared.memory.Memory.{Memory}
 use Rattle.gd_runs.specs.Legal.{Entry, History, batches}
+use Rattle.gd_runs.specs.Owed.{MembersOf}
 use Rattle.gd_runs.specs.Core.{State, Event, begin, slice, write, learn, freeze, thaw, reopen}
+use Rattle.gd_runs.specs.Pace.{DueOf, Left}
+use Rattle.gd_replay_laws.specs.Paced.{Paces}
 use Rattle.gd_bytes.specs.File.{MayStandFor}
 use Rattle.gd_runs.specs.Side.{IsFresh, doubt_groups}
 use Rattle.gd_reply.specs.Replies.{reply_text}
@@ -63,3 +66,13 @@ pub record IsSliced {D C : Type 0} (i budget : ℕ) (old new : RunningValue D C)
 abbrev pub SlicesBy : {D C : Type 0} → Event → RunningValue D C → RunningValue D C → ℕ → ℕ → Type 0
 SlicesBy (slice i budget) old new steps steps_now = IsSliced i budget old new steps steps_now
 SlicesBy _ old new steps steps_now = Unit {0}
+
+-- ---- the pace
+
+-- how much the readings of the sessions have left, at most, told with the first number that no id reaches
+abbrev pub left_now : {D C : Type 0} → RunningValue D C → Left
+left_now r i = left_at (2 ^ 32) (batches r.side.history) r.held i
+
+-- an event of line k that printed this reply keeps the pace of what the readings have left
+abbrev pub KeepsPace : {D C : Type 0} → ℕ → Event → List ℕ → (old new : RunningValue D C) → Type 0
+KeepsPace k e reply old new = (members : MembersOf) (d : DueOf) → Paces members d (core_state old) k e reply (core_state new) (left_now old) (left_now new)

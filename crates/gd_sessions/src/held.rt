@@ -3,6 +3,7 @@ ghost use Rattle.std.specs.Prelude.{◌≡◌, ◌≢◌, ◌+◌, ◌-◌, ◌<
 ghost use Rattle.std.specs.Prelude.{None, IfOk, IfSome, OnErr};
 ghost use Rattle.gd_mql.specs.Requests.{read_set_view};
 ghost use Rattle.gd_runs.specs.Core as core;
+ghost use Rattle.gd_runs.specs.Pace.{DueOf, first_number};
 ghost use Rattle.gd_replay_laws.specs.Built.{IsUnfrozen};
 ghost use Rattle.gd_read.specs.Left.{IsPastIds};
 ghost use Rattle.gd_read.specs.Session.{reads, session_left};
@@ -76,6 +77,10 @@ impl Held {
             reply.items (session_view self.new)) }
         ensures err { OnErr result (self.new ≡ self.old) }
         ensures held { IsGoingOn store.now shown self.old → IsGoingOn store.now shown self.new }
+
+        // No more is left of a reading that has begun than its first number.
+        ensures first { IfOk result (λ _. (n : ℕ) (due : DueOf) → IfSome (reads self.new.state)
+            (λ r. session_left n store.now self.new.state ≤ first_number due store.now r)) }
         ensures later { steps.old ≤ steps.new }
     {
         match SessionState::begin(alloc, store, shown, request, steps) {

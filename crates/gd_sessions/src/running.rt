@@ -20,9 +20,10 @@ ghost use Rattle.gd_writer.specs.Opened.{Opens};
 ghost use Rattle.gd_sessions.specs.Opened.{IsNew};
 ghost use Rattle.gd_replay_laws.specs.Built.{Takes, ReopenBuilt};
 ghost use Rattle.gd_replay_laws.specs.Faults.{IsCounted};
+ghost use Rattle.gd_replay_laws.specs.Paced.{AreWithin};
 ghost use Rattle.gd_sessions.specs.Held.{session_view, sessions_of};
 ghost use Rattle.gd_sessions.specs.Running.{core_state, StandsForState, Answers, MayTake, GoesBy};
-ghost use Rattle.gd_sessions.specs.Running.{IsSliced, SlicesBy};
+ghost use Rattle.gd_sessions.specs.Running.{IsSliced, SlicesBy, left_now, KeepsPace};
 
 use crate::held::Held;
 use crate::lines::{said, unthawed_line};
@@ -117,6 +118,7 @@ impl<D: Disk, C: Clock> Running<D, C> {
     ) -> Result<Running<D, C>, (JournalFault, D, C)>
         ensures opened { IfOk result (λ running. core_state running
             ≡ core.opened running.side.history.loaded) }
+        ensures left { IfOk result (λ running. AreWithin (left_now running) (λ i. 0)) }
         ensures begins { IfOk result (λ running. Begins (D.content disk) (C.may clock) C.may
             running.side) }
         ensures clock { IfErr result (λ refused. refused.2 ≡ clock) }
@@ -147,6 +149,7 @@ impl<D: Disk, C: Clock> Running<D, C> {
         requires new { AllByRecursion IsNew held.items }
         ensures opened { IfOk result (λ running. core_state running
             ≡ core.opened running.side.history.loaded) }
+        ensures left { IfOk result (λ running. AreWithin (left_now running) (λ i. 0)) }
         ensures begins { IfOk result (λ running. Begins (D.content disk) (C.may clock) C.may
             running.side) }
         ensures held { IfOk result (λ running. running.held ≡ held.items) }
@@ -187,6 +190,7 @@ impl<D: Disk, C: Clock> Running<D, C> {
         ensures anew { IfOk result (λ both.
             (core_state both.0 ≡ core.opened both.0.side.history.loaded)
             ⊎ (core_state both.0 ≡ core_state self)) }
+        ensures left { IfOk result (λ both. AreWithin (left_now both.0) (left_now self)) }
         ensures cause { IfErr result (λ refused. refused.0 ≡ JournalFault.DiskFault
             → Rose (D.faults self.side.log.disk) (D.faults refused.1)) }
         ensures refused { IfErr result (λ refused. ForSome (D.content self.side.log.disk)
@@ -222,6 +226,7 @@ impl<D: Disk, C: Clock> Running<D, C> {
         ensures clock { IfOk result (λ both. C.may both.0.side.clock ≡ C.may self.side.clock) }
         ensures anew { IfOk result (λ both. core_state both.0
             ≡ core.opened both.0.side.history.loaded) }
+        ensures left { IfOk result (λ both. AreWithin (left_now both.0) (left_now self)) }
         ensures cause { IfErr result (λ refused. refused.0 ≡ JournalFault.DiskFault
             → Rose (D.faults self.side.log.disk) (D.faults refused.1)) }
         ensures refused { IfErr result (λ refused. ForSome (D.content self.side.log.disk)
@@ -271,6 +276,9 @@ impl<D: Disk, C: Clock> Running<D, C> {
             (read_set_view request) reply.items (core_state self.new)) }
         ensures err { OnErr result (core_state self.new ≡ core_state self.old) }
         ensures side { self.new.side ≡ self.old.side }
+        ensures paced { IfOk result (λ reply. KeepsPace line
+            (core.begin sid (read_set_view request)) reply.items self.old self.new) }
+        ensures left { OnErr result (AreWithin (left_now self.new) (left_now self.old)) }
         ensures later { steps.old ≤ steps.new }
     {
         let shown = shown_of(&self.side);
@@ -291,11 +299,15 @@ impl<D: Disk, C: Clock> Running<D, C> {
         requires line { line < 2 ^ 63 }
         requires sid { sid < SESSIONS }
         requires budget { 0 < budget }
+        requires few { budget ≤ 1_000_000 }
         ensures step { IfOk result (λ reply. (members : MembersOf)
             → SliceStep members (core_state self.old) line sid reply.items (core_state self.new)) }
         ensures err { OnErr result ((core_state self.new ≡ core_state self.old)
             ⊎ (core_state self.new ≡ entered (core_state self.old) sid None)) }
         ensures side { self.new.side ≡ self.old.side }
+        ensures paced { IfOk result (λ reply. steps.old ≡ 0
+            → KeepsPace line (core.slice sid budget) reply.items self.old self.new) }
+        ensures left { AreWithin (left_now self.new) (left_now self.old) }
         ensures sliced { IsSliced sid budget self.old self.new steps.old steps.new }
         ensures later { steps.old ≤ steps.new }
     {
@@ -318,6 +330,7 @@ impl<D: Disk, C: Clock> Running<D, C> {
             reply.items (core_state self.new)) }
         ensures err { OnErr result (core_state self.new ≡ core_state self.old) }
         ensures side { self.new.side ≡ self.old.side }
+        ensures left { AreWithin (left_now self.new) (left_now self.old) }
     {
         let shown = shown_of(&self.side);
         let held = &mut self.held[sid as usize];
@@ -342,6 +355,7 @@ impl<D: Disk, C: Clock> Running<D, C> {
             (write_view request.now) (reply_text result) (core_state self.new) }
         ensures counted { IsCounted line (reply_text result) (D.faults self.old.side.log.disk)
             (D.faults self.new.side.log.disk) }
+        ensures left { AreWithin (left_now self.new) (left_now self.old) }
         ensures goes { GoesOn D.content D.moment D.images D.images_since D.faults C.may
             self.old.side self.new.side }
     {
@@ -366,6 +380,8 @@ impl<D: Disk, C: Clock> Running<D, C> {
             → Takes told members may (core_state self.old) line bytes
             (core.begin sid (read_set_view request)) (reply_text result) (core_state self.new) }
         ensures side { self.new.side ≡ self.old.side }
+        ensures paced { KeepsPace line (core.begin sid (read_set_view request))
+            (reply_text result) self.old self.new }
         ensures later { steps.old ≤ steps.new }
     {
         let reply = self.try_begin(alloc, line, sid, request, steps);
@@ -384,10 +400,13 @@ impl<D: Disk, C: Clock> Running<D, C> {
         requires line { line < 2 ^ 63 }
         requires sid { sid < SESSIONS }
         requires budget { 0 < budget }
+        requires few { budget ≤ 1_000_000 }
         ensures takes { (told : Bool) (members : MembersOf) (may : ℕ → Bool) (bytes : ℕ)
             → Takes told members may (core_state self.old) line bytes (core.slice sid budget)
             (reply_text result) (core_state self.new) }
         ensures side { self.new.side ≡ self.old.side }
+        ensures paced { steps.old ≡ 0 → KeepsPace line (core.slice sid budget)
+            (reply_text result) self.old self.new }
         ensures sliced { IsSliced sid budget self.old self.new steps.old steps.new }
         ensures later { steps.old ≤ steps.new }
     {
@@ -403,6 +422,7 @@ impl<D: Disk, C: Clock> Running<D, C> {
             → Takes told members may (core_state self.old) line bytes (core.learn sid dateline)
             (reply_text result) (core_state self.new) }
         ensures side { self.new.side ≡ self.old.side }
+        ensures left { AreWithin (left_now self.new) (left_now self.old) }
     {
         let reply = self.try_learn(alloc, line, sid, dateline);
         Reply::made(line, reply)
@@ -464,6 +484,12 @@ impl<D: Disk, C: Clock> Running<D, C> {
         // A slice leaves a reading only where its budget was reached, and what is left of the
         // reading falls by its steps.
         ensures sliced { SlicesBy (event_view event) self.old self.new steps.old steps.new }
+
+        // Where its steps are counted from 0, the event keeps the pace: a reading that begins has
+        // no more left than its first number, a slice that is unfinished takes its budget off, and
+        // of each other reading is left what was.
+        ensures paced { steps.old ≡ 0
+            → KeepsPace line (event_view event) (reply_text result) self.old self.new }
         ensures later { steps.old ≤ steps.new }
     {
         // It is said here what the write side keeps.

@@ -11,3 +11,9 @@ pub returns-in_ok-reply-in-Err-clause-begins : goal.returns-in_ok-reply-in-Err-c
 returns-in_ok-reply-in-Err-clause-begins g c =
     rw (c.enter-in-Err.ensures, c.none.ensures)
     (tells_refused c.args.store.now c.args.shown c.args.line (read_set_view c.args.request) c.in_ok-reply-in-Err.reply.items c.in-Err.fault c.in-Err.ensures.begins c.in_ok-reply-in-Err.ensures.memory c.in_ok-reply-in-Err.ensures.refused)
+
+pub returns-in_ok-reply-in-Ok-clause-first : goal.returns-in_ok-reply-in-Ok-clause-first
+returns-in_ok-reply-in-Ok-clause-first g c = rw c.enter.ensures c.in-Ok.ensures.first
+
+pub returns-in_ok-reply-in-Err-clause-first : goal.returns-in_ok-reply-in-Err-clause-first
+returns-in_ok-reply-in-Err-clause-first g c = rw (c.enter-in-Err.ensures, c.none.ensures) (λ n due. tt)

@@ -3,6 +3,7 @@ use Rattle.gd_sessions.specs.Running.{RunningValue}
 use Rattle.gd_sessions.specs.Held.{sessions_of}
 use Rattle.gd_sessions.proofs.Left.{lost_stands}
 use Rattle.gd_sessions.proofs.Opened.{reopens_run}
+use Rattle.gd_sessions.proofs.Paced.{new_within}
 use Rattle.gd_sessions.proofs.running.Running.open_again.Goals as goal
 
 pub returns-in-Ok-clause-step : goal.returns-in-Ok-clause-step
@@ -16,3 +17,6 @@ returns-clause-holds g c =
     let d = g.D.Disk in
     lost_stands d.content d.moment d.images d.images_since d.faults g.C.Clock.may c.args.self.side (sessions_of c.args.self.held) c.close-disk.result.0 c.in-Err.refused.1 c.shown-shown.ensures.keeps
     (ap (λ (pair : _ × _). pair.0) c.close-disk.ensures ∙ ap (λ (r : RunningValue _ _). r.side.log.disk) c.self.view_is) c.in-Err.ensures.disk
+
+pub returns-in-Ok-clause-left : goal.returns-in-Ok-clause-left
+returns-in-Ok-clause-left g c = new_within c.args.self c.in-Ok.running c.args.held.items c.in-Ok.ensures.held c.requires.new

@@ -6,6 +6,8 @@ use Rattle.gd_replay_laws.specs.Built.{Takes, ReopenBuilt}
 use Rattle.gd_sessions.specs.Running.{core_state}
 use Rattle.gd_sessions.proofs.Left.{opens_same}
 use Rattle.gd_sessions.proofs.Taken.{answers_more}
+use Rattle.gd_sessions.specs.Running.{left_now}
+use Rattle.gd_sessions.proofs.Paced.{left_stays}
 use Rattle.gd_sessions.proofs.running.Running.reopen.Goals as goal
 
 pub returns-in-Ok-clause-takes : goal.returns-in-Ok-clause-takes
@@ -26,3 +28,6 @@ pub returns-in-Err-clause-disk : goal.returns-in-Err-clause-disk
 returns-in-Err-clause-disk g c =
     let d = g.D.Disk in
     opens_same d.content d.moment d.images d.images_since d.faults g.met.D.Disk.only_now c.args.self.side.log.disk
+
+pub returns-in-Err-clause-left : goal.returns-in-Err-clause-left
+returns-in-Err-clause-left g c = left_stays (left_now c.args.self)

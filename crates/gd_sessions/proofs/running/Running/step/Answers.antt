@@ -1,9 +1,14 @@
-use Rattle.std.proofs.Common.{inl, refl}
+use Rattle.std.proofs.Common.{true, inl, refl}
 use Rattle.gd_events.specs.Events.{event_view}
 use Rattle.gd_reply.specs.Replies.{reply_text}
 use Rattle.gd_sessions.specs.Running.{core_state}
 use Rattle.gd_sessions.proofs.Goes.{goes_same}
 use Rattle.gd_sessions.proofs.Taken.{takes_counted}
+use Rattle.gd_runs.specs.Core as core
+use Rattle.gd_mql.specs.Requests.{read_set_view, write_view}
+use Rattle.gd_sessions.specs.Running.{left_now}
+use Rattle.gd_replay_laws.proofs.Paced.{write_paces, learn_paces, freeze_paces, thaw_paces}
+use Rattle.gd_sessions.proofs.Paced.{left_stays}
 use Rattle.gd_sessions.proofs.running.Running.step.Goals as goal
 
 pub returns-in-Begin-clause-takes : goal.returns-in-Begin-clause-takes
@@ -78,3 +83,31 @@ returns-in-Thaw-clause-goes g c =
 
 pub returns-in-Write-clause-takes : goal.returns-in-Write-clause-takes
 returns-in-Write-clause-takes g c = λ told members. rw c.in-Write.is (inl c.write.ensures.step)
+
+pub returns-in-Begin-clause-paced : goal.returns-in-Begin-clause-paced
+returns-in-Begin-clause-paced g c = λ none. rw c.in-Begin.is c.begin.ensures.paced
+
+pub returns-in-Slice-clause-paced : goal.returns-in-Slice-clause-paced
+returns-in-Slice-clause-paced g c = λ none. rw c.in-Slice.is (c.slice.ensures.paced none)
+
+pub returns-in-Write-clause-paced : goal.returns-in-Write-clause-paced
+returns-in-Write-clause-paced g c = λ none. rw c.in-Write.is
+    (λ members d. write_paces members d (core_state c.args.self.now) c.args.line c.in-Write.sid (write_view c.in-Write.request) (reply_text c.write.result) (core_state c.write.new.self) (left_now c.args.self.now) (left_now c.write.new.self) c.write.ensures.left)
+
+pub returns-in-Learn-clause-paced : goal.returns-in-Learn-clause-paced
+returns-in-Learn-clause-paced g c = λ none. rw c.in-Learn.is
+    (λ members d. learn_paces members d (core_state c.args.self.now) c.args.line c.in-Learn.sid c.in-Learn.dateline (reply_text c.learn.result) (core_state c.learn.new.self) (left_now c.args.self.now) (left_now c.learn.new.self) c.learn.ensures.left)
+
+pub returns-in-Freeze-clause-paced : goal.returns-in-Freeze-clause-paced
+returns-in-Freeze-clause-paced g c =
+    let may = g.C.Clock.may c.args.self.now.side.clock in
+    λ none. rw c.in-Freeze.is
+    (λ members d. freeze_paces true members d may (core_state c.args.self.now) c.args.line c.args.bytes c.in-Freeze.sid (reply_text c.freeze.result) (core_state c.args.self.now) (left_now c.args.self.now) (left_now c.args.self.now)
+    (c.freeze.ensures true members may c.args.bytes) (left_stays (left_now c.args.self.now)))
+
+pub returns-in-Thaw-clause-paced : goal.returns-in-Thaw-clause-paced
+returns-in-Thaw-clause-paced g c =
+    let may = g.C.Clock.may c.args.self.now.side.clock in
+    λ none. rw c.in-Thaw.is
+    (λ members d. thaw_paces true members d may (core_state c.args.self.now) c.args.line c.args.bytes c.in-Thaw.sid (read_set_view c.in-Thaw.request) c.in-Thaw.text (reply_text c.thaw.result) (core_state c.args.self.now) (left_now c.args.self.now) (left_now c.args.self.now)
+    (c.thaw.ensures true members may c.args.bytes c.in-Thaw.sid c.in-Thaw.text) (left_stays (left_now c.args.self.now)))
