@@ -93,7 +93,7 @@ CRATES = [
     ("gd_caller", "What a round prints, and what its writes leave of the count of faults.", ["Served", "Writes"], False),
     ("gd_threads", "What contracts see of a run that is served on threads, and what a round comes to.", ["Served", "Rounds"], False),
     ("gd_round_laws", "Whole rounds, one after another.", ["Rounds"], False),
-    ("gd_replay_laws", "Runs of events, as far as events are built.", ["Built", "Runs", "Faults"], False),
+    ("gd_replay_laws", "Runs of events, as far as events are built.", ["Built", "Runs", "Paced", "Faults"], False),
     ("gd_replay", "What a run of events prints and leaves, and why it stops.", ["Sure", "Replays", "Runs", "Stops", "Kept"], False),
     ("gd_trees", "Words that the clauses of the verbs need.", ["Answers"], None),
     ("gd_dump_laws", "Dumps: the text of a list of batches, and what dumping and restoring come to.", ["Dump", "Dumping", "Restoring"], False),

@@ -16,7 +16,10 @@ use Rattle.gd_runs.specs.Core.{Event, State}
 use Rattle.gd_runs.specs.Replay.{event_from, event_of}
 use Rattle.gd_replay_laws.specs.Built.{StepBuilt, Takes}
 use Rattle.gd_replay_laws.specs.Runs.{BuiltLine, IsBounded, AreBelow}
+use Rattle.gd_runs.specs.Pace.{DueOf, Left}
 use Rattle.gd_replay_laws.specs.Faults.{IsCounted}
+use Rattle.gd_replay_laws.specs.Paced.{AreWithin, Paces, LinePaces}
+use Rattle.gd_replay_laws.proofs.Paced.{reopen_paces, fault_line_paces, memory_line_paces}
 use Rattle.gd_core_laws.proofs.Quiet.{fault_quiet, memory_quiet}
 use Rattle.gd_replay_laws.proofs.Faults.{takes_quiet, quiet_counted}
 use Rattle.gd_reply.specs.Replies.{reply_text, made_text}
@@ -116,3 +119,32 @@ long_told_quiet k line tells = ⊎_elim
     (λ told. ap (tells_fault k) told ∙ fault_quiet k k line_too_long)
     (λ lacks. ap (tells_fault k) lacks ∙ memory_quiet k k)
     tells
+
+-- ---- the pace
+
+-- opening again keeps it
+pub reopened_paced : (told : Bool) (members : MembersOf) (may : ℕ → Bool) (s : State) (k bytes : ℕ) (t : State) (before after : ℕ) (had has : Left) (result : Result Reply Memory) → AreWithin has had
+    → Answers (λ line. Takes told members may s k bytes core.reopen line t × IsCounted k line before after) result
+    → Answers (λ line. Takes told members may s k bytes core.reopen line t × IsCounted k line before after × ((d : DueOf) → Paces members d s k core.reopen line t had has)) result
+reopened_paced told members may s k bytes t before after had has result less =
+    answers_more (λ line. Takes told members may s k bytes core.reopen line t × IsCounted k line before after) (λ line. Takes told members may s k bytes core.reopen line t × IsCounted k line before after × ((d : DueOf) → Paces members d s k core.reopen line t had has)) result
+    (λ line (taken, counted). (taken, counted, λ d. reopen_paces members d s k line t had has less))
+
+-- so does the refusal of what is no event
+pub refuses_paced : (members : MembersOf) (d : DueOf) (s : State) (k : ℕ) (piece : List ℕ) (f : LineFault) (reply : List ℕ) (had has : Left) → (f ≢ fault.Memory → event_from piece ≡ Err (fault_view f)) → AreWithin has had → TellsFault k f reply → LinePaces members d s k piece reply s had has
+refuses_paced members d s k piece f reply had has asked less tells = ⊎_elim
+    (λ told. fault_line_paces members d s k piece reply (fault_view f) s had has (asked told.0) less)
+    (λ lacks. memory_line_paces members d s k piece reply s had has lacks less)
+    tells
+
+pub long_paced : (members : MembersOf) (d : DueOf) (s : State) (k : ℕ) (piece reply : List ℕ) (had has : Left) → max_line < length piece → AreWithin has had → TellsTooLong k reply → LinePaces members d s k piece reply s had has
+long_paced members d s k piece reply had has long less tells = ⊎_elim
+    (λ told. fault_line_paces members d s k piece reply line_too_long s had has (long_is piece long) less)
+    (λ lacks. memory_line_paces members d s k piece reply s had has lacks less)
+    tells
+
+pub stays_within : (a : Left) → AreWithin a a
+stays_within a = λ i. same (a i)
+  where
+    same : (n : ℕ) → n ≤ n
+    same n = omega arith

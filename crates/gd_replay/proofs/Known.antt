@@ -19,6 +19,8 @@ use Rattle.gd_journal.specs.declared.fault.JournalFault.TheVariants as journal
 use Rattle.gd_replay.specs.declared.stop.Stop.{Stop}
 use Rattle.gd_replay.specs.declared.stop.Stop.TheVariants as stop
 use Rattle.gd_replay.specs.Stops.{stop_of, IsCaused, end_faults, RoseWith, IfUnopened, EndsAs, EndsBy, EndsSent}
+use Rattle.gd_runs.specs.Pace.{Left}
+use Rattle.gd_replay_laws.specs.Paced.{AreWithin}
 use Rattle.gd_replay.specs.Replays.{Accounts, Replays, ReplaysTaken, ReplaysFront}
 use Rattle.gd_replay.specs.Runs.{LineLost, PiecePrints, PieceStops, RunUpto}
 use Rattle.gd_replay.proofs.Upto.{upto_start, upto_more, upto_end, upto_taken, upto_front}
@@ -31,9 +33,9 @@ rose_alone a b n rose = omega (arith, rose)
 
 -- ---- the loop
 
-pub start_known : (told : Bool) (members : MembersOf) (may : ℕ → Bool) (loaded : List Batch) (held : Option (List ℕ)) (n : ℕ) (x : Option (List ℕ)) → Known x (prepend_known [] x) (RunUpto told members may loaded held held n n 0 (opened loaded))
-start_known told members may loaded held n None = tt
-start_known told members may loaded held n (Some x) = upto_start told members may loaded held n x
+pub start_known : (told : Bool) (members : MembersOf) (may : ℕ → Bool) (loaded : List Batch) (held : Option (List ℕ)) (n : ℕ) (had : Left) → AreWithin had (λ i. 0) → (x : Option (List ℕ)) → Known x (prepend_known [] x) (RunUpto told members may loaded held held n n 0 (opened loaded) had)
+start_known told members may loaded held n had none None = tt
+start_known told members may loaded held n had none (Some x) = upto_start told members may loaded held n had none x
 
 -- nothing was taken yet
 pub advances_none : (a : Option (List ℕ)) → Advances a (prepend_known [] a) 0 0
@@ -52,35 +54,35 @@ advances_then (Some x) (Some y) (Some z) n m first more =
     joined : (bs cs : List ℕ) → x ≡ bs ++ y → y ≡ cs ++ z → x ≡ (bs ++ cs) ++ z
     joined bs cs p q = p ∙ (ap (λ (l : List ℕ). bs ++ l) q ∙ sym (append_assoc bs cs z))
 
-module _ (told : Bool) (members : MembersOf) (may : ℕ → Bool) (loaded : List Batch) (old mid new : Option (List ℕ)) (a b c : ℕ) (k : ℕ) (s : State) where
+module _ (told : Bool) (members : MembersOf) (may : ℕ → Bool) (loaded : List Batch) (old mid new : Option (List ℕ)) (a b c : ℕ) (k : ℕ) (s : State) (had : Left) where
   -- a piece more
-  pub more_known : (n : ℕ) (t : State) (x y z : Option (List ℕ)) (piece : Piece) → piece.by_newline ≡ true → Known x y (RunUpto told members may loaded old mid a b k s) → Known y z (TakesPiece piece)
-      → ((bytes : List ℕ) → IsKept 262_144 piece.line bytes → PiecePrints told members may s k bytes t n mid new b c) → Known x z (RunUpto told members may loaded old new a c n t)
-  more_known n t None y z piece newline upto takes prints = tt
-  more_known n t (Some x) None z piece newline upto takes prints = absurd upto
-  more_known n t (Some x) (Some y) None piece newline upto takes prints = absurd takes
-  more_known n t (Some x) (Some y) (Some z) piece newline upto takes prints = upto_more told members may loaded old mid new a b c k n s t x y z piece upto takes newline (prints takes.line takes.kept)
+  pub more_known : (n : ℕ) (t : State) (has : Left) (x y z : Option (List ℕ)) (piece : Piece) → piece.by_newline ≡ true → Known x y (RunUpto told members may loaded old mid a b k s had) → Known y z (TakesPiece piece)
+      → ((bytes : List ℕ) → IsKept 262_144 piece.line bytes → PiecePrints told members may s k bytes t n mid new b c had has) → Known x z (RunUpto told members may loaded old new a c n t has)
+  more_known n t has None y z piece newline upto takes prints = tt
+  more_known n t has (Some x) None z piece newline upto takes prints = absurd upto
+  more_known n t has (Some x) (Some y) None piece newline upto takes prints = absurd takes
+  more_known n t has (Some x) (Some y) (Some z) piece newline upto takes prints = upto_more told members may loaded old mid new a b c k n s t had has x y z piece upto takes newline (prints takes.line takes.kept)
 
   -- the last one
-  pub done_known : (leaves : State → Type 0) (n : ℕ) (t : State) (x y z : Option (List ℕ)) (piece : Piece) → piece.by_newline ≡ false → Known x y (RunUpto told members may loaded old mid a b k s) → Known y z (TakesPiece piece)
-      → ((bytes : List ℕ) → IsKept 262_144 piece.line bytes → PiecePrints told members may s k bytes t n mid new b c) → leaves t → IfSome x (Replays told members may (λ l. l ≡ loaded) leaves (RoseWith a c (Ok tt)) old new)
-  done_known leaves n t None y z piece last upto takes prints left = tt
-  done_known leaves n t (Some x) None z piece last upto takes prints left = absurd upto
-  done_known leaves n t (Some x) (Some y) None piece last upto takes prints left = absurd takes
-  done_known leaves n t (Some x) (Some y) (Some z) piece last upto takes prints left = upto_end told members may loaded leaves (RoseWith a c (Ok tt)) a b c (rose_alone a c) old mid new k n s t x y z piece upto takes last (prints takes.line takes.kept) left
+  pub done_known : (leaves : State → Type 0) (n : ℕ) (t : State) (has : Left) (x y z : Option (List ℕ)) (piece : Piece) → piece.by_newline ≡ false → Known x y (RunUpto told members may loaded old mid a b k s had) → Known y z (TakesPiece piece)
+      → ((bytes : List ℕ) → IsKept 262_144 piece.line bytes → PiecePrints told members may s k bytes t n mid new b c had has) → leaves t → IfSome x (Replays told members may (λ l. l ≡ loaded) leaves (RoseWith a c (Ok tt)) old new)
+  done_known leaves n t has None y z piece last upto takes prints left = tt
+  done_known leaves n t has (Some x) None z piece last upto takes prints left = absurd upto
+  done_known leaves n t has (Some x) (Some y) None piece last upto takes prints left = absurd takes
+  done_known leaves n t has (Some x) (Some y) (Some z) piece last upto takes prints left = upto_end told members may loaded leaves (RoseWith a c (Ok tt)) a b c (rose_alone a c) old mid new k n s t had has x y z piece upto takes last (prints takes.line takes.kept) left
 
   -- a line of which nothing was printed
-  lost_some : (leaves : State → Type 0) (why : Stop) (x y : List ℕ) → RunUpto told members may loaded old mid a b k s x y → LineLost s leaves mid new b c (end_faults (Err why)) → ReplaysTaken told members may (λ l. l ≡ loaded) leaves (RoseWith a c (Err why)) old new x
+  lost_some : (leaves : State → Type 0) (why : Stop) (x y : List ℕ) → RunUpto told members may loaded old mid a b k s had x y → LineLost s leaves mid new b c (end_faults (Err why)) → ReplaysTaken told members may (λ l. l ≡ loaded) leaves (RoseWith a c (Err why)) old new x
   lost_some leaves why x y upto lost =
-      upto_taken told members may loaded leaves (RoseWith a c (Err why)) a b (λ n rose. rose_then a b c n (end_faults (Err why)) rose lost.rose) old mid new k s x y upto lost.left lost.kept
+      upto_taken told members may loaded leaves (RoseWith a c (Err why)) a b (λ n rose. rose_then a b c n (end_faults (Err why)) rose lost.rose) old mid new k s had x y upto lost.left lost.kept
 
   -- a piece at which it stops
-  stops_some : (leaves : State → Type 0) (why : Stop) (x y z : List ℕ) (piece : Piece) → RunUpto told members may loaded old mid a b k s x y → (takes : TakesPiece piece y z) → PieceStops told members may s k takes.line leaves why mid new b c
+  stops_some : (leaves : State → Type 0) (why : Stop) (x y z : List ℕ) (piece : Piece) → RunUpto told members may loaded old mid a b k s had x y → (takes : TakesPiece piece y z) → PieceStops told members may s k takes.line leaves why mid new b c had
       → EndsAs (Err why) (Replays told members may (λ l. l ≡ loaded) leaves (RoseWith a c (Err why)) old new x) (ReplaysTaken told members may (λ l. l ≡ loaded) leaves (RoseWith a c (Err why)) old new x) (ReplaysFront told members may (λ l. l ≡ loaded) leaves (RoseWith a c (Err why)) old new x) ⊥
   stops_some leaves stop.ReadFault x y z piece upto takes stops = absurd stops
   stops_some leaves stop.TooMuch x y z piece upto takes stops = absurd stops
   stops_some leaves (stop.Unopened f) x y z piece upto takes stops = stops
-  stops_some leaves stop.SinkFault x y z piece upto takes stops = upto_front told members may loaded leaves (RoseWith a c (Err stop.SinkFault)) a b c (rose_alone a c) old mid new k s x y z piece upto takes stops
+  stops_some leaves stop.SinkFault x y z piece upto takes stops = upto_front told members may loaded leaves (RoseWith a c (Err stop.SinkFault)) a b c (rose_alone a c) old mid new k s had x y z piece upto takes stops
   stops_some leaves stop.Memory x y z piece upto takes stops = lost_some leaves stop.Memory x y upto stops
   stops_some leaves (stop.Lost f) x y z piece upto takes stops = lost_some leaves (stop.Lost f) x y upto stops
 
@@ -92,8 +94,8 @@ module _ (told : Bool) (members : MembersOf) (may : ℕ → Bool) (loaded : List
   stops_none stop.Memory p q whole between within m n caused = m
   stops_none (stop.Lost f) p q whole between within m n caused = m
 
-  pub stops_known : (leaves : State → Type 0) (why : Stop) (p q : Type 0) → IsCaused why p q → (x y z : Option (List ℕ)) (piece : Piece) → Known x y (RunUpto told members may loaded old mid a b k s) → Known y z (TakesPiece piece)
-      → ((bytes : List ℕ) → IsKept 262_144 piece.line bytes → PieceStops told members may s k bytes leaves why mid new b c)
+  pub stops_known : (leaves : State → Type 0) (why : Stop) (p q : Type 0) → IsCaused why p q → (x y z : Option (List ℕ)) (piece : Piece) → Known x y (RunUpto told members may loaded old mid a b k s had) → Known y z (TakesPiece piece)
+      → ((bytes : List ℕ) → IsKept 262_144 piece.line bytes → PieceStops told members may s k bytes leaves why mid new b c had)
       → EndsAs (Err why) (IfSome x (Replays told members may (λ l. l ≡ loaded) leaves (RoseWith a c (Err why)) old new)) (IfSome x (ReplaysTaken told members may (λ l. l ≡ loaded) leaves (RoseWith a c (Err why)) old new))
       (IfSome x (ReplaysFront told members may (λ l. l ≡ loaded) leaves (RoseWith a c (Err why)) old new)) ⊥
   stops_known leaves why p q caused None y z piece upto takes stops = stops_none why p q _ _ _ tt tt caused
@@ -102,20 +104,20 @@ module _ (told : Bool) (members : MembersOf) (may : ℕ → Bool) (loaded : List
   stops_known leaves why p q caused (Some x) (Some y) (Some z) piece upto takes stops = stops_some leaves why x y z piece upto takes (stops takes.line takes.kept)
 
 -- the input could not be read further
-pub input_known : (told : Bool) (members : MembersOf) (may : ℕ → Bool) (loaded : List Batch) (leaves : State → Type 0) (old new : Option (List ℕ)) (a b : ℕ) (k : ℕ) (s : State) (fault : InputFault) (x y : Option (List ℕ)) → Known x y (RunUpto told members may loaded old new a b k s) → leaves s
+pub input_known : (told : Bool) (members : MembersOf) (may : ℕ → Bool) (loaded : List Batch) (leaves : State → Type 0) (old new : Option (List ℕ)) (a b : ℕ) (k : ℕ) (s : State) (had : Left) (fault : InputFault) (x y : Option (List ℕ)) → Known x y (RunUpto told members may loaded old new a b k s had) → leaves s
     → EndsAs (Err (stop_of fault)) (IfSome x (Replays told members may (λ l. l ≡ loaded) leaves (RoseWith a b (Err (stop_of fault))) old new)) (IfSome x (ReplaysTaken told members may (λ l. l ≡ loaded) leaves (RoseWith a b (Err (stop_of fault))) old new))
     (IfSome x (ReplaysFront told members may (λ l. l ≡ loaded) leaves (RoseWith a b (Err (stop_of fault))) old new)) ⊥
-input_known told members may loaded leaves old new a b k s fault None y upto left = by fault
+input_known told members may loaded leaves old new a b k s had fault None y upto left = by fault
   where
     by : (f : InputFault) → EndsAs (Err (stop_of f)) (Unit {0}) (Unit {0}) (Unit {0}) ⊥
     by input.Failed = tt
     by input.TooMuch = tt
     by input.Memory = tt
-input_known told members may loaded leaves old new a b k s fault (Some x) None upto left = absurd upto
-input_known told members may loaded leaves old new a b k s fault (Some x) (Some y) upto left = by fault
+input_known told members may loaded leaves old new a b k s had fault (Some x) None upto left = absurd upto
+input_known told members may loaded leaves old new a b k s had fault (Some x) (Some y) upto left = by fault
   where
     taken : (rises : ℕ → Type 0) → ((n : ℕ) → RoseBy a b n → rises n) → ReplaysTaken told members may (λ l. l ≡ loaded) leaves rises old new x
-    taken rises rose = upto_taken told members may loaded leaves rises a b rose old new new k s x y upto left (Keeps-refl new)
+    taken rises rose = upto_taken told members may loaded leaves rises a b rose old new new k s had x y upto left (Keeps-refl new)
 
     by : (f : InputFault) → EndsAs (Err (stop_of f)) (Replays told members may (λ l. l ≡ loaded) leaves (RoseWith a b (Err (stop_of f))) old new x) (ReplaysTaken told members may (λ l. l ≡ loaded) leaves (RoseWith a b (Err (stop_of f))) old new x)
         (ReplaysFront told members may (λ l. l ≡ loaded) leaves (RoseWith a b (Err (stop_of f))) old new x) ⊥
@@ -195,7 +197,7 @@ wider_ends (Err (stop.Unopened journal.Memory)) r s d wide l more ends = tt
 
 module _ (told : Bool) (members : MembersOf) (may : ℕ → Bool) (loads also : List Batch → Type 0) (more : (l : List Batch) → loads l → also l) (leaves : State → Type 0) (rises wider : ℕ → Type 0) (rose : (n : ℕ) → rises n → wider n) (old mid new : Option (List ℕ)) (kept : Keeps mid new) where
   accounts_on : (given : List Numbered) (output : List ℕ) → Accounts told members may loads leaves rises given output → Accounts told members may also leaves wider given output
-  accounts_on given output has = record { loaded = has.loaded; state = has.state; begun = more has.loaded has.begun; replies = has.replies; left = has.left; counted = rose _ has.counted }
+  accounts_on given output has = record { loaded = has.loaded; state = has.state; begun = more has.loaded has.begun; replies = has.replies; paced = has.paced; left = has.left; counted = rose _ has.counted }
 
   whole_on : (input : List ℕ) → Replays told members may loads leaves rises old mid input → Replays told members may also leaves wider old new input
   whole_on input has = record { output = has.output; accounts = accounts_on (lines_of input) has.output has.accounts; gained = Appends-kept old mid new has.output has.gained kept }

@@ -13,10 +13,12 @@ use Rattle.gd_input.specs.declared.piece.Piece.{Piece}
 use Rattle.gd_input.specs.Pieces.{TakesPiece, later_pieces}
 use Rattle.gd_replay_laws.specs.Runs.{BuiltReplies, PieceRuns, lines_at}
 use Rattle.gd_replay_laws.specs.Faults.{faults_from}
-use Rattle.gd_replay_laws.proofs.Joined.{runs_join}
+use Rattle.gd_runs.specs.Pace.{DueOf, Left}
+use Rattle.gd_replay_laws.specs.Paced.{AreWithin, PacedRun}
+use Rattle.gd_replay_laws.proofs.Joined.{runs_join, paced_join}
 use Rattle.gd_replay_laws.proofs.Faults.{faults_run, rose_none, rose_then}
 use Rattle.gd_replay.specs.Replays.{Accounts, Replays, ReplaysTaken, ReplaysFront}
-use Rattle.gd_replay.specs.Runs.{PiecePrints, PieceFront, RunUpto}
+use Rattle.gd_replay.specs.Runs.{PiecePrints, PieceFront, PiecePaces, RunPaces, RunUpto}
 
 -- ---- the lines of pieces
 
@@ -45,8 +47,8 @@ same_many round (c ∷ cs) = refl
 -- ---- a run
 
 module _ (told : Bool) (members : MembersOf) (may : ℕ → Bool) (loaded : List Batch) where
-  pub upto_start : (held : Option (List ℕ)) (n : ℕ) (input : List ℕ) → RunUpto told members may loaded held held n n 0 (opened loaded) input input
-  upto_start held n input = record { round = 0; in_round = 0; given = []; output = []; lines = refl; replies = (refl, refl); many = refl; gained = Appends-nil held; rose = rose_none n n (omega arith) }
+  pub upto_start : (held : Option (List ℕ)) (n : ℕ) (had : Left) → AreWithin had (λ i. 0) → (input : List ℕ) → RunUpto told members may loaded held held n n 0 (opened loaded) had input input
+  upto_start held n had none input = record { round = 0; in_round = 0; given = []; output = []; lines = refl; replies = (refl, refl); paced = λ d. (λ i. 0, (refl, refl, refl), none); many = refl; gained = Appends-nil held; rose = rose_none n n (omega arith) }
 
   -- the lines up to and with a piece print this
   replies_then : (given : List Numbered) (output rest : List ℕ) (k round : ℕ) (piece : List ℕ) (s t : State) → BuiltReplies told members may (opened loaded) 0 given output s → k ≡ length given → PieceRuns told members may s k piece rest t
@@ -54,6 +56,15 @@ module _ (told : Bool) (members : MembersOf) (may : ℕ → Bool) (loaded : List
   replies_then given output rest k round piece s t replies many runs =
       let at : k ≡ 0 + length given = omega (arith, many) in
       runs_join told members may (opened loaded) s t 0 given (lines_at round piece) output rest replies (subst (λ (n : ℕ). BuiltReplies told members may s n (lines_at round piece) rest t) at (runs round))
+
+  -- within what the readings have left
+  paced_then : (given : List Numbered) (output rest : List ℕ) (k round : ℕ) (piece : List ℕ) (s t : State) (had has : Left) → RunPaces told members may loaded given output s had → k ≡ length given → PiecePaces told members may s k piece rest t had has
+      → RunPaces told members may loaded (given ++ lines_at round piece) (output ++ rest) t has
+  paced_then given output rest k round piece s t had has paced many runs = λ d.
+      let at : k ≡ 0 + length given = omega (arith, many) in
+      let (b, before, within) = paced d in
+      let (z, behind_it, left) = runs d b within in
+      (z, paced_join told members d may (opened loaded) s t (λ i. 0) b z 0 given (lines_at round piece) output rest before (subst (λ (n : ℕ). PacedRun told members d may s b n (lines_at round piece) rest t z) at (behind_it round)), left)
 
   -- and tell so many faults
   rose_piece : (given : List Numbered) (output rest : List ℕ) (k : ℕ) (s : State) (a b c : ℕ) → BuiltReplies told members may (opened loaded) 0 given output s → k ≡ length given → RoseBy a b (faults_told output) → RoseBy b c (faults_from k rest)
@@ -70,9 +81,9 @@ module _ (told : Bool) (members : MembersOf) (may : ℕ → Bool) (loaded : List
       ∙ (ap (λ (ls : List Numbered). given ++ ls) (behind round in_round piece ps).parts ∙ sym (append_assoc given (lines_at round piece) (numbered (behind round in_round piece ps).round_then (behind round in_round piece ps).in_then ps))))
 
   -- a piece more
-  pub upto_more : (old mid new : Option (List ℕ)) (a b c : ℕ) (k n : ℕ) (s t : State) (input left after : List ℕ) (piece : Piece) → RunUpto told members may loaded old mid a b k s input left → (takes : TakesPiece piece left after) → piece.by_newline ≡ true
-      → PiecePrints told members may s k takes.line t n mid new b c → RunUpto told members may loaded old new a c n t input after
-  upto_more old mid new a b c k n s t input left after piece upto takes newline prints =
+  pub upto_more : (old mid new : Option (List ℕ)) (a b c : ℕ) (k n : ℕ) (s t : State) (had has : Left) (input left after : List ℕ) (piece : Piece) → RunUpto told members may loaded old mid a b k s had input left → (takes : TakesPiece piece left after) → piece.by_newline ≡ true
+      → PiecePrints told members may s k takes.line t n mid new b c had has → RunUpto told members may loaded old new a c n t has input after
+  upto_more old mid new a b c k n s t had has input left after piece upto takes newline prints =
       let ps = pieces [] after in
       let first : pieces [] left ≡ takes.line ∷ ps = takes.first ∙ ap (λ (b : Bool). takes.line ∷ later_pieces b after) newline in
       let next = behind upto.round upto.in_round takes.line ps in
@@ -83,6 +94,7 @@ module _ (told : Bool) (members : MembersOf) (may : ℕ → Bool) (loaded : List
         output = upto.output ++ prints.output;
         lines = lines_then upto.given upto.round upto.in_round takes.line ps input left upto.lines first;
         replies = replies_then upto.given upto.output prints.output k upto.round takes.line s t upto.replies upto.many prints.runs;
+        paced = paced_then upto.given upto.output prints.output k upto.round takes.line s t had has upto.paced upto.many prints.paced;
         many = (let long = length-append upto.given (lines_at upto.round takes.line) in let same = same_many upto.round takes.line in omega (arith, prints.many, upto.many, long, same));
         gained = Appends-trans old mid new upto.output prints.output upto.gained prints.gained;
         rose = rose_piece upto.given upto.output prints.output k s a b c upto.replies upto.many upto.rose prints.rose;
@@ -96,8 +108,8 @@ module _ (told : Bool) (members : MembersOf) (may : ℕ → Bool) (loaded : List
     abbrev AccountsFor : List Numbered → List ℕ → Type 0
     AccountsFor given output = Accounts told members may (λ l. l ≡ loaded) leaves rises given output
 
-    accounts : (given : List Numbered) (output : List ℕ) (s : State) → BuiltReplies told members may (opened loaded) 0 given output s → leaves s → rises (faults_told output) → AccountsFor given output
-    accounts given output s replies left rose = record { loaded = loaded; state = s; begun = refl; replies = replies; left = left; counted = rose }
+    accounts : (given : List Numbered) (output : List ℕ) (s : State) (had : Left) → BuiltReplies told members may (opened loaded) 0 given output s → RunPaces told members may loaded given output s had → leaves s → rises (faults_told output) → AccountsFor given output
+    accounts given output s had replies paced left rose = record { loaded = loaded; state = s; begun = refl; replies = replies; paced = λ d. let (z, run, within) = paced d in (z, run); left = left; counted = rose }
 
     of_lines : (given lines : List Numbered) (output : List ℕ) → lines ≡ given → AccountsFor given output → AccountsFor lines output
     of_lines given lines output is has = subst (λ (ls : List Numbered). AccountsFor ls output) (sym is) has
@@ -106,35 +118,35 @@ module _ (told : Bool) (members : MembersOf) (may : ℕ → Bool) (loaded : List
     front_lines given more input lines = ap (take (length given)) lines ∙ take_front given more
 
     -- the last piece
-    pub upto_end : (a b c : ℕ) → ((n : ℕ) → RoseBy a c n → rises n) → (old mid new : Option (List ℕ)) (k n : ℕ) (s t : State) (input left after : List ℕ) (piece : Piece) → RunUpto told members may loaded old mid a b k s input left → (takes : TakesPiece piece left after) → piece.by_newline ≡ false
-        → PiecePrints told members may s k takes.line t n mid new b c → leaves t → Replays told members may (λ l. l ≡ loaded) leaves rises old new input
-    upto_end a b c rose old mid new k n s t input left after piece upto takes last prints leave =
+    pub upto_end : (a b c : ℕ) → ((n : ℕ) → RoseBy a c n → rises n) → (old mid new : Option (List ℕ)) (k n : ℕ) (s t : State) (had has : Left) (input left after : List ℕ) (piece : Piece) → RunUpto told members may loaded old mid a b k s had input left → (takes : TakesPiece piece left after) → piece.by_newline ≡ false
+        → PiecePrints told members may s k takes.line t n mid new b c had has → leaves t → Replays told members may (λ l. l ≡ loaded) leaves rises old new input
+    upto_end a b c rose old mid new k n s t had has input left after piece upto takes last prints leave =
         let first : pieces [] left ≡ takes.line ∷ [] = takes.first ∙ ap (λ (b : Bool). takes.line ∷ later_pieces b after) last in
         let given = upto.given ++ lines_at upto.round takes.line in
         let lines : lines_of input ≡ given = lines_then upto.given upto.round upto.in_round takes.line [] input left upto.lines first ∙ append-nil given in
         record {
           output = upto.output ++ prints.output;
           accounts = of_lines given (lines_of input) (upto.output ++ prints.output) lines
-              (accounts given (upto.output ++ prints.output) t (replies_then upto.given upto.output prints.output k upto.round takes.line s t upto.replies upto.many prints.runs) leave
+              (accounts given (upto.output ++ prints.output) t has (replies_then upto.given upto.output prints.output k upto.round takes.line s t upto.replies upto.many prints.runs) (paced_then upto.given upto.output prints.output k upto.round takes.line s t had has upto.paced upto.many prints.paced) leave
               (rose _ (rose_piece upto.given upto.output prints.output k s a b c upto.replies upto.many upto.rose prints.rose)));
           gained = Appends-trans old mid new upto.output prints.output upto.gained prints.gained;
         }
 
     -- nothing more
-    pub upto_taken : (a b : ℕ) → ((n : ℕ) → RoseBy a b n → rises n) → (old mid new : Option (List ℕ)) (k : ℕ) (s : State) (input left : List ℕ) → RunUpto told members may loaded old mid a b k s input left → leaves s → Keeps mid new
+    pub upto_taken : (a b : ℕ) → ((n : ℕ) → RoseBy a b n → rises n) → (old mid new : Option (List ℕ)) (k : ℕ) (s : State) (had : Left) (input left : List ℕ) → RunUpto told members may loaded old mid a b k s had input left → leaves s → Keeps mid new
         → ReplaysTaken told members may (λ l. l ≡ loaded) leaves rises old new input
-    upto_taken a b rose old mid new k s input left upto leave kept = record {
+    upto_taken a b rose old mid new k s had input left upto leave kept = record {
       taken = length upto.given;
       output = upto.output;
       accounts = of_lines upto.given (take (length upto.given) (lines_of input)) upto.output (front_lines upto.given (numbered upto.round upto.in_round (pieces [] left)) input upto.lines)
-          (accounts upto.given upto.output s upto.replies leave (rose (faults_told upto.output) upto.rose));
+          (accounts upto.given upto.output s had upto.replies upto.paced leave (rose (faults_told upto.output) upto.rose));
       gained = Appends-kept old mid new upto.output upto.gained kept;
     }
 
     -- a front of a piece
-    pub upto_front : (a b c : ℕ) → ((n : ℕ) → RoseBy a c n → rises n) → (old mid new : Option (List ℕ)) (k : ℕ) (s : State) (input left after : List ℕ) (piece : Piece) → RunUpto told members may loaded old mid a b k s input left → (takes : TakesPiece piece left after)
-        → PieceFront told members may s k takes.line leaves mid new b c → ReplaysFront told members may (λ l. l ≡ loaded) leaves rises old new input
-    upto_front a b c rose old mid new k s input left after piece upto takes front =
+    pub upto_front : (a b c : ℕ) → ((n : ℕ) → RoseBy a c n → rises n) → (old mid new : Option (List ℕ)) (k : ℕ) (s : State) (had : Left) (input left after : List ℕ) (piece : Piece) → RunUpto told members may loaded old mid a b k s had input left → (takes : TakesPiece piece left after)
+        → PieceFront told members may s k takes.line leaves mid new b c had → ReplaysFront told members may (λ l. l ≡ loaded) leaves rises old new input
+    upto_front a b c rose old mid new k s had input left after piece upto takes front =
         let given = upto.given ++ lines_at upto.round takes.line in
         let ps = later_pieces piece.by_newline after in
         let lines = lines_then upto.given upto.round upto.in_round takes.line ps input left upto.lines takes.first in
@@ -146,7 +158,7 @@ module _ (told : Bool) (members : MembersOf) (may : ℕ → Bool) (loaded : List
           rest = front.rest;
           accounts = of_lines given (take (length given) (lines_of input)) due (front_lines given more input lines)
               (subst (λ (out : List ℕ). AccountsFor given out) (sym (append_assoc upto.output front.output front.rest))
-              (accounts given (upto.output ++ (front.output ++ front.rest)) front.state (replies_then upto.given upto.output (front.output ++ front.rest) k upto.round takes.line s front.state upto.replies upto.many front.runs) front.left
+              (accounts given (upto.output ++ (front.output ++ front.rest)) front.state front.next (replies_then upto.given upto.output (front.output ++ front.rest) k upto.round takes.line s front.state upto.replies upto.many front.runs) (paced_then upto.given upto.output (front.output ++ front.rest) k upto.round takes.line s front.state had front.next upto.paced upto.many front.paced) front.left
               (rose _ (rose_piece upto.given upto.output (front.output ++ front.rest) k s a b c upto.replies upto.many upto.rose front.rose))));
           gained = Appends-trans old mid new upto.output front.output upto.gained front.gained;
         }

@@ -7,18 +7,21 @@ use Rattle.gd_bytes.specs.File.{StandsFor}
 use Rattle.gd_runs.specs.Owed.{MembersOf}
 use Rattle.gd_runs.specs.Explained.{Numbered, lines_of, faults_told}
 use Rattle.gd_runs.specs.Core.{State, opened}
+use Rattle.gd_runs.specs.Pace.{DueOf, Left}
 use Rattle.gd_replay_laws.specs.Runs.{BuiltReplies}
+use Rattle.gd_replay_laws.specs.Paced.{PacedRun}
 
 -- where the content is told, it stands for these batches
 abbrev pub Loads : Option (List ℕ) → List Batch → Type 0
 Loads told loaded = ForSome told (λ file. StandsFor file loaded)
 
--- Lines came to this output: over a list of batches with which the run may begin, they print it and make a state, which is left, and the count of faults rose by the lines that tell one.
+-- Lines came to this output: over a list of batches with which the run may begin, they print it and make a state, which is left, no reading is unfinished too often, and the count of faults rose by the lines that tell one.
 pub record Accounts (told : Bool) (members : MembersOf) (may : ℕ → Bool) (loads : List Batch → Type 0) (leaves : State → Type 0) (rises : ℕ → Type 0) (given : List Numbered) (output : List ℕ) : Type 0 where
   pub loaded : List Batch
   pub state : State
   pub begun : loads loaded
   pub replies : BuiltReplies told members may (opened loaded) 0 given output state
+  pub paced : (d : DueOf) → (z : Left) × PacedRun told members d may (opened loaded) (λ i. 0) 0 given output state z
   pub left : leaves state
   pub counted : rises (faults_told output)
 

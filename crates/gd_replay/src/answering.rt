@@ -9,8 +9,10 @@ ghost use Rattle.gd_input.specs.Line.{IsKept, IsShort};
 ghost use Rattle.gd_writer.specs.Parts.{Tells};
 ghost use Rattle.gd_replay_laws.specs.Built.{Takes};
 ghost use Rattle.gd_replay_laws.specs.Runs.{BuiltLine, IsBounded, AreBelow};
+ghost use Rattle.gd_runs.specs.Pace.{DueOf};
 ghost use Rattle.gd_replay_laws.specs.Faults.{IsCounted};
-ghost use Rattle.gd_sessions.specs.Running.{core_state, Answers, GoesBy};
+ghost use Rattle.gd_replay_laws.specs.Paced.{Paces, LinePaces};
+ghost use Rattle.gd_sessions.specs.Running.{core_state, left_now, Answers, GoesBy};
 ghost use Rattle.gd_replay.specs.Stops.{StandsBefore, GoesAlong, IsLost};
 
 use crate::lines::{refuse, refuse_long};
@@ -26,6 +28,9 @@ use gd_sessions::running::Running;
 use std::alloc::Global;
 use std::sync::Wait;
 
+/// The event that steps are counted for.
+struct Carried;
+
 /// Whether an event opens the store again.
 fn opens_again(event: &Event) -> bool
     ensures again { result ≡ true → event_view event.now ≡ core.reopen }
@@ -34,17 +39,16 @@ fn opens_again(event: &Event) -> bool
     matches!(event, Event::Reopen)
 }
 
-/// Carries out an event. Only the reply to one that opens the store again may be wanting for want
+/// Carries out an event, and counts its steps from nothing. Only the reply to one that opens the store again may be wanting for want
 /// of memory; what is left then stands for the state before it too. An error: the store was closed
 /// for it, and not opened again.
-fn carry<R: Wait, D: Disk, C: Clock, L>(
+fn carry<R: Wait, D: Disk, C: Clock>(
     rt: &R,
     alloc: Global,
     running: Running<D, C>,
     line: u64,
     bytes: u64,
     event: Event,
-    steps: &mut Steps<L>,
 ) -> Result<(Running<D, C>, Result<Reply, Memory>), (JournalFault, D, C)>
     requires line { line < 2 ^ 63 }
     requires bytes { bytes ≤ 262_144 }
@@ -54,7 +58,9 @@ fn carry<R: Wait, D: Disk, C: Clock, L>(
         → Answers (λ reply. Takes (is_some (D.content running.side.log.disk)) members
         (C.may running.side.clock) (core_state running) line bytes (event_view event) reply
         (core_state both.0)
-        × IsCounted line reply (D.faults running.side.log.disk) (D.faults both.0.side.log.disk))
+        × IsCounted line reply (D.faults running.side.log.disk) (D.faults both.0.side.log.disk)
+        × ((d : DueOf) → Paces members d (core_state running) line (event_view event) reply
+        (core_state both.0) (left_now running) (left_now both.0)))
         both.1) }
     ensures unmade { IfOk result (λ both. Tells (D.content running.side.log.disk)
         → OnErr both.1 (StandsBefore (core_state running) (core_state both.0))) }
@@ -68,18 +74,18 @@ fn carry<R: Wait, D: Disk, C: Clock, L>(
         return running.reopen(rt, alloc, line);
     }
     let mut running = running;
-    let reply = running.step(rt, alloc, line, bytes, event, steps);
+    let mut steps: Steps<Carried> = Steps::new();
+    let reply = running.step(rt, alloc, line, bytes, event, &mut steps);
     Ok((running, Ok(reply)))
 }
 
 /// Answers a line that is not blank.
-pub(crate) fn answer<R: Wait, D: Disk, C: Clock, L>(
+pub(crate) fn answer<R: Wait, D: Disk, C: Clock>(
     rt: &R,
     alloc: Global,
     running: Running<D, C>,
     line: u64,
     text: RoundLine,
-    steps: &mut Steps<L>,
 ) -> Result<(Running<D, C>, Result<Reply, Memory>), (JournalFault, D, C)>
     requires line { line < 2 ^ 63 }
     requires short { IsShort text }
@@ -88,7 +94,9 @@ pub(crate) fn answer<R: Wait, D: Disk, C: Clock, L>(
         → IsKept 262_144 text piece
         → Answers (λ reply. BuiltLine (is_some (D.content running.side.log.disk)) members
         (C.may running.side.clock) (core_state running) line piece reply (core_state both.0)
-        × IsCounted line reply (D.faults running.side.log.disk) (D.faults both.0.side.log.disk))
+        × IsCounted line reply (D.faults running.side.log.disk) (D.faults both.0.side.log.disk)
+        × ((d : DueOf) → LinePaces members d (core_state running) line piece reply
+        (core_state both.0) (left_now running) (left_now both.0)))
         both.1) }
     ensures unmade { IfOk result (λ both. Tells (D.content running.side.log.disk)
         → OnErr both.1 (StandsBefore (core_state running) (core_state both.0))) }
@@ -100,7 +108,7 @@ pub(crate) fn answer<R: Wait, D: Disk, C: Clock, L>(
 {
     match text {
         RoundLine::Bytes(bytes) => match event_from(alloc, &bytes) {
-            Ok(event) => carry(rt, alloc, running, line, bytes.len() as u64, event, steps),
+            Ok(event) => carry(rt, alloc, running, line, bytes.len() as u64, event),
             Err(fault) => {
                 let reply = refuse(alloc, line, fault);
                 Ok((running, Ok(reply)))

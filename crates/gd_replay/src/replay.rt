@@ -10,8 +10,9 @@ ghost use Rattle.gd_log.specs.Opening.{IsKept, Refuses};
 ghost use Rattle.gd_runs.specs.Core as core;
 ghost use Rattle.gd_runs.specs.Legal.{batches};
 ghost use Rattle.gd_runs.specs.Owed.{MembersOf};
+ghost use Rattle.gd_replay_laws.specs.Paced.{AreWithin};
 ghost use Rattle.gd_writer.specs.Parts.{Tells};
-ghost use Rattle.gd_sessions.specs.Running.{core_state};
+ghost use Rattle.gd_sessions.specs.Running.{core_state, left_now};
 ghost use Rattle.gd_replay.specs.Stops.{Leaves, RoseWith, IfUnopened, EndsAs, EndsBy, EndsSent};
 ghost use Rattle.gd_replay.specs.Stops.{stop_of};
 ghost use Rattle.gd_replay.specs.Kept.{HasBatches, KeepsAs};
@@ -19,7 +20,6 @@ ghost use Rattle.gd_replay.specs.Replays.{Loads, Replays, ReplaysTaken, ReplaysF
 
 use crate::running::{halted, take_piece};
 use crate::stop::Stop;
-use gd_base::steps::Steps;
 use gd_disk::disk::Disk;
 use gd_input::fault::InputFault;
 use gd_input::reader::Reader;
@@ -30,9 +30,6 @@ use gd_outside::source::Source;
 use gd_sessions::running::Running;
 use std::alloc::Global;
 use std::sync::Wait;
-
-/// The run that steps are counted for.
-struct Run;
 
 /// Ends a core where all of the input was read.
 fn ended<R: Wait, D: Disk, C: Clock>(rt: &R, running: Running<D, C>) -> (Result<(), Stop>, D, C)
@@ -67,7 +64,8 @@ fn replay_lines<R: Wait, D: Disk, S: Source, K: Sink, C: Clock>(
     source: &mut S,
     sink: &mut K,
 ) -> (Result<(), Stop>, D, C)
-    requires { core_state running ≡ core.opened running.side.history.loaded }
+    requires opened { core_state running ≡ core.opened running.side.history.loaded }
+    requires left { AreWithin (left_now running) (λ i. 0) }
     ensures ends { (members : MembersOf) → EndsAs result.0
         (IfSome (S.left source.old) (Replays
         (is_some (D.content running.side.log.disk)) members (C.may running.side.clock)
@@ -101,7 +99,6 @@ fn replay_lines<R: Wait, D: Disk, S: Source, K: Sink, C: Clock>(
     ensures disk { D.faults running.side.log.disk ≤ D.faults result.1 }
     ensures later { K.faults sink.old ≤ K.faults sink.new }
 {
-    let mut steps: Steps<Run> = Steps::new();
     let mut reader = Reader::new(alloc);
     let mut current = running;
     let mut line = 0;
@@ -109,7 +106,7 @@ fn replay_lines<R: Wait, D: Disk, S: Source, K: Sink, C: Clock>(
         match reader.read_line(source) {
             Ok(piece) => {
                 let by_newline = piece.by_newline;
-                match take_piece(rt, alloc, current, line, piece.line, sink, &mut steps) {
+                match take_piece(rt, alloc, current, line, piece.line, sink) {
                     Ok((next, count)) => {
                         if by_newline {
                             current = next;
@@ -157,7 +154,8 @@ pub fn replay<R: Wait, D: Disk, S: Source, K: Sink, C: Clock>(
     // batches, whose number its reply tells. The disk's count of faults rose by at least as many as
     // there are lines that tell one, and by one more where the store was lost by one. A file that
     // is told stands for these batches, and what is left on the disk for the state that the lines
-    // make.
+    // make. No reading is unfinished too often: what is printed keeps the pace of what the readings
+    // have left, which begins with the first number of each.
     ensures ends { (members : MembersOf) → EndsAs result.0
         (IfSome (S.left source.old) (Replays (is_some (D.content disk)) members
         (C.may clock) (Loads (D.content disk))

@@ -10,7 +10,7 @@ ghost use Rattle.gd_input.specs.Line.{IsKept, IsShort};
 ghost use Rattle.gd_writer.specs.Parts.{Tells};
 ghost use Rattle.gd_replay_laws.specs.Runs.{AreBelow};
 ghost use Rattle.gd_reply.specs.Replies.{reply_text};
-ghost use Rattle.gd_sessions.specs.Running.{core_state};
+ghost use Rattle.gd_sessions.specs.Running.{core_state, left_now};
 ghost use Rattle.gd_replay.specs.Stops.{Leaves, GoesAlong, IsHalt, IsCaused};
 ghost use Rattle.gd_replay.specs.Kept.{HasBatches, KeepsAs};
 ghost use Rattle.gd_outside.specs.Gains.{GainsFront};
@@ -20,7 +20,6 @@ ghost use Rattle.gd_replay.specs.Runs.{PieceStops};
 use crate::answering::answer;
 use crate::stop::Stop;
 use gd_base::memory::Memory;
-use gd_base::steps::Steps;
 use gd_disk::disk::Disk;
 use gd_input::line::RoundLine;
 use gd_outside::clock::Clock;
@@ -76,14 +75,13 @@ fn print_or_halt<R: Wait, D: Disk, K: Sink, C: Clock>(
 }
 
 /// Answers a line that is not blank, and prints what it comes to. An error: the run stops at it.
-fn take_line<R: Wait, D: Disk, K: Sink, C: Clock, L>(
+fn take_line<R: Wait, D: Disk, K: Sink, C: Clock>(
     rt: &R,
     alloc: Global,
     running: Running<D, C>,
     line: u64,
     text: RoundLine,
     sink: &mut K,
-    steps: &mut Steps<L>,
 ) -> Result<Running<D, C>, (Stop, D, C)>
     requires line { line < 2 ^ 63 }
     requires short { IsShort text }
@@ -93,7 +91,8 @@ fn take_line<R: Wait, D: Disk, K: Sink, C: Clock, L>(
         → LinePrints (is_some (D.content running.side.log.disk)) members
         (C.may running.side.clock) (core_state running) line bytes (core_state next)
         (K.held sink.old) (K.held sink.new)
-        (D.faults running.side.log.disk) (D.faults next.side.log.disk)) }
+        (D.faults running.side.log.disk) (D.faults next.side.log.disk)
+        (left_now running) (left_now next)) }
     ensures below { IfOk result (λ next. AreBelow (line + 1) (core_state next)) }
     ensures along { IfOk result (λ next. GoesAlong D.content D.faults C.may running.side
         next.side) }
@@ -103,7 +102,7 @@ fn take_line<R: Wait, D: Disk, K: Sink, C: Clock, L>(
         (C.may running.side.clock) (core_state running) line bytes
         (λ s. Tells (D.content running.side.log.disk) → Leaves (D.images halt.1) s) halt.0
         (K.held sink.old) (K.held sink.new)
-        (D.faults running.side.log.disk) (D.faults halt.1)) }
+        (D.faults running.side.log.disk) (D.faults halt.1) (left_now running)) }
     ensures caused { IfErr result (λ halt. IsCaused halt.0
         (Rose (K.faults sink.old) (K.faults sink.new))
         (Rose (D.faults running.side.log.disk) (D.faults halt.1))) }
@@ -113,7 +112,7 @@ fn take_line<R: Wait, D: Disk, K: Sink, C: Clock, L>(
     ensures disk { IfErr result (λ halt. D.faults running.side.log.disk ≤ D.faults halt.1) }
     ensures later { K.faults sink.old ≤ K.faults sink.new }
 {
-    match answer(rt, alloc, running, line, text, steps) {
+    match answer(rt, alloc, running, line, text) {
         Ok((running, reply)) => print_or_halt(rt, running, reply, sink),
         Err((fault, disk, clock)) => Err((Stop::Lost(fault), disk, clock)),
     }
@@ -121,14 +120,13 @@ fn take_line<R: Wait, D: Disk, K: Sink, C: Clock, L>(
 
 /// Takes a piece of the input, which is a line unless it is blank, and gives the number of the next
 /// line with the core. An error: the run stops at it.
-pub(crate) fn take_piece<R: Wait, D: Disk, K: Sink, C: Clock, L>(
+pub(crate) fn take_piece<R: Wait, D: Disk, K: Sink, C: Clock>(
     rt: &R,
     alloc: Global,
     running: Running<D, C>,
     line: u64,
     piece: RoundLine,
     sink: &mut K,
-    steps: &mut Steps<L>,
 ) -> Result<(Running<D, C>, u64), (Stop, D, C)>
     requires line { line < 2 ^ 63 }
     requires short { IsShort piece }
@@ -138,7 +136,8 @@ pub(crate) fn take_piece<R: Wait, D: Disk, K: Sink, C: Clock, L>(
         → PiecePrints (is_some (D.content running.side.log.disk)) members
         (C.may running.side.clock) (core_state running) line bytes (core_state both.0)
         both.1 (K.held sink.old) (K.held sink.new)
-        (D.faults running.side.log.disk) (D.faults both.0.side.log.disk)) }
+        (D.faults running.side.log.disk) (D.faults both.0.side.log.disk)
+        (left_now running) (left_now both.0)) }
     ensures below { IfOk result (λ both. AreBelow both.1 (core_state both.0)) }
     ensures few { IfOk result (λ both. both.1 ≤ line + 1) }
     ensures along { IfOk result (λ both. GoesAlong D.content D.faults C.may running.side
@@ -149,7 +148,7 @@ pub(crate) fn take_piece<R: Wait, D: Disk, K: Sink, C: Clock, L>(
         (C.may running.side.clock) (core_state running) line bytes
         (λ s. Tells (D.content running.side.log.disk) → Leaves (D.images halt.1) s) halt.0
         (K.held sink.old) (K.held sink.new)
-        (D.faults running.side.log.disk) (D.faults halt.1)) }
+        (D.faults running.side.log.disk) (D.faults halt.1) (left_now running)) }
     ensures caused { IfErr result (λ halt. IsCaused halt.0
         (Rose (K.faults sink.old) (K.faults sink.new))
         (Rose (D.faults running.side.log.disk) (D.faults halt.1))) }
@@ -162,7 +161,7 @@ pub(crate) fn take_piece<R: Wait, D: Disk, K: Sink, C: Clock, L>(
     if piece.is_blank() {
         return Ok((running, line));
     }
-    match take_line(rt, alloc, running, line, piece, sink, steps) {
+    match take_line(rt, alloc, running, line, piece, sink) {
         Ok(next) => Ok((next, line + 1)),
         Err(halt) => Err(halt),
     }

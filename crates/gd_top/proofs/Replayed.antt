@@ -41,7 +41,7 @@ lost_faults journal.Memory = refl
 module _ (told : Bool) (members : MembersOf) (may : ℕ → Bool) (begins begins' : List Batch → Type 0) (leaves leaves' : State → Type 0) (rises rises' : ℕ → Type 0)
     (begun : (loaded : List Batch) → begins loaded → begins' loaded) (left : (s : State) → leaves s → leaves' s) (rose : (n : ℕ) → rises n → rises' n) where
   accounts : (given : List Numbered) (output : List ℕ) → Accounts told members may begins leaves rises given output → Accounts told members may begins' leaves' rises' given output
-  accounts given output a = record { loaded = a.loaded; state = a.state; begun = begun a.loaded a.begun; replies = a.replies; left = left a.state a.left; counted = rose _ a.counted }
+  accounts given output a = record { loaded = a.loaded; state = a.state; begun = begun a.loaded a.begun; replies = a.replies; paced = a.paced; left = left a.state a.left; counted = rose _ a.counted }
 
   whole : (old new known : Option (List ℕ)) → IfSome known (Replays told members may begins leaves rises old new) → IfSome known (Replays told members may begins' leaves' rises' old new)
   whole old new None r = tt

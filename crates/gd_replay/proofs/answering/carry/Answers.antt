@@ -2,11 +2,11 @@ use Rattle.std.specs.Option.{is_some}
 use Rattle.gd_runs.specs.Core as core
 use Rattle.gd_events.specs.Events.{event_view}
 use Rattle.gd_reply.specs.Replies.{reply_text}
-use Rattle.gd_sessions.specs.Running.{core_state}
+use Rattle.gd_sessions.specs.Running.{core_state, left_now}
 use Rattle.gd_replay.proofs.Carried.{anew_below, taken_below, taken_grows, due_grows, unmade_before, along_opened, along_stepped, lost_opened}
 use Rattle.gd_replay.proofs.Kept.{hindered}
-use Rattle.gd_replay.proofs.Outcomes.{ok_more, ok_each, err_each}
-use Rattle.gd_replay.proofs.Answered.{may_take, reopened_counted}
+use Rattle.gd_replay.proofs.Outcomes.{ok_more, ok_two, ok_each, err_each}
+use Rattle.gd_replay.proofs.Answered.{may_take, reopened_counted, reopened_paced}
 use Rattle.gd_replay.proofs.answering.carry.Goals as goal
 
 pub returns-then-opens_again-clause-takes : goal.returns-then-opens_again-clause-takes
@@ -16,9 +16,10 @@ returns-then-opens_again-clause-takes g c =
     let s = core_state c.args.running in
     let before = g.D.Disk.faults c.args.running.side.log.disk in
     rw (c.opens_again.ensures.again c.if-opens_again.true)
-    (ok_more c.reopen.result _ _
-    (λ both takes. λ members. reopened_counted told members may s c.args.line c.args.bytes (core_state both.0) before (g.D.Disk.faults both.0.side.log.disk) both.1 (takes members may c.args.bytes))
-    c.reopen.ensures.takes)
+    (ok_two c.reopen.result _ _ _
+    (λ both takes left. λ members. reopened_paced told members may s c.args.line c.args.bytes (core_state both.0) before (g.D.Disk.faults both.0.side.log.disk) (left_now c.args.running) (left_now both.0) both.1 left
+    (reopened_counted told members may s c.args.line c.args.bytes (core_state both.0) before (g.D.Disk.faults both.0.side.log.disk) both.1 (takes members may c.args.bytes)))
+    c.reopen.ensures.takes c.reopen.ensures.left)
 
 pub returns-then-opens_again-clause-unmade : goal.returns-then-opens_again-clause-unmade
 returns-then-opens_again-clause-unmade g c =
@@ -26,7 +27,7 @@ returns-then-opens_again-clause-unmade g c =
     ok_more c.reopen.result _ _ (λ both takes. λ tells. unmade_before (is_some (g.D.Disk.content c.args.running.side.log.disk)) tells may (core_state c.args.running) c.args.line 0 (core_state both.0) both.1 (λ members. takes members may 0)) c.reopen.ensures.takes
 
 pub returns-clause-takes : goal.returns-clause-takes
-returns-clause-takes g c = λ members. (c.step-reply.ensures.takes (is_some (g.D.Disk.content c.args.running.side.log.disk)) members, c.step-reply.ensures.counted)
+returns-clause-takes g c = λ members. (c.step-reply.ensures.takes (is_some (g.D.Disk.content c.args.running.side.log.disk)) members, c.step-reply.ensures.counted, λ d. c.step-reply.ensures.paced c.new-steps.ensures members d)
 
 pub returns-clause-below : goal.returns-clause-below
 returns-clause-below g c =

@@ -6,7 +6,7 @@ use Rattle.gd_runs.specs.Legal.{batches}
 use Rattle.gd_runs.specs.Core.{State}
 use Rattle.gd_writer.specs.Parts.{Tells}
 use Rattle.gd_replay_laws.specs.Runs.{AreBelow}
-use Rattle.gd_sessions.specs.Running.{RunningValue, core_state}
+use Rattle.gd_sessions.specs.Running.{RunningValue, core_state, left_now}
 use Rattle.gd_replay.specs.Stops.{Leaves, GoesAlong}
 use Rattle.gd_replay.specs.Runs.{LinePrints, LineStops}
 use Rattle.gd_replay.proofs.Carried.{tells_on}
@@ -26,8 +26,8 @@ returns-in-Ok-clause-prints g c =
     let before = faults c.args.running.side.log.disk in
     ok_two c.print_or_halt.result _ _ _
     (λ next is printed. λ members bytes kept.
-    subst (λ (r : RunningValue _ _). LinePrints (is_some (g.D.Disk.content c.args.running.side.log.disk)) members may s c.args.line bytes (core_state r) old new before (faults r.side.log.disk)) (sym is)
-    (printed_line (is_some (g.D.Disk.content c.args.running.side.log.disk)) members may s (core_state c.in-Ok.running) c.args.line bytes old new before (faults c.in-Ok.running.side.log.disk) c.in-Ok.reply (c.in-Ok.ensures.answers members bytes kept) printed))
+    subst (λ (r : RunningValue _ _). LinePrints (is_some (g.D.Disk.content c.args.running.side.log.disk)) members may s c.args.line bytes (core_state r) old new before (faults r.side.log.disk) (left_now c.args.running) (left_now r)) (sym is)
+    (printed_line (is_some (g.D.Disk.content c.args.running.side.log.disk)) members may s (core_state c.in-Ok.running) c.args.line bytes old new before (faults c.in-Ok.running.side.log.disk) (left_now c.args.running) (left_now c.in-Ok.running) c.in-Ok.reply (c.in-Ok.ensures.answers members bytes kept) printed))
     c.print_or_halt.ensures.same c.print_or_halt.ensures.printed
 
 pub returns-in-Ok-clause-below : goal.returns-in-Ok-clause-below
@@ -48,8 +48,8 @@ returns-in-Ok-clause-stops g c =
     err_four c.print_or_halt.result _ _ _ _ _
     (λ halt why front disk holds. λ members bytes kept.
     let leaves = λ (t : State). Tells (g.D.Disk.content c.args.running.side.log.disk) → Leaves (g.D.Disk.images halt.1) t in
-    subst (λ d. LineStops (is_some (g.D.Disk.content c.args.running.side.log.disk)) members may s c.args.line bytes leaves halt.0 old new before (faults d)) (sym disk)
-    (halted_line (is_some (g.D.Disk.content c.args.running.side.log.disk)) members may s (core_state c.in-Ok.running) c.args.line bytes leaves halt.0 rose old new before (faults c.in-Ok.running.side.log.disk) c.in-Ok.reply why
+    subst (λ d. LineStops (is_some (g.D.Disk.content c.args.running.side.log.disk)) members may s c.args.line bytes leaves halt.0 old new before (faults d) (left_now c.args.running)) (sym disk)
+    (halted_line (is_some (g.D.Disk.content c.args.running.side.log.disk)) members may s (core_state c.in-Ok.running) c.args.line bytes leaves halt.0 rose old new before (faults c.in-Ok.running.side.log.disk) (left_now c.args.running) (left_now c.in-Ok.running) c.in-Ok.reply why
     (c.in-Ok.ensures.answers members bytes kept) front (λ tells. holds (tells_on g.D.Disk.content g.D.Disk.faults g.C.Clock.may c.args.running.side c.in-Ok.running.side c.in-Ok.ensures.along tells))
     (back_told c.in-Ok.reply _ _ _ (λ tells. on_err_more c.in-Ok.reply _ _ (λ before left file is. before file (left file is)) (c.in-Ok.ensures.unmade tells))) c.in-Ok.ensures.along.later))
     c.print_or_halt.ensures.halt c.print_or_halt.ensures.front c.print_or_halt.ensures.disk c.print_or_halt.ensures.holds
