@@ -36,9 +36,17 @@ fn word(alloc: Global, bytes: &[u8]) -> Result<Text, Memory> {
     }
 }
 
+/// How the program ends where the system gives no words.
+fn unworded(error: io::Error) -> Status {
+    match error.kind() {
+        io::ErrorKind::OutOfMemory => Status::Memory,
+        _ => Status::Usage,
+    }
+}
+
 /// The words after the program's name.
 fn words(rt: &(impl Env + AllocGlobal)) -> Result<Vec<Text>, Status> {
-    let args = env::args(rt).map_err(|_| Status::Usage)?;
+    let args = env::args(rt).map_err(unworded)?;
     let mut words = Vec::new(rt.alloc());
     for arg in args.skip(1) {
         let text = word(rt.alloc(), arg.as_bytes()).map_err(|_| Status::Memory)?;
