@@ -39,9 +39,9 @@ fn opens_again(event: &Event) -> bool
     matches!(event, Event::Reopen)
 }
 
-/// Carries out an event, and counts its steps from nothing. Only the reply to one that opens the store again may be wanting for want
-/// of memory; what is left then stands for the state before it too. An error: the store was closed
-/// for it, and not opened again.
+/// Carries out an event, and counts its steps from nothing. Only the reply to one that opens the
+/// store again may be wanting for want of memory; what is left then stands for the state before it
+/// too. An error: the store was closed for it, and not opened again.
 fn carry<R: Wait, D: Disk, C: Clock>(
     rt: &R,
     alloc: Global,
