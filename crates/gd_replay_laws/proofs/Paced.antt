@@ -1,11 +1,11 @@
 -- Events keep the pace of what the readings have left.
-use Rattle.std.proofs.Common.{◌≡◌, ◌≢◌, ℕ, ◌+◌, ◌-◌, ◌≤◌, ◌==◌, List, [], ◌∷◌, length, codes, bytes_eq, Bool, true, false, if◌then◌else◌, Option, Some, None, Result, Ok, Err, ◌⊎◌, inl, inr, ⊎_elim, refl, sym, ap, subst, ◌∙◌, arith}
+use Rattle.std.proofs.Common.{◌≡◌, ◌≢◌, ℕ, ◌+◌, ◌-◌, ◌≤◌, ◌==◌, List, [], ◌∷◌, codes, bytes_eq, Bool, true, false, if◌then◌else◌, Option, Some, None, Result, Ok, Err, ⊎_elim, refl, sym, ap, subst, ◌∙◌, arith}
 use Rattle.std.specs.Prelude.{IfSome}
 use Rattle.std.specs.Bool.{MatchBool}
 use Rattle.std.proofs.lemmas.Bool.{eqb-true}
 use Rattle.gd_tree.specs.Json.{text, list, object, no_items, no_members, member}
-use Rattle.gd_bytes.specs.Frozen.{Frozen, spelling}
-use Rattle.gd_defs.specs.Lines.{Refusal, refusal, err_line, err_line_plain, ok_line}
+use Rattle.gd_bytes.specs.Frozen.{spelling}
+use Rattle.gd_defs.specs.Lines.{Refusal, refusal, err_line_plain}
 use Rattle.gd_defs.specs.Write.{WriteRequest}
 use Rattle.gd_runs.specs.Owed.{MembersOf}
 use Rattle.gd_runs.specs.Request.{ReadSet, one_query, queries}
@@ -15,10 +15,10 @@ use Rattle.gd_runs.specs.Explained.{memory_line}
 use Rattle.gd_runs.specs.Core as core
 use Rattle.gd_runs.specs.Core.{Event, Reading, State, reading_of, said, entered, owed_line, no_reading_line, many_queries_line, frozen_line, BeginStep, SliceStep}
 use Rattle.gd_runs.specs.Replay.{event_from}
-use Rattle.gd_runs.specs.Pace.{DueOf, Left, first_number, with_left, says_of, renewed, FreezePace, Pace, LinePace}
-use Rattle.gd_replay_laws.specs.Built.{Takes, IsUnfrozen, unbuilt_line}
+use Rattle.gd_runs.specs.Pace.{DueOf, Left, first_number, with_left, says_of, renewed, FreezePace, Pace}
+use Rattle.gd_replay_laws.specs.Built.{Takes, IsUnfrozen}
 use Rattle.gd_replay_laws.specs.Paced.{AreWithin, Paces, LinePaces}
-use Rattle.gd_replay_laws.proofs.Words.{same_bytes, not_both, IsNoWord, plain_says, plain_answers, owed_says}
+use Rattle.gd_replay_laws.proofs.Words.{same_bytes, plain_says, plain_answers, owed_says}
 
 -- ---- within
 

@@ -1,5 +1,5 @@
 -- Which reply lines say a word: none that a refusal prints, nor one with another result.
-use Rattle.std.proofs.Common.{◌≡◌, ◌≢◌, ℕ, zero, suc, ◌+◌, ◌/◌, ◌%◌, ◌≤◌, ◌==◌, pos, negsuc, Bool, true, false, if◌then◌else◌, nat_lt, List, [], ◌∷◌, ◌++◌, length, map, codes, decimal, bytes_eq, Option, Some, None, Result, Ok, Err, IfOk, refl, sym, ap, subst, ◌∙◌, arith}
+use Rattle.std.proofs.Common.{◌≡◌, ◌≢◌, ℕ, zero, suc, ◌+◌, ◌/◌, ◌%◌, ◌≤◌, ◌==◌, pos, negsuc, Bool, true, false, if◌then◌else◌, nat_lt, List, [], ◌∷◌, ◌++◌, length, map, codes, decimal, bytes_eq, Option, Some, None, Result, Ok, Err, refl, sym, ap, subst, ◌∙◌, arith}
 use Rattle.std.specs.Fmt.{digits, digits_onto, digit_glyph}
 use Rattle.std.proofs.lemmas.List.{append_cancel_left, append_cancel_right}
 use Rattle.std.proofs.lemmas.Slice.Eq.{bytes_eq-Decides}
@@ -12,7 +12,7 @@ use Rattle.gd_defs.specs.History.{prims_at}
 use Rattle.gd_defs.specs.Lines.{items_of, Refusal, ok_line, ok_cursor_line, err_line, err_line_plain, too_large, too_wide}
 use Rattle.gd_defs.specs.Asked.{Asked, Unknown, asked_query}
 use Rattle.gd_defs.specs.Rows.{Row}
-use Rattle.gd_defs.specs.Reply.{Mark, Answer, Path, answer, answer_item, answer_line, asked_answer, meant_answer, page_answer, result_json, as_list, each_row, first_item, object_json, is_ambiguous, has_heavy_candidate, is_heavy_page, page, rows_after, page_cursor, has_more, max_candidate_weight, max_page_weight, within_reply, max_reply}
+use Rattle.gd_defs.specs.Reply.{Mark, Answer, Path, answer, answer_item, answer_line, asked_answer, meant_answer, page_answer, result_json, as_list, each_row, object_json, is_ambiguous, has_heavy_candidate, is_heavy_page, page, rows_after, page_cursor, has_more, max_candidate_weight, max_page_weight, within_reply, max_reply}
 use Rattle.gd_runs.specs.Request.{ReadRequest, ReadSet, one_query, queries, queries_reply, asks_page}
 use Rattle.gd_runs.specs.Core.{Reading, owed_line, said}
 
