@@ -1,5 +1,5 @@
 -- What an event comes to is what its line comes to.
-use Rattle.std.proofs.Common.{◌≡◌, ℕ, ◌<◌, List, length, Bool, true, false, Result, Ok, Err, IfOk, inl, inr, ⊎_elim, refl, ap, subst, ◌∙◌, arith, lt-ltb}
+use Rattle.std.proofs.Common.{◌≡◌, ℕ, ◌<◌, ◌≤◌, List, length, Bool, true, false, Result, Ok, Err, IfOk, inl, inr, ⊎_elim, refl, ap, subst, ◌∙◌, arith, lt-ltb}
 use Rattle.std.specs.Prelude.{if◌then◌else◌, ◌≢◌, IsErr}
 use Rattle.gd_base.specs.declared.memory.Memory.{Memory}
 use Rattle.gd_grammar.specs.Chain.{◌>>=◌, map_err}

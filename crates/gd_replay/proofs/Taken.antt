@@ -24,14 +24,14 @@ use Rattle.gd_replay.specs.Runs.{IsDue, IsUnmade, LinePrints, LineFront, LineLos
 -- the reply was made and printed
 pub printed_line : (told : Bool) (members : MembersOf) (may : ℕ → Bool) (s t : State) (k : ℕ) (bytes : List ℕ) (old new : Option (List ℕ)) (a b : ℕ) (had has : Left) (reply : Result Reply Memory) → Answers (λ line. BuiltLine told members may s k bytes line t × IsCounted k line a b × ((d : DueOf) → LinePaces members d s k bytes line t had has)) reply
     → MatchResult reply (λ made. Appends old new (reply_text made ++ 10 ∷ [])) (λ none. ⊥) → LinePrints told members may s k bytes t old new a b had has
-printed_line told members may s t k bytes old new a b had has (Ok made) answers printed = record { reply = reply_text made; line = answers.0; counted = answers.1.0; paced = answers.1.1; gained = printed }
+printed_line told members may s t k bytes old new a b had has (Ok made) answers printed = record { reply = reply_text made; line = answers.0; counted = answers.1; paced = answers.2; gained = printed }
 printed_line told members may s t k bytes old new a b had has (Err none) answers printed = absurd printed
 
 -- or a front of it was
 front_line : (told : Bool) (members : MembersOf) (may : ℕ → Bool) (s t : State) (k : ℕ) (bytes : List ℕ) (leaves : State → Type 0) (old new : Option (List ℕ)) (a b : ℕ) (had has : Left) (reply : Result Reply Memory) → Answers (λ line. BuiltLine told members may s k bytes line t × IsCounted k line a b × ((d : DueOf) → LinePaces members d s k bytes line t had has)) reply
     → ((line : List ℕ) → IsDue reply line → GainsFront old new (line ++ 10 ∷ [])) → leaves t → LineFront told members may s k bytes leaves old new a b had
-front_line told members may s t k bytes leaves old new a b had has (Ok made) answers front left = record { reply = reply_text made; state = t; line = answers.0; counted = answers.1.0; next = has; paced = answers.1.1; left = left; front = front (reply_text made) refl }
-front_line told members may s t k bytes leaves old new a b had has (Err none) (due, answers) front left = record { reply = due; state = t; line = answers.0; counted = answers.1.0; next = has; paced = answers.1.1; left = left; front = front due tt }
+front_line told members may s t k bytes leaves old new a b had has (Ok made) answers front left = record { reply = reply_text made; state = t; line = answers.0; counted = answers.1; next = has; paced = answers.2; left = left; front = front (reply_text made) refl }
+front_line told members may s t k bytes leaves old new a b had has (Err none) (due, answers) front left = record { reply = due; state = t; line = answers.0; counted = answers.1; next = has; paced = answers.2; left = left; front = front due tt }
 
 -- there was no memory for it
 unmade_line : (s t : State) (leaves : State → Type 0) (old new : Option (List ℕ)) (a b : ℕ) (reply : Result Reply Memory) → IsUnmade reply old new → OnErr reply (leaves t → leaves s) → leaves t → a ≤ b → LineLost s leaves old new a b 0
