@@ -5,7 +5,7 @@ use Rattle.gd_base.specs.Counts.{RoseBy}
 use Rattle.gd_runs.specs.Owed.{MembersOf}
 use Rattle.gd_runs.specs.Core.{State}
 use Rattle.gd_runs.specs.Pace.{DueOf, Left}
-use Rattle.gd_replay_laws.specs.Paced.{AreWithin, LinePaces, PacedRun}
+use Rattle.gd_replay_laws.specs.Paced.{LinePaces}
 use Rattle.gd_replay_laws.specs.Runs.{BuiltLine, PieceRuns}
 use Rattle.gd_replay_laws.specs.Faults.{faults_from}
 use Rattle.gd_replay_laws.proofs.Faults.{plain_built, rose_none, rose_line}

@@ -6,7 +6,7 @@ use Rattle.gd_base.specs.declared.memory.Memory.{Memory}
 use Rattle.gd_runs.specs.Owed.{MembersOf}
 use Rattle.gd_runs.specs.Core.{State}
 use Rattle.gd_runs.specs.Pace.{DueOf, Left}
-use Rattle.gd_replay_laws.specs.Paced.{AreWithin, LinePaces, PacedRun}
+use Rattle.gd_replay_laws.specs.Paced.{LinePaces}
 use Rattle.gd_replay_laws.specs.Runs.{BuiltLine}
 use Rattle.gd_replay_laws.specs.Faults.{IsCounted}
 use Rattle.gd_replay_laws.proofs.Faults.{rose_none}

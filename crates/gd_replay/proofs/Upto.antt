@@ -13,7 +13,7 @@ use Rattle.gd_input.specs.declared.piece.Piece.{Piece}
 use Rattle.gd_input.specs.Pieces.{TakesPiece, later_pieces}
 use Rattle.gd_replay_laws.specs.Runs.{BuiltReplies, PieceRuns, lines_at}
 use Rattle.gd_replay_laws.specs.Faults.{faults_from}
-use Rattle.gd_runs.specs.Pace.{DueOf, Left}
+use Rattle.gd_runs.specs.Pace.{Left}
 use Rattle.gd_replay_laws.specs.Paced.{AreWithin, PacedRun}
 use Rattle.gd_replay_laws.proofs.Joined.{runs_join, paced_join}
 use Rattle.gd_replay_laws.proofs.Faults.{faults_run, rose_none, rose_then}
