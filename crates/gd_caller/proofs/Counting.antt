@@ -55,6 +55,10 @@ is_reply_to first reads batches shown n r (Some w) within rise at_r low is =
           ∙ sym (shown_reply batches shown w.at of.read.line of.read here within)),
     )
 
+-- what fits of it is what was kept
+pub fitting_reply : (batches : List Batch) (shown : ℕ) (r : ReadLine) (o : Option Worked) (w : Worked) → o ≡ Some w → IfSome o (IsReplyTo batches shown r) → IsReplyTo batches shown r w
+fitting_reply batches shown r o w is kept = subst (λ (x : Option Worked). IfSome x (IsReplyTo batches shown r)) is kept
+
 -- ---- reads, one after another
 
 set_here : (xs : List (List ℕ)) (p : ℕ) (x : List ℕ) → p < length xs → slice_get (set xs p x) p ≡ Some x

@@ -162,6 +162,40 @@ fn answer_at<L>(
     }
 }
 
+/// Has what a worker kept of a read, at a number that is shown, in the place of its line, and counts
+/// it for its session. From then on the floor of the session is that number.
+fn settle_worked(
+    alloc: Global,
+    standing: &Standing<'_>,
+    read: ReadLine,
+    at: u32,
+    reply: Vec<u8>,
+    floors: &mut [u32],
+    keeping: &mut Keeping,
+    replies: &mut Vec<Reply>,
+)
+    requires there { at ≤ standing.now.shown }
+    requires shown { standing.now.shown ≤ length standing.now.store.now }
+    requires answers { reply.items ≡ reply_of (take standing.now.shown standing.now.store.now) at
+        read.line (read_set_view read.request) }
+    requires read { IsReadWithin standing.now.first (standing.now.first + length replies.old.items)
+        read }
+    requires floors { length floors.old ≡ 64 }
+    requires lines { standing.now.first + length replies.old.items < 2 ^ 63 }
+    requires kept { AllRight (take standing.now.shown standing.now.store.now) keeping.old.caches }
+    ensures floors { floors.new ≡ slice_set floors.old read.session at }
+    ensures many { length floors.new ≡ 64 }
+    ensures replies { map reply_text replies.new.items ≡ slice_set (map reply_text replies.old.items)
+        (read.line - standing.now.first) reply.items }
+    ensures counted { CountsPut standing.now.first read (map reply_text replies.old.items)
+        (map reply_text replies.new.items) keeping.old keeping.new }
+    ensures kept { AllRight (take standing.now.shown standing.now.store.now) keeping.new.caches }
+    ensures count { length replies.new.items ≡ length replies.old.items }
+{
+    floors[read.session as usize] = at;
+    settle(alloc, standing.first, read, reply, keeping, replies);
+}
+
 /// Answers a read by what a worker kept of it, if that fits, and else at the greatest number that
 /// fits it. From then on the floor of its session is not below that number. The answer is counted
 /// for its session, if replies are kept.
@@ -201,10 +235,16 @@ fn answer_read<L>(
     let session = read.session as usize;
     let floor = floors[session];
     match fitting(standing, &read, floor, worked) {
-        Some(kept) => {
-            floors[session] = kept.at;
-            settle(alloc, standing.first, read, kept.reply, keeping, replies);
-        }
+        Some(kept) => settle_worked(
+            alloc,
+            standing,
+            read,
+            kept.at,
+            kept.reply,
+            floors,
+            keeping,
+            replies,
+        ),
         None => {
             let at = standing.least_later(&read);
             floors[session] = floor.max(at);

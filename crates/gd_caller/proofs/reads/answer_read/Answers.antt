@@ -1,11 +1,8 @@
-use Rattle.std.proofs.Common.{ℕ, Option, inl, inr, ⊎_elim, take, get_or, refl, subst, ap, ◌∙◌, arith}
-use Rattle.std.specs.Prelude.{IfSome}
+use Rattle.std.proofs.Common.{ℕ, inl, inr, ⊎_elim, get_or, refl, ap, arith}
 use Rattle.std.proofs.lemmas.Option.{IfSome_then, slice_get-get_or}
 use Rattle.gd_runs.specs.Request.{reply_of}
 use Rattle.gd_mql.specs.Requests.{read_set_view}
-use Rattle.gd_round_lines.specs.declared.worked.Worked.{Worked}
-use Rattle.gd_caller.specs.Reads.{IsReplyTo}
-use Rattle.gd_caller.proofs.Counting.{shown_long}
+use Rattle.gd_caller.proofs.Counting.{fitting_reply}
 use Rattle.gd_caller.proofs.reads.answer_read.Goals as goal
 
 pub returns-in-Some-clause-answers : goal.returns-in-Some-clause-answers
@@ -21,10 +18,10 @@ returns-in-Some-clause-answers g c outs are =
       there = slice_get-get_or floors r.session 0 (omega (arith, many, small));
       at = kept.at;
       next = kept.at;
-      floors_are = refl;
+      floors_are = c.settle_worked.ensures.floors;
       above_floor = fits.above;
       above_at = omega arith;
-      replies = inr (kept.reply.items, c.settle.ensures.replies, inr (kept, c.in-Some.ensures.same, refl, refl, fits));
+      replies = inr (kept.reply.items, c.settle_worked.ensures.replies, inr (kept, c.in-Some.ensures.same, refl, refl, fits));
     }
 
 pub returns-in-None-clause-answers : goal.returns-in-None-clause-answers
@@ -50,13 +47,12 @@ returns-in-None-clause-answers g c outs are =
           c.answer_at.ensures.replies;
     }
 
-pub returns-in-Some-clause-kept : goal.returns-in-Some-clause-kept
-returns-in-Some-clause-kept g c =
-    let s = c.args.standing.now in
-    let r = c.args.read in
-    let kept = c.in-Some.kept in
-    let (below, is) = subst (λ (o : Option Worked). IfSome o (IsReplyTo s.store.now s.shown r)) c.in-Some.ensures.same c.requires.worked in
-    c.settle.ensures.right (take s.shown s.store.now) kept.at (shown_long s.store.now s.shown kept.at below c.requires.shown) (omega arith) is c.requires.kept
+-- what a worker kept is the reply, at a number of what is shown
+pub settle_worked-requires-clause-there : goal.settle_worked-requires-clause-there
+settle_worked-requires-clause-there g c = (fitting_reply c.args.standing.now.store.now c.args.standing.now.shown c.args.read c.args.worked c.in-Some.kept c.in-Some.ensures.same c.requires.worked).0
+
+pub settle_worked-requires-clause-answers : goal.settle_worked-requires-clause-answers
+settle_worked-requires-clause-answers g c = (fitting_reply c.args.standing.now.store.now c.args.standing.now.shown c.args.read c.args.worked c.in-Some.kept c.in-Some.ensures.same c.requires.worked).1
 
 pub fitting-requires-clause-shown : goal.fitting-requires-clause-shown
 fitting-requires-clause-shown g c = IfSome_then c.args.worked c.requires.worked (λ w is. is.0)
