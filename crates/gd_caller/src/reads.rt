@@ -236,14 +236,7 @@ fn answer_read<L>(
     let floor = floors[session];
     match fitting(standing, &read, floor, worked) {
         Some(kept) => settle_worked(
-            alloc,
-            standing,
-            read,
-            kept.at,
-            kept.reply,
-            floors,
-            keeping,
-            replies,
+            alloc, standing, read, kept.at, kept.reply, floors, keeping, replies,
         ),
         None => {
             let at = standing.least_later(&read);

@@ -181,7 +181,9 @@ fn seat_all<'a, D: Disk, C: Clock>(
     for sid in sessions {
         let shown = side.tell();
         let cache = cache_of(caches, *sid);
-        seat(alloc, workers, budget, *sid, shown, works, cache, hired, seats)?;
+        seat(
+            alloc, workers, budget, *sid, shown, works, cache, hired, seats,
+        )?;
     }
     Ok(())
 }
