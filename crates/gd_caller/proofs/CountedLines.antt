@@ -17,8 +17,8 @@ use Rattle.gd_core_laws.specs.Round.{write_lines}
 use Rattle.gd_core_laws.specs.Writes.{RisesBy}
 use Rattle.gd_core_laws.proofs.WriteLines.{line_there}
 use Rattle.gd_cache.specs.Right.{is_ok}
-use Rattle.gd_cache.specs.Shown.{Shown}
 use Rattle.gd_lookup.specs.Keeping.{KeepingValue, CountsReply}
+use Rattle.gd_lookup.proofs.Counted.{none_counts}
 use Rattle.gd_lookup.specs.Calls.{reader_of, is_answered, CountsRead as CountsOneRead, CountsLine, CountsLines}
 use Rattle.gd_mql.specs.Requests.{read_set_view}
 use Rattle.gd_reply.specs.Replies.{reply_text}
@@ -61,15 +61,7 @@ write_other : (bytes reply : List ℕ) (s : ℕ) (w : WriteRequest) → line_fro
 write_other bytes reply s w asks = rw asks refl
 
 not_both : {P : Type 0} (b : Bool) → b ≡ true → b ≡ false → P
-not_both b yes no = absurd (let never = sym yes ∙ no in cc)
-
--- where a reply is no answer nothing is counted
-counts_not : (old new : KeepingValue) (s : ℕ) (key : Option (List ℕ)) (k : ℕ) (reply : List ℕ) → is_ok reply ≡ false → CountsReply old s key k reply new → new ≡ old
-counts_not old new s key k reply no counts = by old.caches refl
-  where
-    by : (cs : List Shown) → old.caches ≡ cs → new ≡ old
-    by [] is = rw is at counts
-    by (c ∷ cs) is = rw no at (rw is at counts)
+not_both b is_so not = absurd (let never = sym is_so ∙ not in cc)
 
 -- ---- reads in the order of their lines
 
@@ -129,7 +121,7 @@ module _ (first : ℕ) (given : List Numbered) (firsts now : List (List ℕ)) (s
           sym (answered_ok l.bytes t r.session session) ∙ first_other (first + j) l.bytes t (replies j l t at_l at_first)
 
       by : (b : Bool) → is_ok t ≡ b → CountsLine (first + j) l.bytes t old new
-      by true yes = rw (answered_ok l.bytes t r.session session ∙ yes) (⊎_elim
+      by true is_so = rw (answered_ok l.bytes t r.session session ∙ is_so) (⊎_elim
           (λ (reply, at, counts). record {
             session = r.session;
             request = read_set_view r.request;
@@ -139,10 +131,10 @@ module _ (first : ℕ) (given : List Numbered) (firsts now : List (List ℕ)) (s
             counts = subst (λ (n : ℕ). CountsReply old r.session r.key n t new) line
                 (subst (λ (x : List ℕ). CountsReply old r.session r.key r.line x new) (some_same (sym at ∙ ap (slice_get now) place ∙ at_t)) counts);
           })
-          (λ (is, none). not_both (is_ok t) yes (stays is))
+          (λ (is, none). not_both (is_ok t) is_so (stays is))
           one)
-      by false no = rw (answered_ok l.bytes t r.session session ∙ no) (⊎_elim
-          (λ (reply, at, counts). counts_not old new r.session r.key r.line reply (ap is_ok (some_same (sym at ∙ ap (slice_get now) place ∙ at_t)) ∙ no) counts)
+      by false not = rw (answered_ok l.bytes t r.session session ∙ not) (⊎_elim
+          (λ (reply, at, counts). none_counts old new r.session r.key r.line reply (ap is_ok (some_same (sym at ∙ ap (slice_get now) place ∙ at_t)) ∙ not) counts)
           (λ (is, none). none)
           one)
 
@@ -151,8 +143,12 @@ module _ (first : ℕ) (given : List Numbered) (firsts now : List (List ℕ)) (s
   other_line j rs l t keeping above among at_l at_t = by (is_answered l.bytes t) refl
     where
       by : (b : Bool) → is_answered l.bytes t ≡ b → CountsLine (first + j) l.bytes t keeping keeping
-      by true yes = absurd (let (x, q, at, line) = among j l t (omega arith) at_l at_t yes in let low = above_at (first + j + 1) rs x q above at in omega (arith, line, low))
-      by false no = rw no refl
+      by true is_so = absurd (let (x, q, at, line) = among j l t (omega arith) at_l at_t is_so in let low = above_at (first + j + 1) rs x q above at in omega (arith, line, low))
+      by false not = rw not refl
+
+  -- whatever reads are left, the lines from a place on are counted
+  abbrev Goes : ℕ → KeepingValue → Type 0
+  Goes j new = (rs : List ReadLine) (mid : KeepingValue) → Above (first + j) rs → Among j rs → AllByRecursion (IsReadAmong first given) rs → CountsReads first firsts now mid rs new → CountsLines (first + j) (drop j (texts_of given)) (drop j now) mid new
 
   merge : (m j : ℕ) (rs : List ReadLine) (old new : KeepingValue) → j + m ≡ length given → Above (first + j) rs → Among j rs → AllByRecursion (IsReadAmong first given) rs → CountsReads first firsts now old rs new → CountsLines (first + j) (drop j (texts_of given)) (drop j now) old new
   merge zero j [] old new all above among each counts =
@@ -176,27 +172,27 @@ module _ (first : ℕ) (given : List Numbered) (firsts now : List (List ℕ)) (s
   merge (suc m) j rs old new all above among each counts =
       let (l, at_l) = there given j (omega (arith, all)) in
       let (t, at_t) = there now j (omega (arith, all, same)) in
-      rw (bytes_drop j l at_l) (rw (drop_there now j t at_t) (step l t at_l at_t rs above among each counts))
+      rw (bytes_drop j l at_l) (rw (drop_there now j t at_t) (step (λ qs mid. merge m (j + 1) qs mid new (omega (arith, all))) l t at_l at_t rs above among each counts))
     where
       -- the lines behind this one
-      behind : (rs : List ReadLine) (mid : KeepingValue) → Above (first + j + 1) rs → Among (j + 1) rs → AllByRecursion (IsReadAmong first given) rs → CountsReads first firsts now mid rs new → CountsLines (first + j + 1) (drop (j + 1) (texts_of given)) (drop (j + 1) now) mid new
-      behind rs mid above among each counts =
+      behind : Goes (j + 1) new → (rs : List ReadLine) (mid : KeepingValue) → Above (first + j + 1) rs → Among (j + 1) rs → AllByRecursion (IsReadAmong first given) rs → CountsReads first firsts now mid rs new → CountsLines (first + j + 1) (drop (j + 1) (texts_of given)) (drop (j + 1) now) mid new
+      behind go rs mid above among each counts =
           subst (λ (k : ℕ). CountsLines k (drop (j + 1) (texts_of given)) (drop (j + 1) now) mid new) (omega arith)
-          (merge m (j + 1) rs mid new (omega (arith, all)) (subst (λ (k : ℕ). Above k rs) (omega arith) above) among each counts)
+          (go rs mid (subst (λ (k : ℕ). Above k rs) (omega arith) above) among each counts)
 
       -- no read of these is of this line
-      passes : (l : Numbered) (t : List ℕ) → slice_get given j ≡ Some l → slice_get now j ≡ Some t → (rs : List ReadLine) → Above (first + j + 1) rs → Among j rs → AllByRecursion (IsReadAmong first given) rs → CountsReads first firsts now old rs new
+      passes : Goes (j + 1) new → (l : Numbered) (t : List ℕ) → slice_get given j ≡ Some l → slice_get now j ≡ Some t → (rs : List ReadLine) → Above (first + j + 1) rs → Among j rs → AllByRecursion (IsReadAmong first given) rs → CountsReads first firsts now old rs new
           → CountsLines (first + j) (l.bytes ∷ drop (j + 1) (texts_of given)) (t ∷ drop (j + 1) now) old new
-      passes l t at_l at_t rs above among each counts = (
+      passes go l t at_l at_t rs above among each counts = (
         old,
         other_line j rs l t old above among at_l at_t,
-        behind rs old above (λ i x u more. among i x u (omega (arith, more))) each counts,
+        behind go rs old above (λ i x u more. among i x u (omega (arith, more))) each counts,
       )
 
-      step : (l : Numbered) (t : List ℕ) → slice_get given j ≡ Some l → slice_get now j ≡ Some t → (rs : List ReadLine) → Above (first + j) rs → Among j rs → AllByRecursion (IsReadAmong first given) rs → CountsReads first firsts now old rs new
+      step : Goes (j + 1) new → (l : Numbered) (t : List ℕ) → slice_get given j ≡ Some l → slice_get now j ≡ Some t → (rs : List ReadLine) → Above (first + j) rs → Among j rs → AllByRecursion (IsReadAmong first given) rs → CountsReads first firsts now old rs new
           → CountsLines (first + j) (l.bytes ∷ drop (j + 1) (texts_of given)) (t ∷ drop (j + 1) now) old new
-      step l t at_l at_t [] above among each counts = passes l t at_l at_t [] tt among each counts
-      step l t at_l at_t (r ∷ rs) above among (one, rest) (mid, this, more) = ⊎_elim
+      step go l t at_l at_t [] above among each counts = passes go l t at_l at_t [] tt among each counts
+      step go l t at_l at_t (r ∷ rs) above among (one, rest) (mid, this, more) = ⊎_elim
           (λ less. let low = above.0 in absurd (omega (arith, less, low)))
           (λ cases. ⊎_elim
           (λ here.
@@ -205,10 +201,10 @@ module _ (first : ℕ) (given : List Numbered) (firsts now : List (List ℕ)) (s
           let asks : IsReadOf (first + j) l.bytes r = subst (λ (x : Numbered). IsReadOf (first + j) x.bytes r) line_is (subst (λ (n : ℕ). IsReadOf (first + n) one.line.bytes r) place one.asks) in (
             mid,
             counted_line j r l t old mid asks at_l at_t this,
-            behind rs mid (above_less (r.line + 1) (first + j + 1) rs (omega (arith, here)) above.1)
-                (λ i x u after at_x at_u yes. left i (among i x u (omega (arith, after)) at_x at_u yes) here after) rest more,
+            behind go rs mid (above_less (r.line + 1) (first + j + 1) rs (omega (arith, here)) above.1)
+                (λ i x u after at_x at_u is_so. left i (among i x u (omega (arith, after)) at_x at_u is_so) here after) rest more,
           ))
-          (λ later. passes l t at_l at_t (r ∷ rs) (omega (arith, later), above.1) among (one, rest) (mid, this, more))
+          (λ later. passes go l t at_l at_t (r ∷ rs) (omega (arith, later), above.1) among (one, rest) (mid, this, more))
           cases)
           (less_or r.line (first + j))
         where
@@ -229,7 +225,7 @@ module _ {D C : Type 0} (first begun : ℕ) (given : List Numbered) (works : Wor
       write_other l.bytes t (write_of w).session (write_of w).request (subst (λ (n : Numbered). line_from n.bytes ≡ Ok (write (write_of w).session (write_of w).request)) same a.asks)
 
   answered_among : (j : ℕ) (l : Numbered) (t : List ℕ) → slice_get given j ≡ Some l → slice_get now j ≡ Some t → is_answered l.bytes t ≡ true → (x : ℕ) × (q : ReadLine) × (slice_get works.reads.items x ≡ Some q) × (q.line ≡ first + j)
-  answered_among j l t at_l at_t yes =
+  answered_among j l t at_l at_t is_so =
       let (was, at_was, joined) = answers.each j t at_t in
       by was at_was joined (kept_of side.outcomes (first + j)) refl
     where
@@ -237,10 +233,10 @@ module _ {D C : Type 0} (first begun : ℕ) (given : List Numbered) (works : Wor
           → (o : Option Kept) → kept_of side.outcomes (first + j) ≡ o → (x : ℕ) × (q : ReadLine) × (slice_get works.reads.items x ≡ Some q) × (q.line ≡ first + j)
       by was at_was (by_kept is stored) None none =
           let same : t ≡ was = is ∙ ap (reply_or (first + j) was) none in
-          not_both (is_answered l.bytes t) yes (ap (is_answered l.bytes) same ∙ first_other (first + j) l.bytes was (read_is.replies j l was at_l at_was))
+          not_both (is_answered l.bytes t) is_so (ap (is_answered l.bytes) same ∙ first_other (first + j) l.bytes was (read_is.replies j l was at_l at_was))
       by was at_was (by_kept is stored) (Some kept) told =
           let (y, w, at_w, line) = kept_write works.writes.items side.outcomes (first + j) kept of told in
-          not_both (is_answered l.bytes t) yes (is_written j l t y w at_l at_w line)
+          not_both (is_answered l.bytes t) is_so (is_written j l t y w at_l at_w line)
       by was at_was (by_caller x r at line is below) o told = (x, r, at, line)
       by was at_was (by_worker w is reply below begins later earlier) o told = (is.place, is.read, is.there, is.line)
 
