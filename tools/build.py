@@ -117,7 +117,9 @@ class Progress:
     def add(self, crate: str) -> None:
         """A crate is done."""
         now = time.monotonic()
-        self.first = self.first or now
+        if self.first is None:
+            # (before that the toolchain read the sources)
+            self.first, self.since = now, [now] * self.jobs
         took = now - self.begun(crate, now)
         # (what is done at once was proved before, and tells nothing)
         if now - self.first >= SOON and took >= 1:
@@ -127,7 +129,7 @@ class Progress:
 
     def ready(self, crate: str) -> float:
         """When the last of the crates below it was done."""
-        return max([self.ended[below] for below in self.needs[crate] if below in self.ended] + [self.began])
+        return max([self.ended[below] for below in self.needs[crate] if below in self.ended] + [self.first or self.began])
 
     def begun(self, crate: str, now: float) -> float:
         """When the check of a crate that ends now has begun: once all below was done, and a check before it. Which one is not told;
@@ -165,7 +167,9 @@ class Progress:
     def tell(self) -> None:
         """Says how far it is."""
         line = "graphd: %d of %d crates proved, %s" % (len(self.ended), len(self.needs), lasting(time.monotonic() - self.began))
-        if len(self.ended) < len(self.needs):
+        if not self.ended:
+            line += ", reading the sources first"
+        elif len(self.ended) < len(self.needs):
             line += ", about %s to go" % lasting(self.to_go())
         sys.stderr.write("\r\033[K" + line if self.is_terminal else line + "\n")
         sys.stderr.flush()
