@@ -1,6 +1,6 @@
 -- What the readings of the sessions have left, behind an event of one of them.
 use Rattle.std.proofs.Common.{◌≡◌, ◌≢◌, ℕ, zero, suc, ◌+◌, ◌-◌, ◌^◌, ◌<◌, ◌≤◌, ◌==◌, min, List, [], ◌∷◌, ◌++◌, length, map, Bool, true, false, Option, Some, None, Result, Ok, Err, IfOk, OnErr, refl, sym, ap, subst, ◌∙◌, arith}
-use Rattle.std.specs.Prelude.{get_or, set, IfSome, option_map}
+use Rattle.std.specs.Prelude.{get_or, set, IfSome}
 use Rattle.std.specs.List.{AllByRecursion}
 use Rattle.std.specs.Global.{Vec}
 use Rattle.std.proofs.lemmas.Bool.{eqb-true}
@@ -13,7 +13,6 @@ use Rattle.gd_runs.specs.Legal.{batches}
 use Rattle.gd_runs.specs.Request.{ReadSet}
 use Rattle.gd_runs.specs.Core as core
 use Rattle.gd_runs.specs.Core.{Reading, Session, State, BeginStep, SliceStep}
-use Rattle.gd_runs.specs.Side.{WriteKeeps}
 use Rattle.gd_runs.specs.Pace.{DueOf, Left, first_number}
 use Rattle.gd_runs.proofs.Rounds.{length_batches}
 use Rattle.gd_replay_laws.specs.Paced.{AreWithin}

@@ -1,5 +1,5 @@
 -- What an event comes to, with its reply or without memory for it.
-use Rattle.std.proofs.Common.{◌≡◌, ℕ, List, Bool, false, Option, Result, Ok, Err, IfOk, OnErr, inl, inr, refl, sym, subst}
+use Rattle.std.proofs.Common.{◌≡◌, ℕ, List, Bool, false, Option, Result, Ok, Err, IfOk, OnErr, inl, refl, sym, subst}
 use Rattle.std.specs.Global.{Vec}
 use Rattle.gd_base.specs.declared.memory.Memory.{Memory}
 use Rattle.gd_runs.specs.Explained.{memory_line}

@@ -4,7 +4,6 @@ use Rattle.gd_reply.specs.Replies.{reply_text}
 use Rattle.gd_sessions.specs.Running.{core_state}
 use Rattle.gd_sessions.proofs.Goes.{goes_same}
 use Rattle.gd_sessions.proofs.Taken.{takes_counted}
-use Rattle.gd_runs.specs.Core as core
 use Rattle.gd_mql.specs.Requests.{read_set_view, write_view}
 use Rattle.gd_sessions.specs.Running.{left_now}
 use Rattle.gd_replay_laws.proofs.Paced.{write_paces, learn_paces, freeze_paces, thaw_paces}
