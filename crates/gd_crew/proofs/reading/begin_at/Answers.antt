@@ -24,5 +24,5 @@ returns-in-Err-Shut g c = λ before looked.
     let old = c.args.session.now in let new = c.begin_at.new.self in
     away_later before old new c.args.at looked (subst (λ e. BeginsOver c.args.at old new (read_set_view c.in-Ok.request) (Err e)) c.in-Err-Shut.field-0-is c.in-Err-Shut.ensures.begins)
 
-pub returns-in-Err : goal.returns-in-Err
-returns-in-Err g c = λ before looked. no_reply before c.args.session.now c.args.line c.args.at 0 (read_set_view c.args.request.now) looked c.requires.none
+pub returns-in_default : goal.returns-in_default
+returns-in_default g c = λ before looked. no_reply before c.args.session.now c.args.line c.args.at 0 (read_set_view c.args.request.now) looked c.requires.none
