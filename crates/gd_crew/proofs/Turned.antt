@@ -10,7 +10,7 @@ use Rattle.gd_base.specs.Counts.{Rose}
 use Rattle.gd_base.specs.declared.memory.Memory.{Memory}
 use Rattle.gd_prim.specs.declared.Batch.{Batch}
 use Rattle.gd_defs.specs.Lines.{err_line}
-use Rattle.gd_runs.specs.Request.{ReadSet, reply_of}
+use Rattle.gd_runs.specs.Request.{ReadSet}
 use Rattle.gd_runs.specs.Core.{Reading, owed_line, reading_of}
 use Rattle.gd_core_laws.proofs.Reading.{refuses}
 use Rattle.gd_read.specs.Begun.{fault_at}

@@ -1,5 +1,4 @@
-use Rattle.std.proofs.Common.{Ok, Err, subst, sym}
-use Rattle.std.specs.Result.{result_ok}
+use Rattle.std.proofs.Common.{Err, subst, sym}
 use Rattle.gd_mql.specs.Requests.{read_set_view}
 use Rattle.gd_seats.specs.Calls.{LooksAs}
 use Rattle.gd_crew.specs.Reading.{RepliesAtOnce, bytes_of}
