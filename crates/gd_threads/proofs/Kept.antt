@@ -75,7 +75,7 @@ settles_shown s t settles low = by s.doubt refl
         cases
 
     by : (d : Option Entry) → s.doubt ≡ d → Shows s t × (size s.history ≤ size t.history)
-    by None is = same s refl refl (rw is at settles)
+    by None is = same (record s { doubt = None }) refl refl (rw is at settles)
     by (Some e) is = some e (rw is at settles)
 
 write_shows : (may : ℕ → Bool) (s : State) (k bytes : ℕ) (w : WriteRequest) (kept : Kept) (t : State) → WriteKeeps may s k bytes w kept t → s.shown ≤ size s.history → Shows s t
