@@ -1,5 +1,5 @@
 -- What a run of generated requests printed, said of what stands further out, and where it did not begin.
-use Rattle.std.proofs.Common.{◌≡◌, ◌∙◌, ℕ, List, [], Bool, true, false, Option, None, refl, sym, ap, subst, inl, inr, ⊎_elim}
+use Rattle.std.proofs.Common.{◌≡◌, ◌∙◌, ℕ, List, [], Bool, true, false, Option, None, Some, refl, sym, ap, subst, inl, inr, ⊎_elim}
 use Rattle.std.specs.Io.KnownBytes.{Keeps}
 use Rattle.std.proofs.KnownBytes.{Keeps-refl}
 use Rattle.gd_prim.specs.declared.Batch.{Batch}
@@ -11,7 +11,7 @@ use Rattle.gd_disk.specs.declared.shelf.ShelfFault.{ShelfFault}
 use Rattle.gd_disk.specs.declared.shelf.ShelfFault.TheVariants as shelf
 use Rattle.gd_words.specs.declared.verbs.Command.{Command}
 use Rattle.gd_words.specs.declared.verbs.Command.TheVariants as command
-use Rattle.gd_words.specs.Verbs.{generates, verb_in, file_of}
+use Rattle.gd_words.specs.Verbs.{generates, serving, verb_in, file_of}
 use Rattle.gd_top.specs.declared.status.Status.{Status}
 use Rattle.gd_top.specs.declared.status.Status.TheVariants as status
 use Rattle.gd_top.specs.Stops.{status_of_shelf}
@@ -135,6 +135,11 @@ only number count (status.BadDump offset) tells disk store damage = absurd (cc)
 only number count (status.DumpFrom asked have) tells disk store damage = absurd (cc)
 only number count (status.Unfit batch) tells disk store damage = absurd (cc)
 
+-- words that serve are none that generate, whatever is kept
+serves_not : {number count : ℕ} (cache : Option ℕ) → serving cache ≡ generates number count → ⊥
+serves_not None is = absurd (cc)
+serves_not (Some n) is = absurd (cc)
+
 module _ (number count : ℕ) (s : Status) (may : ℕ → Bool) (content : List ℕ → Option (List ℕ)) (images : List ℕ → List ℕ → Type 0) (before after : ℕ) (idle : Option (List ℕ) → Type 0) (left now old new : Option (List ℕ)) where
   -- words that generate name no file
   pub summary_known : (c : Command) → verb_in c ≡ generates number count → (idle None → Keeps old new) → PrintsAt (verb_in c) s may content images (file_of c) (RisesAt (file_of c) before after) (idle (file_of c)) left now old new
@@ -152,7 +157,7 @@ module _ (number count : ℕ) (s : Status) (may : ℕ → Bool) (content : List 
       let same_count : generate.count ≡ count = cc in
       subst (λ (n : ℕ). PrintsSummary s may (λ loaded. loaded ≡ []) (λ faults. faults ≡ 0) ⊥ n count old new) same_number
       (subst (λ (n : ℕ). PrintsSummary s may (λ loaded. loaded ≡ []) (λ faults. faults ≡ 0) ⊥ generate.number n old new) same_count all)
-  summary_known (command.Serve serve) is kept p tells disk store damage = absurd (cc)
+  summary_known (command.Serve serve) is kept p tells disk store damage = absurd (serves_not serve.cache is)
   summary_known (command.Replay place) is kept p tells disk store damage = absurd (cc)
   summary_known (command.Dump dump) is kept p tells disk store damage = absurd (cc)
   summary_known (command.Restore place) is kept p tells disk store damage = absurd (cc)
