@@ -1,6 +1,8 @@
 pub mod Counted
 pub mod Gathers
+pub mod Paid
 pub mod Plans
+pub mod Right
 pub mod SortWords
 pub mod Sorts
 pub mod Spoken

@@ -1,4 +1,5 @@
 pub mod Fault
+pub mod Looks
 pub mod Seen
 pub mod Spoken
 pub mod Walk

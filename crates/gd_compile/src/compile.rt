@@ -1,15 +1,19 @@
 //! A whole query with its words looked up, and its template.
-ghost use Rattle.std.specs.Prelude.{◌≡◌, ◌≤◌, true, IfOk, MatchResult, OnOk};
+ghost use Rattle.std.specs.Prelude.{◌≡◌, ◌≤◌, ◌+◌, ◌*◌, true, None, IfOk, MatchResult, OnOk};
+ghost use Rattle.std.specs.Prelude.{length};
 ghost use Rattle.gd_base.specs.Counts.{Rose};
 ghost use Rattle.gd_prim.specs.History.{prims_of};
 ghost use Rattle.gd_defs.specs.Asked as defs;
+ghost use Rattle.gd_defs.specs.Cost.{resolving};
 ghost use Rattle.gd_defs.specs.Plan.{template_of};
 ghost use Rattle.gd_defs.specs.Template.{depth};
 ghost use Rattle.gd_mql.specs.Requests.{query_view, read_view};
 ghost use Rattle.gd_plan.specs.Asked.{asked_view};
+ghost use Rattle.gd_runs.specs.RootSets.{sets_by_link};
 ghost use Rattle.gd_template_laws.specs.Laws.{TemplateMeans};
 ghost use Rattle.gd_compile.specs.declared.fault.Unknown.TheVariants as fault;
 ghost use Rattle.gd_compile.specs.Fault.{Finds};
+ghost use Rattle.gd_compile.specs.Looks.{clause_looks, expects_types};
 ghost use Rattle.gd_compile.specs.Walk.{asks_property};
 
 use crate::asking::{asks_single, limit_from};
@@ -36,6 +40,10 @@ pub fn asked_query<L>(
 ) -> Result<Asked, Unknown>
     ensures asked { Finds asked_view (defs.asked_query (prims_of view.now) (query_view query.now))
         result }
+
+    // What its words and ids take, part by part.
+    ensures looks { steps.new ≤ steps.old + clause_looks (prims_of view.now) None
+        (query_view query.now).members }
     ensures later { steps.old ≤ steps.new }
 
     // Where a member of its root clause asks a property, something was looked at.
@@ -82,6 +90,14 @@ pub fn compile<L>(
     // The places that answer the template are the objects that meet the query, and each weighs what
     // it weighs in the query.
     ensures means { IfOk result (λ plan. TemplateMeans (prims_of view.now) (asked_view plan)) }
+
+    // What its words and ids cost pays for looking them up; and where it has a meaning, for 24 steps
+    // more for each set of links that its literals name.
+    ensures work { expects_types (prims_of view.now) ≡ true → steps.new
+        ≤ steps.old + 64 * resolving (prims_of view.now) (read_view request.now).query }
+    ensures room { IfOk result (λ plan. expects_types (prims_of view.now) ≡ true
+        → steps.new + 24 * length (sets_by_link (prims_of view.now) (asked_view plan).members)
+        ≤ steps.old + 64 * resolving (prims_of view.now) (read_view request.now).query) }
     ensures later { steps.old ≤ steps.new }
 
     // Where a member of the root clause asks a property, something was looked at.

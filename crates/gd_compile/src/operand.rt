@@ -9,13 +9,15 @@ ghost use Rattle.gd_defs.specs.Asked.{bad_query};
 ghost use Rattle.gd_defs.specs.Query.{bad_value};
 ghost use Rattle.gd_defs.specs.Data as kinds;
 ghost use Rattle.gd_base.specs.Counts.{Rose};
+ghost use Rattle.gd_defs.specs.Cost.{id_cost};
 ghost use Rattle.gd_defs.specs.Ids.{guid_place, id_keys};
 ghost use Rattle.gd_compile.specs.declared.fault.Unknown.TheVariants as fault;
 ghost use Rattle.gd_defs.specs.Property as property;
 ghost use Rattle.gd_json.specs.View.{view as json_of, items_view};
-ghost use Rattle.gd_tree.specs.Json.{text};
+ghost use Rattle.gd_tree.specs.Json.{text, list};
 ghost use Rattle.gd_datum.specs.Values.{kind_of};
 ghost use Rattle.gd_compile.specs.Fault.{Finds};
+ghost use Rattle.gd_compile.specs.Looks.{item_steps, operand_steps};
 ghost use Rattle.gd_plan.specs.Seen.{expects_view};
 
 use crate::fault::{Code, Unknown, bad, no_id};
@@ -42,6 +44,7 @@ pub fn place_named<L>(
     steps: &mut Steps<L>,
 ) -> Result<Id, Unknown>
     ensures place { Finds (λ object. object) (defs.place_named (prims_of view.now) id.now) result }
+    ensures ids { steps.new ≤ steps.old + 30 * id_cost id.now }
     ensures work { steps.new ≤ steps.old + 500 }
     ensures later { steps.old ≤ steps.new }
 
@@ -106,6 +109,7 @@ fn object_datum<L>(
     ensures datum { Finds (λ datum. datum)
         (defs.operand_datum (prims_of view.now) property.a_plain_object
         (map (λ name. name.now) path.now) (json_of json.now)) result }
+    ensures ids { steps.new ≤ steps.old + item_steps property.a_plain_object (json_of json.now) }
     ensures work { steps.new ≤ steps.old + 500 }
     ensures later { steps.old ≤ steps.new }
 {
@@ -131,6 +135,7 @@ pub fn operand_datum<L>(
     ensures datum { Finds (λ datum. datum)
         (defs.operand_datum (prims_of view.now) (expects_view expects)
         (map (λ name. name.now) path.now) (json_of json.now)) result }
+    ensures ids { steps.new ≤ steps.old + item_steps (expects_view expects) (json_of json.now) }
     ensures work { steps.new ≤ steps.old + 500 }
     ensures later { steps.old ≤ steps.new }
 {
@@ -163,6 +168,8 @@ pub fn operand_data<L>(
     ensures data { Finds (λ read. read.items)
         (defs.operand_data (prims_of view.now) (expects_view expects)
         (map (λ name. name.now) path.now) (items_view operands.now)) result }
+    ensures ids { steps.new ≤ steps.old + operand_steps (expects_view expects)
+        (list (items_view operands.now)) }
     ensures work { steps.new ≤ steps.old + 500 * length operands.now }
     ensures later { steps.old ≤ steps.new }
 {

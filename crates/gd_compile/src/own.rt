@@ -1,5 +1,5 @@
 //! Members that are computed, and those of forms on values and keys.
-ghost use Rattle.std.specs.Prelude.{◌≡◌, ◌≤◌, ◌&&◌, None, Some, IfOk, map, codes, bytes_eq};
+ghost use Rattle.std.specs.Prelude.{◌≡◌, ◌≤◌, ◌+◌, ◌&&◌, None, Some, IfOk, map, codes, bytes_eq};
 ghost use Rattle.gd_prim.specs.History.{prims_of};
 ghost use Rattle.gd_defs.specs.Asked as defs;
 ghost use Rattle.gd_defs.specs.Asked.Tests as tests;
@@ -11,6 +11,7 @@ ghost use Rattle.gd_mql.specs.Clauses.{form_view, left, with_part};
 ghost use Rattle.gd_plan.specs.Asked.{put};
 ghost use Rattle.gd_plan.specs.Seen.{expects_view, own_view, test_view};
 ghost use Rattle.gd_compile.specs.Fault.{Finds};
+ghost use Rattle.gd_compile.specs.Looks.{own_looks, itself_looks, part_looks, value_looks};
 ghost use Rattle.gd_compile.specs.Walk.{Adds, Leads, clause_view};
 
 use crate::fault::{Code, Unknown, bad};
@@ -93,6 +94,8 @@ pub(crate) fn own_member<L>(
         (own_view own) (form_view form.now)
         (defs.own_test (prims_of view.now) (map (λ name. name.now) path.now) (own_view own)
         (name_view name.now).operator)) result }
+    ensures looks { steps.new ≤ steps.old + own_looks (prims_of view.now) (own_view own)
+        (name_view name.now).operator (form_view form.now) }
     ensures later { steps.old ≤ steps.new }
 {
     match form {
@@ -120,6 +123,8 @@ fn value_itself<L>(
         defs.its_value (form_view form.now)
         (tests.checked_test (prims_of view.now) (expects_view expects)
         (map (λ name. name.now) path.now) (name_view name.now).operator)) result }
+    ensures looks { steps.new ≤ steps.old + itself_looks (expects_view expects)
+        (form_view form.now) }
     ensures later { steps.old ≤ steps.new }
 {
     match form {
@@ -173,6 +178,8 @@ fn value_member<L>(
 ) -> Result<Member, Unknown>
     ensures member { Leads (defs.value_member (prims_of view.now) (expects_view expects)
         (map (λ name. name.now) path.now) (name_view name.now) (form_view form.now)) result }
+    ensures looks { steps.new ≤ steps.old + part_looks (prims_of view.now) (expects_view expects)
+        (name_view name.now) (form_view form.now) }
     ensures later { steps.old ≤ steps.new }
 {
     if is_link(name.word) {
@@ -206,6 +213,10 @@ fn add_value_part<'a, L>(
         (map (λ name. name.now) path.entry.now) (with_part part.entry.now rest))
         (defs.value_members (prims_of view.now) (expects_view expects)
         (map (λ name. name.now) path.entry.now) rest) gathered.old gathered.new result }
+    ensures looks { (rest : query.Members)
+        → steps.new + value_looks (prims_of view.now) (expects_view expects) rest
+        ≤ steps.old + value_looks (prims_of view.now) (expects_view expects)
+        (with_part part.entry.now rest) }
     ensures later { steps.old ≤ steps.new }
 {
     match part {
@@ -236,6 +247,8 @@ pub(crate) fn value_members<'a, L>(
     ensures members { Finds clause_view
         (defs.value_members (prims_of view.now) (expects_view expects)
         (map (λ name. name.now) path.entry.now) (left members.entry.now)) result }
+    ensures looks { steps.new ≤ steps.old + value_looks (prims_of view.now) (expects_view expects)
+        (left members.entry.now) }
     ensures later { steps.old ≤ steps.new }
 {
     let mut gathered = Gathered::new(alloc);

@@ -1,10 +1,11 @@
 //! What rows are sorted by.
-ghost use Rattle.std.specs.Prelude.{◌≡◌, ◌≤◌, ◌++◌, ◌∷◌, [], map, OnOk};
+ghost use Rattle.std.specs.Prelude.{◌≡◌, ◌≤◌, ◌+◌, ◌++◌, ◌∷◌, [], map, sum_by, OnOk};
 ghost use Rattle.gd_prim.specs.History.{prims_of};
 ghost use Rattle.gd_defs.specs.Asked as defs;
 ghost use Rattle.gd_mql.specs.Clauses.{sort_view};
 ghost use Rattle.gd_mql.specs.Directives.{sort_word_view};
 ghost use Rattle.gd_compile.specs.Fault.{Finds};
+ghost use Rattle.gd_compile.specs.Looks.{sort_steps};
 ghost use Rattle.gd_plan.specs.Seen.{expects_view};
 ghost use Rattle.gd_plan.specs.Seen.{sort_key_view};
 ghost use Rattle.gd_compile.specs.Words.{value_key, is_value};
@@ -67,6 +68,8 @@ pub fn sort_key<L>(
     ensures key { Finds sort_key_view
         (defs.sort_key (prims_of view.now) context (map (λ name. name.now) path.now)
         (sort_word_view sort.now)) result }
+    ensures looks { steps.new ≤ steps.old + sort_steps (prims_of view.now) context
+        (sort_word_view sort.now) }
     ensures later { steps.old ≤ steps.new }
 {
     let descending = sort.descending;
@@ -116,6 +119,8 @@ pub fn sort_keys<L>(
     ensures keys { Finds (λ keys. map sort_key_view keys.items)
         (defs.sort_keys (prims_of view.now) context (map (λ name. name.now) path.now)
         (sort_view words.now)) result }
+    ensures looks { steps.new ≤ steps.old + sum_by (sort_steps (prims_of view.now) context)
+        (sort_view words.now) }
     ensures later { steps.old ≤ steps.new }
 {
     let mut keys = Vec::new(alloc);

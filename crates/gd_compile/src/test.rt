@@ -9,6 +9,7 @@ ghost use Rattle.gd_tree.specs.Look.{item_count};
 ghost use Rattle.gd_json.specs.View.{view as json_of};
 ghost use Rattle.gd_mql.specs.Names.{operator_view};
 ghost use Rattle.gd_compile.specs.Fault.{Finds};
+ghost use Rattle.gd_compile.specs.Looks.{item_steps, operand_steps, test_steps};
 ghost use Rattle.gd_plan.specs.Seen.{expects_view, test_view};
 ghost use Rattle.gd_compile.specs.Seen.{compared, compared_with, words_with, is_choice, is_words};
 
@@ -126,6 +127,7 @@ fn choice_test<L>(
 ) -> Result<Test, Unknown>
     ensures test { Finds test_view (defs.test_of (prims_of view.now) (expects_view expects)
         (map (λ name. name.now) path.now) query.one_of (json_of json.now)) result }
+    ensures ids { steps.new ≤ steps.old + operand_steps (expects_view expects) (json_of json.now) }
     ensures work { steps.new ≤ steps.old + 500 * item_count (json_of json.now) }
     ensures later { steps.old ≤ steps.new }
 {
@@ -150,6 +152,7 @@ fn datum_test<L>(
 ) -> Result<Test, Unknown>
     ensures test { Finds test_view (compared_with (prims_of view.now) (expects_view expects)
         (map (λ name. name.now) path.now) (operator_view operator) (json_of json.now)) result }
+    ensures ids { steps.new ≤ steps.old + item_steps (expects_view expects) (json_of json.now) }
     ensures work { steps.new ≤ steps.old + 500 }
     ensures later { steps.old ≤ steps.new }
 {
@@ -189,6 +192,8 @@ pub fn test_of<L>(
 ) -> Result<Test, Unknown>
     ensures test { Finds test_view (defs.test_of (prims_of view.now) (expects_view expects)
         (map (λ name. name.now) path.now) (operator_view operator) (json_of json.now)) result }
+    ensures ids { steps.new ≤ steps.old + test_steps (expects_view expects) (operator_view operator)
+        (json_of json.now) }
     ensures work { steps.new ≤ steps.old + 500 + 500 * item_count (json_of json.now) }
     ensures later { steps.old ≤ steps.new }
 {
@@ -226,6 +231,8 @@ pub fn checked_test<L>(
 ) -> Result<Test, Unknown>
     ensures test { Finds test_view (defs.checked_test (prims_of view.now) (expects_view expects)
         (map (λ name. name.now) path.now) (operator_view operator) (json_of json.now)) result }
+    ensures ids { steps.new ≤ steps.old + operand_steps (defs.tested_as (expects_view expects))
+        (json_of json.now) }
     ensures work { steps.new ≤ steps.old + 500 + 500 * item_count (json_of json.now) }
     ensures later { steps.old ≤ steps.new }
 {

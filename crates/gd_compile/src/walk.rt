@@ -1,9 +1,11 @@
 //! The clauses of a query, walked with their words looked up.
-ghost use Rattle.std.specs.Prelude.{◌≡◌, ◌≤◌, true, OnOk, is_none, map, option_map};
+ghost use Rattle.std.specs.Prelude.{◌≡◌, ◌≤◌, ◌+◌, true, OnOk, is_none, map, option_map};
 ghost use Rattle.std.specs.Option.{option_or};
 ghost use Rattle.gd_base.specs.Counts.{Rose};
 ghost use Rattle.gd_prim.specs.History.{prims_of};
 ghost use Rattle.gd_defs.specs.Asked as defs;
+ghost use Rattle.gd_defs.specs.Asked.Tests.{tested_as};
+ghost use Rattle.gd_defs.specs.Property.{expects_of};
 ghost use Rattle.gd_defs.specs.Query as query;
 ghost use Rattle.gd_tree.specs.Look.{text_of};
 ghost use Rattle.gd_json.specs.View.{view as json_of};
@@ -12,6 +14,8 @@ ghost use Rattle.gd_mql.specs.Clauses.{clause_view as clause_spelled, form_view,
 ghost use Rattle.gd_mql.specs.Clauses.{with_part};
 ghost use Rattle.gd_plan.specs.Asked.{put};
 ghost use Rattle.gd_compile.specs.Fault.{Finds};
+ghost use Rattle.gd_compile.specs.Looks.{operand_steps, looks, member_looks, form_looks};
+ghost use Rattle.gd_compile.specs.Looks.{below_looks, clause_looks};
 ghost use Rattle.gd_compile.specs.Walk.{Adds, Leads, asked_below, asked_clause, asked_member};
 ghost use Rattle.gd_compile.specs.Walk.{asks_property, clause_view, object_form, part_asks};
 ghost use Rattle.gd_compile.specs.Walk.{tested_form};
@@ -91,6 +95,8 @@ fn tested_form<L>(
     ensures form { Finds put (tested_form (prims_of view.now) (map (λ name. name.now) path.now)
         name.now.spelled.now property.now (operator_view operator) literal (json_of json.now))
         result }
+    ensures looks { steps.new ≤ steps.old + operand_steps
+        (tested_as (expects_of property.now.expected)) (json_of json.now) }
     ensures later { steps.old ≤ steps.new }
 {
     let expects = expects_of(property.expected);
@@ -113,6 +119,9 @@ fn add_sort<'a, L>(
         (query.sort_by (sort_view words.now) rest))
         (defs.asked (prims_of view.now) context (map (λ name. name.now) path.entry.now) rest)
         gathered.old gathered.new result }
+    ensures looks { (rest : query.Members) → steps.new + looks (prims_of view.now) context rest
+        ≤ steps.old + looks (prims_of view.now) context
+        (query.sort_by (sort_view words.now) rest) }
     ensures later { steps.old ≤ steps.new }
 {
     let below = longer(alloc, path, "sort")?;
@@ -136,6 +145,8 @@ fn asked<'a, L>(
     ensures asked { Finds clause_view
         (defs.asked (prims_of view.now) context (map (λ name. name.now) path.entry.now)
         (left members.entry.now)) result }
+    ensures looks { steps.new ≤ steps.old + looks (prims_of view.now) context
+        (left members.entry.now) }
     ensures later { steps.old ≤ steps.new }
 
     // Where a member asks a property, something was looked at.
@@ -175,6 +186,8 @@ fn add_part<'a, L>(
         (with_part part.entry.now rest))
         (defs.asked (prims_of view.now) context (map (λ name. name.now) path.entry.now) rest)
         gathered.old gathered.new result }
+    ensures looks { (rest : query.Members) → steps.new + looks (prims_of view.now) context rest
+        ≤ steps.old + looks (prims_of view.now) context (with_part part.entry.now rest) }
     ensures later { steps.old ≤ steps.new }
     ensures counted { OnOk result (part_asks part.entry.now ≡ true → Rose steps.old steps.new) }
 {
@@ -203,6 +216,8 @@ fn asked_member<'a, L>(
     ensures member { Leads (asked_member (prims_of view.now) context
         (map (λ name. name.now) path.entry.now) (name_view name.entry.now)
         (form_view form.entry.now)) result }
+    ensures looks { steps.new ≤ steps.old + member_looks (prims_of view.now) context
+        (name_view name.entry.now) (form_view form.entry.now) }
     ensures later { steps.old ≤ steps.new }
     ensures counted { OnOk result (is_none (defs.own_of name.entry.now.word.now) ≡ true
         → Rose steps.old steps.new) }
@@ -230,6 +245,8 @@ fn asked_form<'a, L>(
     ensures form { Finds put (defs.asked_form (prims_of view.now)
         (map (λ name. name.now) path.entry.now) (name_view name.entry.now) property.now
         (form_view form.entry.now)) result }
+    ensures looks { steps.new ≤ steps.old + form_looks (prims_of view.now) property.now.expected
+        (form_view form.entry.now) }
     ensures later { steps.old ≤ steps.new }
 {
     match form {
@@ -285,6 +302,8 @@ fn asked_object<'a, L>(
     ensures form { Finds put (object_form (prims_of view.now)
         (map (λ name. name.now) path.entry.now) name.entry.now.spelled.now property.now
         (clause_spelled clause.entry.now) listed) result }
+    ensures looks { steps.new ≤ steps.old + below_looks (prims_of view.now) property.now.expected
+        (clause_spelled clause.entry.now).1 }
     ensures later { steps.old ≤ steps.new }
 {
     let below = asked_below(alloc, view, path, property, clause, steps)?;
@@ -312,6 +331,8 @@ fn asked_below<'a, L>(
     ensures below { Finds clause_view
         (asked_below (prims_of view.now) (map (λ name. name.now) path.entry.now) property.now
         (clause_spelled clause.entry.now).1) result }
+    ensures looks { steps.new ≤ steps.old + below_looks (prims_of view.now) property.now.expected
+        (clause_spelled clause.entry.now).1 }
     ensures later { steps.old ≤ steps.new }
 {
     let expects = expects_of(property.expected);
@@ -336,6 +357,8 @@ pub(crate) fn asked_clause<'a, L>(
     ensures asked { Finds clause_view
         (asked_clause (prims_of view.now) above (map (λ name. name.now) path.entry.now)
         (clause_spelled clause.entry.now).1) result }
+    ensures looks { steps.new ≤ steps.old + clause_looks (prims_of view.now) above
+        (clause_spelled clause.entry.now).1 }
     ensures later { steps.old ≤ steps.new }
     ensures counted { OnOk result (asks_property (clause_spelled clause.entry.now).1 ≡ true
         → Rose steps.old steps.new) }

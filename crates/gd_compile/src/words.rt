@@ -1,5 +1,6 @@
 //! The words of members: what is computed, and which property is asked for.
-ghost use Rattle.std.specs.Prelude.{◌≡◌, ◌≤◌, ◌+◌, ◌*◌, Ok, IsOk, map, option_map, codes};
+ghost use Rattle.std.specs.Prelude.{◌≡◌, ◌≤◌, ◌+◌, ◌*◌, Ok, Some, IfOk, IsOk, map};
+ghost use Rattle.std.specs.Prelude.{option_map, codes};
 ghost use Rattle.std.specs.Prelude.{if◌then◌else◌};
 ghost use Rattle.gd_base.specs.Counts.{Rose};
 ghost use Rattle.gd_prim.specs.History.{prims_of};
@@ -11,6 +12,7 @@ ghost use Rattle.gd_json.specs.View.{view as json_of};
 ghost use Rattle.gd_tree.specs.Look.{item_count};
 ghost use Rattle.gd_mql.specs.Names.{operator_view, name_view};
 ghost use Rattle.gd_compile.specs.Fault.{Finds};
+ghost use Rattle.gd_compile.specs.Looks.{context_steps, member_steps, own_steps, turned_steps};
 ghost use Rattle.gd_compile.specs.Spoken.{language_steps, object_named};
 ghost use Rattle.gd_plan.specs.Seen.{expects_view, test_view};
 ghost use Rattle.gd_plan.specs.Seen.{own_view};
@@ -184,6 +186,8 @@ pub fn own_test<L>(
     ensures test { Finds test_view (defs.own_test (prims_of view.now)
         (map (λ name. name.now) path.now) (own_view own) (operator_view operator)
         (json_of json.now)) result }
+    ensures looks { steps.new ≤ steps.old + own_steps (prims_of view.now) (own_view own)
+        (operator_view operator) (json_of json.now) }
     ensures work { steps.new ≤ steps.old + 500 + 500 * item_count
         (json_of json.now) + language_steps (prims_of view.now) (own_view own)
         (object_named (prims_of view.now) (json_of json.now)) }
@@ -210,6 +214,8 @@ pub fn context_of<L>(
     ensures context { Finds (λ context. context)
         (defs.context_of (prims_of view.now) above (option_map (λ text. text.now) type_text.entry))
         result }
+    ensures looks { steps.new ≤ steps.old + context_steps
+        (option_map (λ text. text.now) type_text.entry) }
     ensures work { steps.new ≤ steps.old + 500 }
     ensures later { steps.old ≤ steps.new }
 {
@@ -223,6 +229,8 @@ pub fn context_of<L>(
 fn is_reversed_value<L>(view: &View<'_>, named: &Named, steps: &mut Steps<L>) -> bool
     ensures reversed { result ≡ property.is_reversed_value (prims_of view.now) named.now.object
         named.now.property }
+    ensures looks { steps.new ≤ steps.old + turned_steps (prims_of view.now)
+        (Some named.now.object) (Some named.now.property) }
     ensures later { steps.old ≤ steps.new }
 {
     named.property.reversed && holds_values(expects_of(expected_type(view, named.object, steps)))
@@ -244,6 +252,12 @@ pub fn member_property<L>(
     ensures property { Finds (λ p. p)
         (defs.member_property (prims_of view.now) context (map (λ name. name.now) path.now)
         (name_view name.now)) result }
+
+    // It is the property that the word asks for.
+    ensures named { IfOk result (λ p. property.property (prims_of view.now) context
+        name.now.reversed name.now.word.now ≡ Some p) }
+    ensures looks { steps.new ≤ steps.old + member_steps (prims_of view.now) context
+        name.now.reversed name.now.word.now }
     ensures later { steps.old ≤ steps.new }
     ensures counted { IsOk result → Rose steps.old steps.new }
 {
@@ -265,6 +279,9 @@ fn unless_reversed<L>(
         (if property.is_reversed_value (prims_of view.now) named.now.object named.now.property
         then defs.bad query.value_reversed (map (λ name. name.now) path.now) else Ok
         named.now.property) result }
+    ensures same { IfOk result (λ p. p ≡ named.now.property) }
+    ensures looks { steps.new ≤ steps.old + turned_steps (prims_of view.now)
+        (Some named.now.object) (Some named.now.property) }
     ensures later { steps.old ≤ steps.new }
 {
     if is_reversed_value(view, named, steps) {

@@ -10,7 +10,7 @@ ghost use Rattle.gd_prim.specs.History.{prims_of};
 ghost use Rattle.gd_defs.specs.Cost.{said_of, word_cost};
 ghost use Rattle.gd_defs.specs.Ids as ids;
 ghost use Rattle.gd_defs.specs.Property as defined;
-ghost use Rattle.gd_resolve.specs.Asked.{property_asked, word_keys};
+ghost use Rattle.gd_resolve.specs.Asked.{property_asked, property_steps, word_keys};
 
 use crate::fault::ResolveFault;
 use crate::ids::{key_leads, named_object};
@@ -130,9 +130,9 @@ fn property_object<L>(
 ) -> Result<Option<Id>, Memory>
     ensures object { IfOk result (λ object. object ≡ defined.property_object (prims_of view.now)
         context word.now) }
-    ensures work { IfOk result (λ object. steps.new ≤ steps.old + 28 + 30 * word_keys
+    ensures work { steps.new ≤ steps.old + 28 + 30 * word_keys
         word.now + 4 * said_of (prims_of view.now)
-        (defined.word_object (prims_of view.now) context word.now)) }
+        (defined.word_object (prims_of view.now) context word.now) }
     ensures later { steps.old ≤ steps.new }
     ensures counted { IfOk result (λ object. IsSome object → Rose steps.old steps.new) }
 {
@@ -178,6 +178,9 @@ pub fn named_property<L>(
         ≡ defined.property_object (prims_of view.now) context word.now) }
     ensures property { IfOk result (λ named. option_map (λ n. n.property) named
         ≡ defined.property (prims_of view.now) context reversed word.now) }
+
+    // With what is found the property is told, and of what the word leads to no more is looked at.
+    ensures work { steps.new ≤ steps.old + property_steps (prims_of view.now) context word.now }
 
     // So that what the property expects may be looked up once more.
     ensures cost { IfOk result (λ named. IfSome named
