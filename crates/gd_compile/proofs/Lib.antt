@@ -1,8 +1,10 @@
 pub mod Counted
 pub mod Gathers
+pub mod Looked
 pub mod Paid
 pub mod Plans
 pub mod Right
+pub mod Rooms
 pub mod SortWords
 pub mod Sorts
 pub mod Spoken

@@ -1,10 +1,10 @@
 -- The cost of a query also pays for choosing among the sets of links that its literals name.
-use Rattle.std.proofs.Common.{◌≡◌, ◌∙◌, ℕ, ◌+◌, ◌*◌, ◌≤◌, List, [], ◌∷◌, ◌++◌, length, Bool, true, false, ◌&&◌, ◌||◌, Option, Some, None, is_some, Result, Ok, refl, sym, ap, subst, arith, codes}
+use Rattle.std.proofs.Common.{◌≡◌, ◌∙◌, ℕ, ◌+◌, ◌*◌, ◌≤◌, List, [], ◌∷◌, ◌++◌, length, Bool, true, false, ◌&&◌, ◌||◌, Option, Some, None, is_some, Result, Ok, Err, IfOk, MatchResult, refl, sym, ap, subst, arith, codes}
 use Rattle.std.specs.Prelude.{sum_by, if◌then◌else◌, option_map, bytes_eq}
 use Rattle.std.specs.Option.{option_map_or}
 use Rattle.std.proofs.lemmas.Bool.{false≢true}
 use Rattle.gd_grammar.specs.Chain.{◌>>=◌}
-use Rattle.gd_grammar.proofs.Steps.{steps, ok_same, not_ok, some_same, some_given}
+use Rattle.gd_grammar.proofs.Steps.{steps, ok_same, not_ok, some_same}
 use Rattle.gd_prim.specs.declared.Primitive.{Primitive}
 use Rattle.gd_prim.specs.declared.End.TheVariants.{Left}
 use Rattle.gd_prim.specs.Builtin.{expected_place}
@@ -18,10 +18,15 @@ use Rattle.gd_defs.specs.Asked as defs
 use Rattle.gd_defs.specs.Asked.Tests.{checked_test, tested_as}
 use Rattle.gd_defs.specs.Asked.Forms.{ask_form, operand_form, clause_form}
 use Rattle.gd_runs.specs.RootSets.{sets_by_link}
+use Rattle.gd_plan.specs.Asked.{asked_view}
+use Rattle.gd_plan.specs.declared.asked.Asked.{Asked as Found}
+use Rattle.gd_compile.specs.declared.fault.Unknown.{Unknown}
+use Rattle.gd_compile.specs.declared.fault.Unknown.TheVariants as fault
 use Rattle.gd_template_laws.proofs.AskedMembers.{computed}
 use Rattle.gd_resolve.specs.Asked.{property_steps}
 use Rattle.gd_resolve.proofs.Costs.{found_steps, word_least, expects_two}
 use Rattle.gd_compile.specs.Looks.{operand_steps, turned_steps, member_steps, sort_steps, context_steps, looks, form_looks, member_looks, clause_looks, is_system, expects_types}
+use Rattle.gd_compile.proofs.Looked.{context_is}
 use Rattle.gd_compile.proofs.Right.{IsNamed, AreRight, IsRight}
 use Rattle.gd_compile.proofs.Paid.{own_type, type_first, types_system, member_cost, words_same, one_paid, front_paid, sort_front, sorts_paid, members_paid, form_paid, turned_least}
 
@@ -283,23 +288,13 @@ members_room prims told c path (query.member n f ms) d right is = by (λ e behin
 
 -- ---- a query
 
--- the context type of the root
-context_same : (prims : List Primitive) (o : Option (List ℕ)) (ms : query.Members) (t : Option ℕ) → defs.type_text ms ≡ o → defs.context_of prims None o ≡ Ok t → context prims None ms ≡ t
-context_same prims None ms t is made = by is
-  where
-    by : defs.type_text ms ≡ None → context prims None ms ≡ t
-    by is = rw is (ok_same None t made)
-context_same prims (Some word) ms t is made =
-    let found = steps (defs.place_named prims word) (λ o. Ok (Some o)) t made in
-    rw is (some_given (Rattle.gd_defs.specs.Ids.object_of prims word) _ found.value found.gave ∙ ok_same (Some found.value) t found.then_gave)
-
 -- LAW: what a query costs pays for looking it up, and for choosing among the sets of links that it names
 pub query_room : (prims : List Primitive) (written : query.Query) (q : defs.Asked) → expects_types prims ≡ true → AreRight written.members → defs.asked_query prims written ≡ Ok q
     → clause_looks prims None written.members + choosing prims q.members ≤ 64 * resolving prims written
 query_room prims written q told right is =
     let one = steps (defs.context_of prims None (defs.type_text written.members)) (λ t. defs.asked prims t [] written.members >>= λ c. Ok (made c)) q is in
     let two = steps (defs.asked prims one.value [] written.members) (λ c. Ok (made c)) q one.then_gave in
-    let same : context prims None written.members ≡ one.value = context_same prims (defs.type_text written.members) written.members one.value refl one.gave in
+    let same : context prims None written.members ≡ one.value = context_is prims None (defs.type_text written.members) written.members one.value refl one.gave in
     let gave : defs.asked prims (context prims None written.members) [] written.members ≡ Ok two.value = subst (λ t. defs.asked prims t [] written.members ≡ Ok two.value) (sym same) two.gave in
     let all = members_room prims told (context prims None written.members) [] written.members two.value right gave in
     subst (λ (q : defs.Asked). clause_looks prims None written.members + choosing prims q.members ≤ 64 * resolving prims written) (ok_same (made two.value) q two.then_gave)
@@ -324,3 +319,20 @@ query_paid prims written told right = turned_round (context_steps (defs.type_tex
   where
     turned_round : (a b m : ℕ) → b + a ≤ m → a + b ≤ m
     turned_round a b m le = omega (arith, le)
+
+-- ---- a plan
+
+pub looked : (a b l m : ℕ) → b ≤ a + l → l ≤ m → b ≤ a + m
+looked a b l m one two = omega (arith, one, two)
+
+-- a plan that was made leaves room for choosing
+pub plan_room : (prims : List Primitive) (written : query.Query) (q : Found) (r : Result Found Unknown) (a b : ℕ) (asked : query.Query) → AreRight written.members → written ≡ asked → defs.asked_query prims written ≡ Ok (asked_view q)
+    → b ≤ a + clause_looks prims None written.members → MatchResult r (λ plan. plan ≡ q) (λ refused. refused ≡ fault.Memory)
+    → IfOk r (λ plan. expects_types prims ≡ true → b + 24 * length (sets_by_link prims (asked_view plan).members) ≤ a + 64 * resolving prims asked)
+plan_room prims written q (Ok plan) a b asked right same is looks made = λ told.
+    subst (λ (w : query.Query). b + 24 * length (sets_by_link prims (asked_view plan).members) ≤ a + 64 * resolving prims w) same
+    (subst (λ (p : Found). b + 24 * length (sets_by_link prims (asked_view p).members) ≤ a + 64 * resolving prims written) (sym made) (go _ _ _ looks (query_room prims written (asked_view q) told right is)))
+  where
+    go : (l n m : ℕ) → b ≤ a + l → l + n ≤ m → b + n ≤ a + m
+    go l n m one two = omega (arith, one, two)
+plan_room prims written q (Err refused) a b asked right same is looks made = tt

@@ -34,7 +34,7 @@ datum_named prims path (list js) d is = absurd (cc)
 datum_named prims path (object ms) d is = absurd (cc)
 
 -- so is that of a test of a language
-test_named : (prims : List Primitive) (path : List (List ℕ)) (operator : query.Operator) (j : Json) (t : Test) → takes its_lang operator ≡ true → test_of prims an_object_of_system path operator j ≡ Ok t → asked_object t ≡ object_named prims j
+pub test_named : (prims : List Primitive) (path : List (List ℕ)) (operator : query.Operator) (j : Json) (t : Test) → takes its_lang operator ≡ true → test_of prims an_object_of_system path operator j ≡ Ok t → asked_object t ≡ object_named prims j
 test_named prims path query.no_operator j t allowed is =
     let step = steps (operand_datum prims an_object_of_system path j) (λ d. Ok (equals d)) t is in
     ap asked_object (sym (ok_same (equals step.value) t step.then_gave)) ∙ datum_named prims path j step.value step.gave

@@ -99,6 +99,7 @@ fn key_datum(alloc: Global, path: &[&str], json: &Json) -> Result<Datum, Unknown
 }
 
 /// The datum of the object whose id a JSON value spells.
+#[tactic(auto, using(crate::proofs::Looked::text_steps))]
 fn object_datum<L>(
     alloc: Global,
     view: &View<'_>,

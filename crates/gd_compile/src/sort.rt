@@ -56,7 +56,7 @@ fn value_key(
 /// `path` has the names that lead to the directive `sort` from the root down, its own among them.
 /// `NoSuchProperty` with the path: the word leads to no property. `BadQuery` with `BadSort` and the
 /// path: it is `id` or leads to another property. `Memory`: an allocation was refused.
-#[tactic(auto, using(crate::proofs::Sorts::value_found))]
+#[tactic(auto, using(crate::proofs::Sorts::value_found, crate::proofs::Looked::sort_looked))]
 pub fn sort_key<L>(
     alloc: Global,
     view: &View<'_>,

@@ -116,7 +116,7 @@ fn words_test(alloc: Global, path: &[&str], json: &Json) -> Result<Test, Unknown
 }
 
 /// The test that `|=` makes with its operand.
-#[tactic(auto, using(gd_json::proofs::Parts::list_count))]
+#[tactic(auto, using(gd_json::proofs::Parts::list_count, crate::proofs::Looked::list_steps))]
 fn choice_test<L>(
     alloc: Global,
     view: &View<'_>,
@@ -180,7 +180,7 @@ fn is_words(operator: Operator) -> bool
 /// is no id or names none. `BadQuery` with `BadValue` and the path: the operand has another form,
 /// or is no value or key. `Memory`: an allocation was refused. It looks at no more than 500 things
 /// for each operand.
-#[tactic(auto, using(crate::proofs::Tests::choice_found, crate::proofs::Tests::words_found, crate::proofs::Tests::datum_found))]
+#[tactic(auto, using(crate::proofs::Tests::choice_found, crate::proofs::Tests::words_found, crate::proofs::Tests::datum_found, crate::proofs::Looked::choice_steps, crate::proofs::Looked::datum_steps))]
 pub fn test_of<L>(
     alloc: Global,
     view: &View<'_>,
@@ -220,6 +220,7 @@ fn tested_as(expects: Expects) -> Expects
 /// name is tested, which is a text. `BadQuery` with `BadOperator` and the path: the operator does
 /// not stand on such answers; else what `test_of` says. `Memory`: an allocation was refused. It
 /// looks at no more than 500 things for each operand.
+#[tactic(auto, using(crate::proofs::Looked::ids_looked))]
 pub fn checked_test<L>(
     alloc: Global,
     view: &View<'_>,

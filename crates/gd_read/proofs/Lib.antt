@@ -15,3 +15,4 @@ pub mod RowsLeft
 pub mod Going
 pub mod Together
 pub mod Paid
+pub mod Starts

@@ -13,6 +13,7 @@ pub mod Several
 pub mod Reading
 pub mod Left
 pub mod Session
+pub mod Start
 pub mod Lightness
 pub mod Heavy
 pub mod Paid

@@ -1,17 +1,23 @@
 //! The reading of one query, which is suspended between slices.
-ghost use Rattle.std.specs.Prelude.{◌≡◌, ◌≢◌, ◌+◌, ◌-◌, ◌<◌, ◌≤◌, ◌^◌, ℕ, [], true, Some, Ok, Err};
+ghost use Rattle.std.specs.Prelude.{◌≡◌, ◌≢◌, ◌+◌, ◌*◌, ◌-◌, ◌<◌, ◌≤◌, ◌^◌, ℕ, [], true, Some, Ok, Err};
 ghost use Rattle.std.specs.Prelude.{length, take, min, option_map, MatchResult, MatchOption, IfOk};
 ghost use Rattle.std.specs.Prelude.{IfErr, IsNone};
 ghost use Rattle.gd_base.specs.Counts.{Rose};
 ghost use Rattle.gd_prim.specs.History.{prims_of};
 ghost use Rattle.gd_defs.specs.Asked.{asked_query};
+ghost use Rattle.gd_defs.specs.Cost.{resolving};
+ghost use Rattle.gd_defs.specs.Plan.{template_of};
 ghost use Rattle.gd_defs.specs.Reply.{unknown_refusal};
 ghost use Rattle.gd_runs.specs.Core as core;
-ghost use Rattle.gd_runs.specs.Pace.{DueOf, first_number};
+ghost use Rattle.gd_runs.specs.Pace.{DueOf, begin_steps, first_number};
 ghost use Rattle.gd_runs.specs.Request.{page_after, one_query};
 ghost use Rattle.gd_mql.specs.Requests.{cursor_view, read_view};
 ghost use Rattle.gd_plan.specs.Asked.{asked_view};
 ghost use Rattle.gd_compile.specs.Fault.{unknown_of};
+ghost use Rattle.gd_compile.specs.Looks.{expects_types};
+ghost use Rattle.gd_runs.specs.RootSets.{sets_by_link};
+ghost use Rattle.gd_roots.specs.Sets.{numbered};
+ghost use Rattle.gd_template.specs.Built.{its_clauses};
 ghost use Rattle.gd_frozen.specs.Meant.{meant};
 ghost use Rattle.gd_window.specs.Kept.{HasSeen};
 ghost use Rattle.gd_read.specs.Marked.{mark_of};
@@ -24,6 +30,7 @@ ghost use Rattle.gd_read.specs.Stages.{IsAsked};
 ghost use Rattle.gd_read.specs.Query.{one_view, QueryGoes, owed_answer, Gives, is_unanswered};
 ghost use Rattle.gd_read.specs.Left.{IsPastIds, query_left};
 ghost use Rattle.gd_read.specs.Paid.{QueryIsPaid};
+ghost use Rattle.gd_read.specs.Start.{BeginsWithin, StartsWithin};
 
 use crate::fault::ReadFault;
 use crate::first::first_stage;
@@ -141,6 +148,11 @@ pub(crate) fn plan_at<L>(
         (λ fault. fault ≢ ReadFault.Memory → (latest : ℕ)
         → IsMeaningless (length view.now)
         (asked_query (prims_of view.now) (read_view request.now).query) (fault_at latest fault)) }
+    ensures work { expects_types (prims_of view.now) ≡ true → steps.new
+        ≤ steps.old + 64 * resolving (prims_of view.now) (read_view request.now).query }
+    ensures room { IfOk result (λ plan. expects_types (prims_of view.now) ≡ true
+        → steps.new + 24 * length (sets_by_link (prims_of view.now) (asked_view plan).members)
+        ≤ steps.old + 64 * resolving (prims_of view.now) (read_view request.now).query) }
     ensures offset { IfErr result (λ fault. HasOffset fault) }
     ensures later { steps.old ≤ steps.new }
 {
@@ -166,6 +178,8 @@ fn begun_with<L>(
     ensures subject { IfOk result (λ reading. reading.subject ≡ subject) }
     ensures going { IfOk result (λ reading. QueryGoes view.now reading) }
     ensures paid { IfOk result (λ reading. QueryIsPaid view.now reading) }
+    ensures work { steps.new ≤ steps.old + 24 * length (numbered (prims_of view.now) 0
+        (its_clauses (template_of (asked_view plan)))) }
     ensures later { steps.old ≤ steps.new }
 {
     match first_stage(alloc, view, plan, steps) {
@@ -194,6 +208,8 @@ fn begun<L>(
     ensures subject { IfOk result (λ reading. reading.subject ≡ subject) }
     ensures going { IfOk result (λ reading. QueryGoes view.now reading) }
     ensures paid { IfOk result (λ reading. QueryIsPaid view.now reading) }
+    ensures work { steps.new ≤ steps.old + 24 * length (numbered (prims_of view.now) 0
+        (its_clauses (template_of (asked_view plan)))) }
     ensures later { steps.old ≤ steps.new }
 {
     match window_behind(alloc, view, plan.asked(), &subject.after) {
@@ -225,6 +241,8 @@ pub(crate) fn planned<L>(
     }) }
     ensures going { IfOk result (λ reading. QueryGoes view.now reading) }
     ensures paid { IfOk result (λ reading. QueryIsPaid view.now reading) }
+    ensures work { steps.new ≤ steps.old + 24 * length (numbered (prims_of view.now) 0
+        (its_clauses (template_of (asked_view plan)))) }
     ensures later { steps.old ≤ steps.new }
 {
     // Each primitive below the end may hold its value.
@@ -253,6 +271,8 @@ fn begin_at<L>(
         (asked_query (prims_of view.now) (read_view request).query) ≡ Err (fault_at latest fault)) }
     ensures going { IfOk result (λ reading. QueryGoes view.now reading) }
     ensures paid { IfOk result (λ reading. QueryIsPaid view.now reading) }
+    ensures work { StartsWithin (prims_of view.now)
+        (begin_steps (prims_of view.now) (read_view request).query) steps.old steps.new }
     ensures offset { IfErr result (λ fault. HasOffset fault) }
     ensures later { steps.old ≤ steps.new }
 {
@@ -295,6 +315,10 @@ impl QueryReading {
             ≤ first_number due view.now (one_view reading)) }
         ensures below { IfOk result (λ reading. (one_view reading).dateline ≤ length view.now) }
         ensures offset { IfErr result (λ fault. HasOffset fault) }
+
+        // It takes no more steps than the bound on beginning it, whatever it comes to: 64 for each
+        // that its words and ids cost at the dateline at which it begins, and 64.
+        ensures work { BeginsWithin view.now (one_query (read_view request)) steps.old steps.new }
         ensures later { steps.old ≤ steps.new }
     {
         let latest = view.dateline();

@@ -9,6 +9,7 @@ ghost use Rattle.gd_read.specs.Query.{one_view, QueryGoes};
 ghost use Rattle.gd_read.specs.Reading.{reading_view, IsGoing, Replies, is_unfinished};
 ghost use Rattle.gd_read.specs.Left.{IsPastIds, query_left, reading_left};
 ghost use Rattle.gd_read.specs.Several.{asks_several};
+ghost use Rattle.gd_read.specs.Start.{BeginsWithin};
 
 use crate::fault::ReadFault;
 use crate::query::{QueryReading, Turn};
@@ -98,6 +99,10 @@ impl Reading {
             ≤ first_number due view.now (reading_view reading)) }
         ensures below { IfOk result (λ reading. (reading_view reading).dateline ≤ length view.now) }
         ensures offset { IfErr result (λ fault. HasOffset fault) }
+
+        // It takes no more steps than the bound on beginning its query, or its queries together,
+        // whatever it comes to.
+        ensures work { BeginsWithin view.now (read_set_view request) steps.old steps.new }
         ensures later { steps.old ≤ steps.new }
     {
         match request {

@@ -1,5 +1,5 @@
 //! What a session holds of its reading, without a seat.
-ghost use Rattle.std.specs.Prelude.{◌≡◌, ◌≢◌, ◌+◌, ◌-◌, ◌<◌, ◌≤◌, ◌^◌, ℕ, true, None, Some, length};
+ghost use Rattle.std.specs.Prelude.{◌≡◌, ◌≢◌, ◌+◌, ◌-◌, ◌<◌, ◌≤◌, ◌^◌, ℕ, true, None, Some, length, take};
 ghost use Rattle.std.specs.Prelude.{min, option_map, IfOk, IfErr, IfSome};
 ghost use Rattle.gd_mql.specs.Requests.{read_set_view};
 ghost use Rattle.gd_runs.specs.Core as core;
@@ -8,6 +8,7 @@ ghost use Rattle.gd_read.specs.Left.{IsPastIds};
 ghost use Rattle.gd_read.specs.Reading.{reading_view, Replies, is_unfinished};
 ghost use Rattle.gd_read.specs.Session.{reads, GoesOn, HoldsGoing, left_of, session_left, BeginsAs};
 ghost use Rattle.gd_read.specs.Session.{SlicesAs, holds_several};
+ghost use Rattle.gd_read.specs.Start.{BeginsWithin};
 
 use crate::fault::ReadFault;
 use crate::reading::{Progress, Reading};
@@ -106,6 +107,11 @@ impl SessionState {
         // No more is left of it than the first number of the definitions.
         ensures first { IfOk result (λ state. (n : ℕ) (due : DueOf) → IfSome (reads state)
             (λ r. session_left n store.now state ≤ first_number due store.now r)) }
+
+        // It takes no more steps than the bound on beginning its query, or its queries together,
+        // over the requests that are shown.
+        ensures work { BeginsWithin (take shown store.now) (read_set_view request) steps.old
+            steps.new }
         ensures later { steps.old ≤ steps.new }
     {
         let view = store.view(shown);

@@ -7,6 +7,8 @@ use Rattle.gd_mql.specs.declared.clause.Part.{Part}
 use Rattle.gd_plan.specs.Seen.{expects_view}
 use Rattle.gd_plan.specs.Asked.{put}
 use Rattle.gd_compile.specs.Walk.{in_front, led}
+use Rattle.gd_compile.specs.Looks.{value_looks, part_looks}
+use Rattle.gd_compile.proofs.Looked.{part_front, part_passed}
 use Rattle.gd_compile.proofs.Walks.{part_added}
 use Rattle.gd_compile.proofs.own.add_value_part.Goals as goal
 
@@ -24,3 +26,31 @@ returns-in_ok-push-in-Member-clause-part g c = λ rest.
     subst (λ (p : List (List ℕ)). defs.value_member prims e p n f others ≡ led (put m) others) there (c.in_ok-member-in-Member.ensures.member others) in
     part_added (defs.value_members prims e path (with_part c.args.part.now rest)) others (λ d. (put m d.0, d.1)) (in_front c.args.gathered.now) (in_front c.push.new.self)
     (ap (λ (p : Part). defs.value_members prims e path (with_part p rest)) c.in-Member.is ∙ found) c.in_ok-push-in-Member.ensures
+
+pub returns-in_ok-push-in-Member-clause-looks : goal.returns-in_ok-push-in-Member-clause-looks
+returns-in_ok-push-in-Member-clause-looks g c = λ rest.
+    let prims = prims_of c.args.view.now in
+    let e = expects_view c.args.expects in
+    part_front c.args.steps.now c.value_member.new.steps (part_looks prims e (name_view c.in-Member.name) (form_view c.in-Member.form)) (value_looks prims e rest) (value_looks prims e (with_part c.args.part.now rest))
+    (ap (λ (p : Part). value_looks prims e (with_part p rest)) c.in-Member.is) c.value_member.ensures.looks
+
+pub returns-in_err-member-in-Member-clause-looks : goal.returns-in_err-member-in-Member-clause-looks
+returns-in_err-member-in-Member-clause-looks g c = λ rest.
+    let prims = prims_of c.args.view.now in
+    let e = expects_view c.args.expects in
+    part_front c.args.steps.now c.value_member.new.steps (part_looks prims e (name_view c.in-Member.name) (form_view c.in-Member.form)) (value_looks prims e rest) (value_looks prims e (with_part c.args.part.now rest))
+    (ap (λ (p : Part). value_looks prims e (with_part p rest)) c.in-Member.is) c.value_member.ensures.looks
+
+pub returns-in_err-push-in-Member-clause-looks : goal.returns-in_err-push-in-Member-clause-looks
+returns-in_err-push-in-Member-clause-looks g c = λ rest.
+    let prims = prims_of c.args.view.now in
+    let e = expects_view c.args.expects in
+    part_front c.args.steps.now c.value_member.new.steps (part_looks prims e (name_view c.in-Member.name) (form_view c.in-Member.form)) (value_looks prims e rest) (value_looks prims e (with_part c.args.part.now rest))
+    (ap (λ (p : Part). value_looks prims e (with_part p rest)) c.in-Member.is) c.value_member.ensures.looks
+
+pub returns-in_err-below-in-Member-clause-looks : goal.returns-in_err-below-in-Member-clause-looks
+returns-in_err-below-in-Member-clause-looks g c = λ rest.
+    let prims = prims_of c.args.view.now in
+    let e = expects_view c.args.expects in
+    part_passed c.args.steps.now (part_looks prims e (name_view c.in-Member.name) (form_view c.in-Member.form)) (value_looks prims e rest) (value_looks prims e (with_part c.args.part.now rest))
+    (ap (λ (p : Part). value_looks prims e (with_part p rest)) c.in-Member.is)

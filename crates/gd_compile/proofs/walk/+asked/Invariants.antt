@@ -5,6 +5,7 @@ use Rattle.gd_prim.specs.History.{prims_of}
 use Rattle.gd_defs.specs.Asked as defs
 use Rattle.gd_form_laws.specs.Spelled.{forms_depth, form_depth}
 use Rattle.gd_mql.specs.Clauses.{clause_view, form_view, left}
+use Rattle.gd_compile.specs.Looks.{looks}
 use Rattle.gd_compile.specs.Walk.{asks_property, in_front, parts_count, part_depth}
 use Rattle.gd_compile.proofs.walk.+asked.Given as goal
 
@@ -13,6 +14,7 @@ invariant-asked-loop-part g l = record {
   whole : defs.asked (prims_of l.view) l.context (map (λ (n : Bor (List ℕ)). n.now) l.path) (left l.members)
       ≡ (defs.asked (prims_of l.view) l.context (map (λ (n : Bor (List ℕ)). n.now) l.path) (left l.rest) >>= λ c. Ok (in_front l.gathered c));
   depth : forms_depth (left l.rest) ≤ forms_depth (left l.members);
+  looks : l.steps + looks (prims_of l.view) l.context (left l.rest) ≤ l.initial.steps + looks (prims_of l.view) l.context (left l.members);
   later : l.initial.steps ≤ l.steps;
   counted : asks_property (left l.members) ≡ true → (asks_property (left l.rest) ≡ true) ⊎ Rose l.initial.steps l.steps;
 }

@@ -1,8 +1,10 @@
-use Rattle.std.proofs.Common.{subst, sym, Err, length, ◌≡◌, ◌≤◌}
+use Rattle.std.proofs.Common.{subst, sym, Err, length, option_map, ◌≡◌, ◌≤◌}
 use Rattle.gd_mql.specs.Requests.{cursor_view, read_view}
 use Rattle.gd_read.specs.Begun.{asked_from, fault_at}
 use Rattle.gd_read.proofs.Begun.{begins_err, begins_ok}
+use Rattle.gd_frozen.specs.Meant.{meant}
 use Rattle.gd_read.proofs.Paid.{first_paid}
+use Rattle.gd_read.proofs.Starts.{starts_at, starts_none}
 use Rattle.gd_read.proofs.query.QueryReading.begin.Goals as goal
 
 pub returns-in-Err-clause-begun : goal.returns-in-Err-clause-begun
@@ -19,3 +21,11 @@ pub returns-in-Ok-clause-first : goal.returns-in-Ok-clause-first
 returns-in-Ok-clause-first g c =
     first_paid c.args.view.now c.earlier-below.result c.dateline_behind.result c.begin_at.result c.earlier-below.ensures
     (subst (λ n. c.dateline_behind.result ≤ n) c.dateline-latest.ensures.dateline (subst (λ n. n ≤ c.dateline-latest.result) (sym c.dateline_behind.ensures) c.in-Ok.ensures.below)) c.begin_at.ensures.going c.begin_at.ensures.paid
+
+pub returns-in-Err-clause-work : goal.returns-in-Err-clause-work
+returns-in-Err-clause-work g c = starts_none c.args.view.now (read_view c.args.request) c.args.steps.now
+
+pub returns-in-Ok-clause-work : goal.returns-in-Ok-clause-work
+returns-in-Ok-clause-work g c =
+    starts_at c.args.view.now c.earlier-below.result c.dateline-latest.result c.dateline_behind.result (read_view c.args.request) (option_map meant c.in-Ok.after) c.args.steps.now c.begin_at.new.steps
+    c.dateline-latest.ensures.dateline c.in-Ok.ensures.given c.dateline_behind.ensures c.earlier-below.ensures c.begin_at.ensures.work
