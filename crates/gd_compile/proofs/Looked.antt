@@ -1,5 +1,5 @@
 -- What was looked up so far, and what is left of it.
-use Rattle.std.proofs.Common.{◌≡◌, ◌∙◌, ℕ, ◌+◌, ◌*◌, ◌≤◌, ◌<◌, suc, List, [], ◌∷◌, length, drop, get_or, Vec, Global, add-one, drop-cons, Bool, true, false, ◌&&◌, ◌||◌, Option, Some, None, Result, Ok, refl, sym, ap, subst, arith, codes}
+use Rattle.std.proofs.Common.{◌≡◌, ◌∙◌, ℕ, ◌+◌, ◌*◌, ◌≤◌, ◌<◌, suc, List, [], ◌∷◌, length, drop, get_or, Vec, Global, add-one, drop-cons, Bool, true, false, ◌&&◌, ◌||◌, Option, Some, None, Result, Ok, refl, sym, ap, subst, arith, rules, codes}
 use Rattle.std.specs.Prelude.{sum_by, is_some, if◌then◌else◌, bytes_eq}
 use Rattle.std.proofs.lemmas.Bool.{false≢true}
 use Rattle.std.proofs.lemmas.List.Sums.{sum_by-cons}
@@ -15,7 +15,7 @@ use Rattle.gd_defs.specs.Query.{is_word}
 use Rattle.gd_defs.specs.Property.{Property, Expects, a_value, a_key, an_object_of_system, a_plain_object, expects_of, holds_values, property, property_object}
 use Rattle.gd_defs.specs.Asked.{Own, its_id, its_guid, its_timestamp, its_link, its_value, its_namespace, its_lang, own_of, own_expects, takes, has_namespace, has_lang, asked_object, test_of, context_of, type_text, place_named}
 use Rattle.gd_json.specs.View.{view, items_view}
-use Rattle.gd_json.specs.declared.value.Json.{Json as Written, List as List', Text as Text'}
+use Rattle.gd_json.specs.declared.value.Json.{Json as Written, List as List', Text as Text', the_lemmas}
 use Rattle.gd_json.proofs.Parts.{view-List}
 use Rattle.gd_resolve.specs.Asked.{property_steps}
 use Rattle.gd_compile.specs.Looks.{item_steps, operand_steps, test_steps, language_looks, own_steps, own_looks, itself_looks, part_looks, turned_steps, member_steps, sort_steps, context_steps, computed_looks, value_looks, looks, form_looks, member_looks, clause_looks, below_looks}
@@ -30,9 +30,12 @@ use Rattle.gd_compile.proofs.Spoken.{test_named}
 pub operand_there : (ops : List Written) (k : ℕ) (j : Written) → k < length ops → j ≡ get_or ops k j → items_view (drop k ops) ≡ item (view j) (items_view (drop (k + 1) ops))
 operand_there ops k j there at = rw add-one (ap items_view (drop-cons ops k j there) ∙ ap (λ (x : Written). item (view x) (items_view (drop (suc k) ops))) (sym at))
 
+view-Text : (t : List ℕ) → view (Text' t) ≡ text t
+view-Text t = search (rules, the_lemmas)
+
 -- the text of an id
 pub text_steps : (t : List ℕ) (a b : ℕ) → b ≤ a + 30 * id_cost t → b ≤ a + item_steps a_plain_object (view (Text' t))
-text_steps t a b le = le
+text_steps t a b le = subst (λ (j : Json). b ≤ a + item_steps a_plain_object j) (sym (view-Text t)) le
 
 -- the operands of a list
 pub list_steps : (e : Expects) (v : Vec Written Global) (a b : ℕ) → b ≤ a + operand_steps e (list (items_view v.items)) → b ≤ a + operand_steps e (view (List' v))
