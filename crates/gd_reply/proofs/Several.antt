@@ -28,7 +28,8 @@ pieces d q l r c e = ap (λ zs. zs ++ e)
     ∙ append_assoc d q (l ++ (r ++ c))
     ∙ ap (λ zs. d ++ (q ++ (l ++ (r ++ zs)))) (sym (append-nil c)))
 
-line_is : (dateline line : ℕ) (j : Json) → ok_front_of dateline line ++ compact j ++ codes "}" ≡ ok_line dateline line j
+-- LAW: a reply line is what stands before the result, the text of the result and a brace
+pub line_is : (dateline line : ℕ) (j : Json) → ok_front_of dateline line ++ compact j ++ codes "}" ≡ ok_line dateline line j
 line_is dateline line j = ap (λ zs. codes "{\"code\":\"/api/status/ok\",\"dateline\":" ++ zs)
     (pieces (decimal dateline) (codes ",\"line\":") (decimal line) (codes ",\"result\":") (compact j) (codes "}"))
 

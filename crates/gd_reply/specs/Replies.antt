@@ -1,6 +1,7 @@
 -- Replies, and pieces of their lines.
-use Rattle.std.specs.Prelude.{ℕ, List, ◌++◌, codes, decimal, Result, Ok, Err}
+use Rattle.std.specs.Prelude.{ℕ, List, ◌++◌, codes, decimal, Option, None, Some, Result, Ok, Err}
 use Rattle.std.specs.Global.{Vec}
+use Rattle.gd_tree.specs.Json.{Json, compact}
 use Rattle.gd_base.specs.declared.memory.Memory.{Memory}
 use Rattle.gd_runs.specs.Explained.{memory_line, disk_line, late_line}
 use Rattle.gd_reply.specs.declared.reply.Failure.{Failure}
@@ -32,3 +33,18 @@ late_front entry = codes "{\"code\":\"/api/status/error\",\"error\":\"MemoryLate
 -- what stands before the result in the reply line of an answer
 abbrev pub ok_front_of : ℕ → ℕ → List ℕ
 ok_front_of dateline line = codes "{\"code\":\"/api/status/ok\",\"dateline\":" ++ decimal dateline ++ codes ",\"line\":" ++ decimal line ++ codes ",\"result\":"
+
+-- the same in the reply line of an answer with a cursor
+abbrev pub cursor_front_of : ℕ → ℕ → Json → List ℕ
+cursor_front_of dateline line cursor =
+    codes "{\"code\":\"/api/status/ok\",\"cursor\":" ++ compact cursor ++ codes ",\"dateline\":" ++ decimal dateline ++ codes ",\"line\":" ++ decimal line ++ codes ",\"result\":"
+
+-- the same, with the cursor where one is asked
+abbrev pub found_front : ℕ → ℕ → Option Json → List ℕ
+found_front dateline line None = ok_front_of dateline line
+found_front dateline line (Some cursor) = cursor_front_of dateline line cursor
+
+-- what stands before the result of an answer among others, with the cursor where one is asked
+abbrev pub item_front : Option Json → List ℕ
+item_front None = codes "{\"result\":"
+item_front (Some cursor) = codes "{\"cursor\":" ++ compact cursor ++ codes ",\"result\":"

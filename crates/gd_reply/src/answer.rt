@@ -1,29 +1,54 @@
 //! What a query comes to, and the reply lines of one and of several.
-ghost use Rattle.std.specs.Prelude.{◌≡◌, ◌<◌, ◌^◌, ◌∷◌, ◌++◌, [], List, map, codes, IfOk, OnOk};
+ghost use Rattle.std.specs.Prelude.{◌≡◌, ◌<◌, ◌^◌, ◌++◌, List, map, option_map, IfOk, OnOk};
+ghost use Rattle.std.specs.Prelude.{Ok, Err};
 ghost use Rattle.gd_tree.specs.Json as tree;
-ghost use Rattle.gd_json.specs.View.{view, members_view, member_view};
+ghost use Rattle.gd_json.specs.View.{view};
 ghost use Rattle.gd_defs.specs.Lines as printed;
 ghost use Rattle.gd_defs.specs.Reply as reply;
 ghost use Rattle.gd_reply.specs.Refusals.{refusal_of, CountsFit};
-ghost use Rattle.gd_reply.specs.Answers.{answer_view, AnswerFits, further, joined};
-ghost use Rattle.gd_reply.specs.Replies.{ok_front_of};
+ghost use Rattle.gd_reply.specs.Answers.{told_by, told_of, AnswerFits, further, joined};
+ghost use Rattle.gd_reply.specs.Replies.{found_front, item_front};
 
-use crate::lines::{err_line, ok_cursor_line, ok_front, ok_line, within_reply};
-use crate::members::{Members, object, push_member, push_text};
+use crate::lines::{cursor_front, err_line, ok_front, within_reply};
+use crate::members::{object, push_member, push_text};
 use crate::refusal::{Refusal, error_name, info};
 use gd_base::memory::Memory;
-use gd_json::text::json_text;
+use gd_json::text::{json_text, with_json};
 use gd_json::value::Json;
 use std::alloc::Global;
 
-/// What a query comes to. Contracts see it as the answer of the definitions, by `answer_view`.
+/// Room for what stands around the result of an answer among others.
+const SHORT_ITEM: usize = 128;
+
+/// What a query comes to. Contracts see what it tells, by `told_by`.
 #[derive(Drop)]
 pub enum Answer {
-    /// What it prints, with the cursor of its page where one is asked: a text, or false where
-    /// nothing follows.
-    Found { cursor: Option<Json>, outcome: Json },
+    /// The compact text of what it prints, with the cursor of its page where one is asked: a text,
+    /// or false where nothing follows.
+    Found {
+        cursor: Option<Json>,
+        outcome: Vec<u8>,
+    },
     /// Why it is refused.
     Refused(Refusal),
+}
+
+/// What stands before the result in the reply line of what a query prints, with the cursor of its
+/// page where one is asked, and with room for so many bytes more.
+fn front_of(
+    alloc: Global,
+    dateline: u32,
+    line: u64,
+    cursor: &Option<Json>,
+    room: usize,
+) -> Result<Vec<u8>, Memory>
+    ensures { IfOk result (λ bytes. bytes.items
+        ≡ found_front dateline line (option_map view cursor.now)) }
+{
+    match cursor {
+        Some(cursor) => cursor_front(alloc, dateline, line, cursor, room),
+        None => ok_front(alloc, dateline, line, room),
+    }
 }
 
 /// The reply line of what a query prints, with the cursor of its page where one is asked.
@@ -31,38 +56,58 @@ fn found_line(
     alloc: Global,
     dateline: u32,
     line: u64,
-    cursor: Option<Json>,
-    outcome: Json,
+    cursor: &Option<Json>,
+    outcome: &[u8],
 ) -> Result<Vec<u8>, Memory>
     requires { line < 2 ^ 63 }
-    ensures { IfOk result (λ bytes. bytes.items ≡ reply.answer_line dateline line
-        (answer_view (Answer.Found cursor outcome))) }
+    ensures { IfOk result (λ bytes. (expected : reply.Answer)
+        → Ok (option_map view cursor.now, outcome.now) ≡ told_of expected
+        → bytes.items ≡ reply.answer_line dateline line expected) }
 {
-    let bytes = match cursor {
-        Some(cursor) => ok_cursor_line(alloc, dateline, line, cursor, outcome)?,
-        None => ok_line(alloc, dateline, line, &outcome)?.bytes,
-    };
+    let mut bytes = front_of(alloc, dateline, line, cursor, outcome.len())?;
+    bytes.extend_from_slice(outcome)?;
+    bytes.push(b'}')?;
     within_reply(alloc, dateline, line, bytes)
 }
 
-/// What a query prints as it stands among others, with the cursor of its page where one is asked.
-fn found_text(alloc: Global, cursor: Option<Json>, outcome: Json) -> Result<Vec<u8>, Memory>
+/// What stands before the result of what a query prints among others, with the cursor of its page
+/// where one is asked, and with room for so many bytes more.
+fn item_front_of(alloc: Global, cursor: &Option<Json>, room: usize) -> Result<Vec<u8>, Memory>
     ensures { IfOk result (λ bytes. bytes.items
-        ≡ tree.compact (reply.answer_item (answer_view (Answer.Found cursor outcome)))) }
+        ≡ item_front (option_map view cursor.now)) }
 {
-    let mut members = Vec::new(alloc);
-    if let Some(cursor) = cursor {
-        push_member(alloc, &mut members, "cursor", cursor)?;
+    let mut bytes = Vec::with_capacity(alloc, room.saturating_add(SHORT_ITEM))?;
+    match cursor {
+        Some(cursor) => {
+            bytes.extend_from_slice(b"{\"cursor\":")?;
+            let mut bytes = with_json(bytes, cursor)?;
+            bytes.extend_from_slice(b",\"result\":")?;
+            Ok(bytes)
+        }
+        None => {
+            bytes.extend_from_slice(b"{\"result\":")?;
+            Ok(bytes)
+        }
     }
-    push_member(alloc, &mut members, "result", outcome)?;
-    json_text(alloc, &object(members))
+}
+
+/// What a query prints as it stands among others, with the cursor of its page where one is asked.
+fn found_text(alloc: Global, cursor: &Option<Json>, outcome: &[u8]) -> Result<Vec<u8>, Memory>
+    ensures { IfOk result (λ bytes. (expected : reply.Answer)
+        → Ok (option_map view cursor.now, outcome.now) ≡ told_of expected
+        → bytes.items ≡ tree.compact (reply.answer_item expected)) }
+{
+    let mut bytes = item_front_of(alloc, cursor, outcome.len())?;
+    bytes.extend_from_slice(outcome)?;
+    bytes.push(b'}')?;
+    Ok(bytes)
 }
 
 /// A refusal as it stands among other answers.
 fn refused_text(alloc: Global, refusal: &Refusal) -> Result<Vec<u8>, Memory>
     requires { CountsFit refusal.now }
     ensures { IfOk result (λ bytes. bytes.items
-        ≡ tree.compact (reply.answer_item (answer_view (Answer.Refused refusal.now)))) }
+        ≡ tree.compact (reply.answer_item (Err (refusal_of refusal.now)))) }
 {
     let mut members = Vec::new(alloc);
     push_text(alloc, &mut members, "error", error_name(refusal))?;
@@ -71,30 +116,34 @@ fn refused_text(alloc: Global, refusal: &Refusal) -> Result<Vec<u8>, Memory>
 }
 
 impl Answer {
-    /// The reply line of an answer that stands alone, at a dateline and with the number of its
-    /// line; in place of a line of more than 1,048,576 bytes the refusal `ReplyTooLarge`. `Memory`:
-    /// an allocation was refused.
+    /// The reply line of the answer that it tells, where it stands alone, at a dateline and with
+    /// the number of its line; in place of a line of more than 1,048,576 bytes the refusal
+    /// `ReplyTooLarge`. `Memory`: an allocation was refused.
+    #[tactic(auto, using(crate::proofs::Found::refused_told))]
     pub fn line(self, alloc: Global, dateline: u32, line: u64) -> Result<Vec<u8>, Memory>
         requires line { line < 2 ^ 63 }
         requires fits { AnswerFits self }
-        ensures { IfOk result (λ bytes. bytes.items
-            ≡ reply.answer_line dateline line (answer_view self)) }
+        ensures { IfOk result (λ bytes. (expected : reply.Answer) → told_by self ≡ told_of expected
+            → bytes.items ≡ reply.answer_line dateline line expected) }
     {
         match self {
-            Answer::Found { cursor, outcome } => found_line(alloc, dateline, line, cursor, outcome),
+            Answer::Found { cursor, outcome } => {
+                found_line(alloc, dateline, line, &cursor, outcome.as_slice())
+            }
             Answer::Refused(refusal) => err_line(alloc, dateline, line, &refusal),
         }
     }
 
-    /// An answer as it stands among others: an object of `result`, with `cursor` where one is
-    /// asked, or of `error` and `info`. `Memory`: an allocation was refused.
+    /// The answer that it tells as it stands among others: an object of `result`, with `cursor`
+    /// where one is asked, or of `error` and `info`. `Memory`: an allocation was refused.
+    #[tactic(auto, using(crate::proofs::Found::refused_told))]
     pub fn text(self, alloc: Global) -> Result<Vec<u8>, Memory>
         requires fits { AnswerFits self }
-        ensures { IfOk result (λ bytes. bytes.items
-            ≡ tree.compact (reply.answer_item (answer_view self))) }
+        ensures { IfOk result (λ bytes. (expected : reply.Answer) → told_by self ≡ told_of expected
+            → bytes.items ≡ tree.compact (reply.answer_item expected)) }
     {
         match self {
-            Answer::Found { cursor, outcome } => found_text(alloc, cursor, outcome),
+            Answer::Found { cursor, outcome } => found_text(alloc, &cursor, outcome.as_slice()),
             Answer::Refused(refusal) => refused_text(alloc, &refusal),
         }
     }
@@ -139,7 +188,7 @@ pub fn answers_line(
         → bytes.items ≡ reply.within_reply dateline line
         (printed.ok_line dateline line (tree.list (printed.items_of js)))) }
 {
-    let mut bytes = ok_front(alloc, dateline, line)?;
+    let mut bytes = ok_front(alloc, dateline, line, 0)?;
     bytes.push(b'[')?;
     push_joined(&mut bytes, texts)?;
     bytes.extend_from_slice(b"]}")?;

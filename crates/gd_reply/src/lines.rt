@@ -6,7 +6,7 @@ ghost use Rattle.gd_json.specs.View.{view, member_view, members_view};
 ghost use Rattle.gd_defs.specs.Lines as printed;
 ghost use Rattle.gd_defs.specs.Reply as reply;
 ghost use Rattle.gd_reply.specs.Refusals.{refusal_of, CountsFit};
-ghost use Rattle.gd_reply.specs.Replies.{ok_front_of};
+ghost use Rattle.gd_reply.specs.Replies.{cursor_front_of, ok_front_of};
 
 use crate::members::{Members, object, push_count, push_member, push_text};
 use crate::refusal::{Refusal, error_name, info};
@@ -58,18 +58,52 @@ fn push_number(bytes: &mut Vec<u8>, front: &str, n: u64) -> Result<(), Memory>
     Ok(())
 }
 
-/// What stands before the result in the reply line of an answer.
-pub(crate) fn ok_front(alloc: Global, dateline: u32, line: u64) -> Result<Vec<u8>, Memory>
+/// Appends the dateline and the number of a line, and what stands between them and the result.
+fn push_numbers(bytes: &mut Vec<u8>, front: &str, dateline: u32, line: u64) -> Result<(), Memory>
+    ensures { OnOk result (bytes.new.items ≡ bytes.old.items ++ front.now ++ decimal dateline
+        ++ codes ",\"line\":" ++ decimal line ++ codes ",\"result\":") }
+{
+    push_number(bytes, front, u64::from(dateline))?;
+    push_number(bytes, ",\"line\":", line)?;
+    bytes.extend_from_slice(b",\"result\":")?;
+    Ok(())
+}
+
+/// What stands before the result in the reply line of an answer, with room for so many bytes more.
+pub(crate) fn ok_front(
+    alloc: Global,
+    dateline: u32,
+    line: u64,
+    room: usize,
+) -> Result<Vec<u8>, Memory>
     ensures { IfOk result (λ bytes. bytes.items ≡ ok_front_of dateline line) }
 {
-    let mut bytes = Vec::with_capacity(alloc, SHORT_REPLY)?;
-    push_number(
+    let mut bytes = Vec::with_capacity(alloc, room.saturating_add(SHORT_REPLY))?;
+    push_numbers(
         &mut bytes,
         "{\"code\":\"/api/status/ok\",\"dateline\":",
-        u64::from(dateline),
+        dateline,
+        line,
     )?;
-    push_number(&mut bytes, ",\"line\":", line)?;
-    bytes.extend_from_slice(b",\"result\":")?;
+    Ok(bytes)
+}
+
+/// What stands before the result in the reply line of an answer with a cursor: the text of it, or
+/// none where nothing follows. It has room for so many bytes more.
+pub(crate) fn cursor_front(
+    alloc: Global,
+    dateline: u32,
+    line: u64,
+    cursor: &Json,
+    room: usize,
+) -> Result<Vec<u8>, Memory>
+    ensures { IfOk result (λ bytes. bytes.items
+        ≡ cursor_front_of dateline line (view cursor.now)) }
+{
+    let mut bytes = Vec::with_capacity(alloc, room.saturating_add(SHORT_REPLY))?;
+    bytes.extend_from_slice(b"{\"code\":\"/api/status/ok\",\"cursor\":")?;
+    let mut bytes = with_json(bytes, cursor)?;
+    push_numbers(&mut bytes, ",\"dateline\":", dateline, line)?;
     Ok(bytes)
 }
 
@@ -80,33 +114,12 @@ pub fn ok_line(alloc: Global, dateline: u32, line: u64, outcome: &Json) -> Resul
     ensures outcome { IfOk result (λ made. made.outcome
         ≡ length (tree.compact (view outcome.now))) }
 {
-    let front = ok_front(alloc, dateline, line)?;
+    let front = ok_front(alloc, dateline, line, 0)?;
     let before = front.len();
     let mut bytes = with_json(front, outcome)?;
     let outcome = bytes.len() - before;
     bytes.push(b'}')?;
     Ok(OkLine { bytes, outcome })
-}
-
-/// The reply line of an answer with a cursor: the text of it, or none where nothing follows.
-pub fn ok_cursor_line(
-    alloc: Global,
-    dateline: u32,
-    line: u64,
-    cursor: Json,
-    outcome: Json,
-) -> Result<Vec<u8>, Memory>
-    requires { line < 2 ^ 63 }
-    ensures { IfOk result (λ bytes. bytes.items
-        ≡ printed.ok_cursor_line dateline line (view cursor) (view outcome)) }
-{
-    let mut members = Vec::new(alloc);
-    push_text(alloc, &mut members, "code", "/api/status/ok")?;
-    push_member(alloc, &mut members, "cursor", cursor)?;
-    push_count(alloc, &mut members, "dateline", u64::from(dateline))?;
-    push_count(alloc, &mut members, "line", line)?;
-    push_member(alloc, &mut members, "result", outcome)?;
-    object_line(alloc, members)
 }
 
 /// Appends what each refusal tells: its name, its information and the number of its line.
