@@ -1,24 +1,14 @@
 -- Data that primitives hold, as they print.
-use Rattle.std.proofs.Common.{◌≡◌, ◌≢◌, ◌≤◌, ℕ, true, false, IsTrue, refl, pos, rules, arith, List}
+use Rattle.std.proofs.Common.{◌≡◌, ◌≤◌, ℕ, true, false, IsTrue, refl, pos, rules, arith, List}
 use Rattle.gd_base.specs.declared.datum.Datum.{Datum}
 use Rattle.gd_base.specs.declared.datum.Datum.TheVariants as datum
 use Rattle.gd_prim.specs.declared.Primitive.{Primitive}
 use Rattle.gd_prim.specs.WellFormed.{may_hold, is_moment}
 use Rattle.gd_prim.specs.Live.{value_at, object_datum}
-use Rattle.gd_datum.specs.Values.{is_value}
 use Rattle.gd_defs.specs.Data.{datum_json}
 use Rattle.gd_defs.specs.Plan.{answers_of}
 use Rattle.gd_defs.specs.Property.{Property, answer_datum, far_end, holds_values, Expects, a_value, a_key, an_object_of_system, a_plain_object}
 use Rattle.gd_defs.specs.Reply.{id_json}
-
--- a value that is held and there may print
-pub value_held : (d : Datum) → d ≢ datum.Empty → IsTrue (may_hold d) → IsTrue (is_value d)
-value_held (datum.Bool b) there held = held
-value_held (datum.Int n) there held = held
-value_held (datum.Moment ms precision) there held = held
-value_held (datum.Text t) there held = held
-value_held (datum.Object o) there held = held
-value_held datum.Empty there held = absurd (there refl)
 
 -- a value that is held is no object
 pub no_id : (prims : List Primitive) (d : Datum) → IsTrue (may_hold d) → datum_json d ≡ id_json prims d

@@ -9,3 +9,4 @@ pub mod Prints
 pub mod Ranks
 pub mod Rows
 pub mod Untold
+pub mod Written

@@ -1,5 +1,5 @@
 -- The objects whose ids are printed, one member, answer or row at a time.
-use Rattle.std.proofs.Common.{◌≡◌, ◌≤◌, ◌<◌, ◌+◌, inl, inr, ℕ, zero, suc, List, [], ◌∷◌, ◌++◌, true, false, Vec, Global, Option, Some, None, map, drop, length, get_or, refl, sym, ap, subst, ◌∙◌, rules}
+use Rattle.std.proofs.Common.{◌≡◌, ◌≤◌, ◌<◌, ◌+◌, inl, inr, ℕ, zero, suc, List, [], ◌∷◌, ◌++◌, true, false, Vec, Global, Option, Some, None, map, drop, length, get_or, refl, sym, ap, subst, ◌∙◌}
 use Rattle.std.proofs.lemmas.List.{append-nil, append_assoc}
 use Rattle.gd_prim.specs.declared.Primitive.{Primitive}
 use Rattle.gd_prim.specs.Live.{object_datum}
@@ -14,7 +14,7 @@ use Rattle.gd_runs.specs.Shape.Answers as shape
 use Rattle.gd_match_laws.specs.Walks.{id_of, own_listed, where_id, unless_operand, each_listed, object_listed, rows_listed}
 use Rattle.gd_plan.specs.Asked.{put, members_view, asking_view}
 use Rattle.gd_plan.specs.declared.asked.Asking.{Asking}
-use Rattle.gd_plan.specs.declared.asked.Member.{Member, Asks, out-Member, the_lemmas}
+use Rattle.gd_plan.specs.declared.asked.Member.{Member, Asks, out-Member}
 use Rattle.gd_plan.specs.declared.asked.Member.TheOpen.{Member-F}
 use Rattle.gd_trees.specs.View.{view as tree_view}
 use Rattle.gd_trees.specs.declared.tree.Tree.{Tree}
@@ -26,7 +26,7 @@ use Rattle.gd_shape.specs.declared.ranked.Ranked.{Ranked}
 use Rattle.gd_shape.specs.declared.sight.Lack.{Lack}
 use Rattle.gd_shape.specs.declared.sight.Lack.TheVariants as lack
 use Rattle.gd_shape.proofs.Left.{left_at, past}
-use Rattle.gd_shape.proofs.Members.{opened, put_seen}
+use Rattle.gd_shape.proofs.Members.{opened, put_seen, asks_put}
 
 -- ---- what stands in one of two lists
 
@@ -134,10 +134,6 @@ front_put prims m rest link o ls =
     let P : (defs.Members → defs.Members) → Type 0 = λ p. object_listed prims (p rest) link o ls ≡ first_listed prims (p defs.no_members) link o ls ++ object_listed prims rest link o (behind_first (p defs.no_members) ls) in
     subst P (sym (put_seen m)) (front_opened prims (out-Member m) rest link o ls)
 
--- a member that asks a property, in front of others
-asks_put : (name : List ℕ) (asking : Asking) (clause : Vec Member Global) (rest : defs.Members) → put (Asks name asking clause) rest ≡ defs.asks name (asking_view asking) (members_view clause.items) rest
-asks_put name asking clause rest = search (rules, the_lemmas)
-
 -- what is lacking of its answers is lacking of it
 pub asks_first : (prims : List Primitive) (m : Member) (name : List ℕ) (asking : Asking) (clause : Vec Member Global) (ms : List Member) (ts : List trees.Tree) (link o : ℕ) (ls : TreeLists) (l : Lack) → m ≡ Asks name asking clause
     → ms ≡ clause.items → ts ≡ first_list ls → LacksOf (asks_listed prims (asking_view asking) (members_view ms) ts) l → LacksOf (first_listed prims (put m defs.no_members) link o ls) l
@@ -217,6 +213,17 @@ each_lacks f rows i row l within is =
     lacks_among (f (ranked_view row)) (each_listed f (map ranked_view rows)) l
     (λ x here. among_rows f rows i x (subst (λ os. In x os) (sym (each_left f rows i row within is)) (in_first (f (ranked_view row)) (each_listed f (map ranked_view (drop (i + 1) rows))) x here)))
 
+-- what is lacking of the first, or of those behind it, is lacking of all
+pub first_lacks : (f : shape.Ranked → List ℕ) (rows rest : List Ranked) (row : Ranked) (l : Lack) → rows ≡ row ∷ rest → LacksOf (f (ranked_view row)) l → LacksOf (each_listed f (map ranked_view rows)) l
+first_lacks f rows rest row l is lacks =
+    subst (λ rs. LacksOf (each_listed f (map ranked_view rs)) l) (sym is)
+    (lacks_among (f (ranked_view row)) (f (ranked_view row) ++ each_listed f (map ranked_view rest)) l (in_first (f (ranked_view row)) (each_listed f (map ranked_view rest))) lacks)
+
+pub rest_lack : (f : shape.Ranked → List ℕ) (rows rest : List Ranked) (row : Ranked) (l : Lack) → rows ≡ row ∷ rest → LacksOf (each_listed f (map ranked_view rest)) l → LacksOf (each_listed f (map ranked_view rows)) l
+rest_lack f rows rest row l is lacks =
+    subst (λ rs. LacksOf (each_listed f (map ranked_view rs)) l) (sym is)
+    (lacks_among (each_listed f (map ranked_view rest)) (f (ranked_view row) ++ each_listed f (map ranked_view rest)) l (in_second (f (ranked_view row)) (each_listed f (map ranked_view rest))) lacks)
+
 -- ---- rows
 
 abbrev pub row_listed : List Primitive → defs.Members → Tree → List ℕ
@@ -251,3 +258,14 @@ pub rows_lack : (prims : List Primitive) (ms : defs.Members) (ts : List Tree) (i
 rows_lack prims ms ts i t l within is =
     lacks_among (row_listed prims ms t) (rows_listed prims ms (map tree_view ts)) l
     (λ x here. among_trees prims ms ts i x (subst (λ os. In x os) (sym (rows_left prims ms ts i t within is)) (in_first (row_listed prims ms t) (rows_listed prims ms (map tree_view (drop (i + 1) ts))) x here)))
+
+-- what is lacking of the first row, or of those behind it, is lacking of all
+pub first_row_lacks : (prims : List Primitive) (ms : defs.Members) (ts rest : List Tree) (t : Tree) (l : Lack) → ts ≡ t ∷ rest → LacksOf (row_listed prims ms t) l → LacksOf (rows_listed prims ms (map tree_view ts)) l
+first_row_lacks prims ms ts rest t l is lacks =
+    subst (λ us. LacksOf us l) (sym (row_front prims ms (tree_view t) (map tree_view rest)) ∙ ap (λ us. rows_listed prims ms (map tree_view us)) (sym is))
+    (lacks_among (row_listed prims ms t) (row_listed prims ms t ++ rows_listed prims ms (map tree_view rest)) l (in_first (row_listed prims ms t) (rows_listed prims ms (map tree_view rest))) lacks)
+
+pub rest_rows_lack : (prims : List Primitive) (ms : defs.Members) (ts rest : List Tree) (t : Tree) (l : Lack) → ts ≡ t ∷ rest → LacksOf (rows_listed prims ms (map tree_view rest)) l → LacksOf (rows_listed prims ms (map tree_view ts)) l
+rest_rows_lack prims ms ts rest t l is lacks =
+    subst (λ us. LacksOf us l) (sym (row_front prims ms (tree_view t) (map tree_view rest)) ∙ ap (λ us. rows_listed prims ms (map tree_view us)) (sym is))
+    (lacks_among (rows_listed prims ms (map tree_view rest)) (row_listed prims ms t ++ rows_listed prims ms (map tree_view rest)) l (in_second (row_listed prims ms t) (rows_listed prims ms (map tree_view rest))) lacks)

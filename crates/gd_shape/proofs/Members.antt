@@ -1,19 +1,24 @@
 -- Members, one at a time.
-use Rattle.std.proofs.Common.{◌≡◌, ◌≤◌, ◌<◌, ◌+◌, ℕ, List, [], ◌∷◌, ◌++◌, Result, Ok, Err, map, drop, length, get_or, refl, sym, ap, subst, ◌∙◌, rules, option_map}
+use Rattle.std.proofs.Common.{◌≡◌, ◌≤◌, ◌<◌, ◌+◌, ℕ, List, [], ◌∷◌, ◌++◌, Vec, Global, Result, Ok, Err, map, drop, length, get_or, refl, sym, ap, subst, ◌∙◌, rules, option_map}
 use Rattle.gd_prim.specs.declared.Primitive.{Primitive}
-use Rattle.gd_tree.specs.Trees.{TreeLists}
+use Rattle.gd_tree.specs.Trees as trees
+use Rattle.gd_tree.specs.Trees.{TreeLists, first_list}
 use Rattle.gd_defs.specs.Asked as defs
-use Rattle.gd_tree.specs.Json.{Json, Members as JsonMembers, no_members as no_json_members}
-use Rattle.gd_defs.specs.Reply.{Path}
-use Rattle.gd_json.specs.View.{view as json_view, members_of}
+use Rattle.json.specs.Token.{Token, end_object, key}
+use Rattle.gd_tree.specs.Json.{Members as JsonMembers}
+use Rattle.gd_defs.specs.Reply.{Path, under}
+use Rattle.gd_json.specs.View.{view as json_view}
 use Rattle.gd_plan.specs.Asked.{put, members_view, asking_view}
 use Rattle.gd_plan.specs.Seen.{own_view, test_view, sort_key_view}
 use Rattle.gd_plan.specs.declared.asked.SortKey.{SortKey}
-use Rattle.gd_plan.specs.declared.asked.Member.{Member, out-Member, the_lemmas}
+use Rattle.gd_plan.specs.declared.asked.Asking.{Asking}
+use Rattle.gd_plan.specs.declared.asked.Member.{Member, Asks, out-Member, the_lemmas}
 use Rattle.gd_plan.specs.declared.asked.Member.TheOpen.{Member-F}
 use Rattle.gd_runs.specs.Shape.Answers as shape
-use Rattle.gd_shape.specs.Printed.{in_front, object_print, first_print, first_name, behind_first, members_before}
+use Rattle.gd_shape.specs.Outcome.{seen, written, members_written}
+use Rattle.gd_shape.specs.Printed.{in_front, object_print, asks_print, first_print, first_name, behind_first}
 use Rattle.gd_shape.proofs.Left.{left_at, past}
+use Rattle.gd_shape.proofs.Written.{Outcome, member_written, member_path, under_name}
 
 -- a member in front of others, one level opened
 abbrev pub opened : Member-F Member → defs.Members → defs.Members
@@ -22,6 +27,10 @@ opened (Member-F.Asks name asking clause) rest = defs.asks name (asking_view ask
 
 pub put_seen : (m : Member) → put m ≡ opened (out-Member m)
 put_seen m = search (rules, the_lemmas)
+
+-- a member that asks a property, in front of others
+pub asks_put : (name : List ℕ) (asking : Asking) (clause : Vec Member Global) (rest : defs.Members) → put (Asks name asking clause) rest ≡ defs.asks name (asking_view asking) (members_view clause.items) rest
+asks_put name asking clause rest = search (rules, the_lemmas)
 
 front_opened : (prims : List Primitive) (m : Member-F Member) (rest : defs.Members) (link o : ℕ) (ls : TreeLists)
     → object_print prims (opened m rest) link o ls ≡ in_front (first_name (opened m defs.no_members)) (first_print prims (opened m defs.no_members) link o ls) (object_print prims rest link o (behind_first (opened m defs.no_members) ls))
@@ -63,43 +72,37 @@ behind-left : (prims : List Primitive) (ms : List Member) (i : ℕ) (m : Member)
     → printed_behind prims ms i link o ls ≡ in_front (first_name (put m defs.no_members)) (first_print prims (put m defs.no_members) link o ls) (printed_behind prims ms (i + 1) link o (behind_first (put m defs.no_members) ls))
 behind-left prims ms i m link o ls within is = ap (λ ks. object_print prims (members_view ks) link o ls) (left_at ms i m within is) ∙ front_put prims m (members_view (drop (i + 1) ms)) link o ls
 
--- a member behind those that were printed
-members-behind : (ms : List (List ℕ × Json)) (m : List ℕ × Json) (rest : Result JsonMembers Path) → members_before (ms ++ m ∷ []) rest ≡ members_before ms (in_front m.0 (Ok m.1) rest)
-members-behind [] m rest = refl
-members-behind (k ∷ ms) m rest = ap (λ r. in_front k.0 (Ok k.1) r) (members-behind ms m rest)
-
-members-path : (ms : List (List ℕ × Json)) (path : Path) → members_before ms (Err path) ≡ Err path
-members-path [] path = refl
-members-path (m ∷ ms) path = ap (λ r. in_front m.0 (Ok m.1) r) (members-path ms path)
-
-members-all : (ms : List (List ℕ × Json)) → members_before ms (Ok no_json_members) ≡ Ok (members_of ms)
-members-all [] = refl
-members-all (m ∷ ms) = ap (λ r. in_front m.0 (Ok m.1) r) (members-all ms)
-
--- a member that prints
-pub printed_more : (prims : List Primitive) (ms : List Member) (i : ℕ) (m : Member) (link o : ℕ) (ls behind : TreeLists) (old new : List (List ℕ × Json)) (j : Json) (all : Result JsonMembers Path) → i < length ms → m ≡ get_or ms i m
-    → Ok j ≡ first_print prims (put m defs.no_members) link o ls → new ≡ old ++ (first_name (put m defs.no_members), j) ∷ [] → behind ≡ behind_first (put m defs.no_members) ls
-    → members_before old (object_print prims (members_view (drop i ms)) link o ls) ≡ all
-    → members_before new (object_print prims (members_view (drop (i + 1) ms)) link o behind) ≡ all
-printed_more prims ms i m link o ls behind old new j all within is prints pushed later was =
-    let name = first_name (put m defs.no_members) in
-    ap (λ ks. members_before ks (printed_behind prims ms (i + 1) link o behind)) pushed
-    ∙ members-behind old (name, j) (printed_behind prims ms (i + 1) link o behind)
-    ∙ ap (λ ks. members_before old (in_front name (Ok j) (printed_behind prims ms (i + 1) link o ks))) later
-    ∙ ap (λ r. members_before old (in_front name r (printed_behind prims ms (i + 1) link o (behind_first (put m defs.no_members) ls)))) prints
-    ∙ ap (members_before old) (sym (behind-left prims ms i m link o ls within is)) ∙ was
+-- a member that prints is written
+pub members_more : (prims : List Primitive) (ms : List Member) (i : ℕ) (m : Member) (link o : ℕ) (ls behind : TreeLists) (old named new : List Token) (all : Result (List Token) Path) → i < length ms → m ≡ get_or ms i m
+    → named ≡ old ++ key (first_name (put m defs.no_members)) ∷ [] → Ok new ≡ written named (first_print prims (put m defs.no_members) link o ls) → behind ≡ behind_first (put m defs.no_members) ls
+    → members_written old (object_print prims (members_view (drop i ms)) link o ls) ≡ all
+    → members_written new (object_print prims (members_view (drop (i + 1) ms)) link o behind) ≡ all
+members_more prims ms i m link o ls behind old named new all within is key_is prints later was =
+    ap (λ ks. members_written new (printed_behind prims ms (i + 1) link o ks)) later
+    ∙ member_written old named new (first_name (put m defs.no_members)) (first_print prims (put m defs.no_members) link o ls) (printed_behind prims ms (i + 1) link o (behind_first (put m defs.no_members) ls)) key_is prints
+    ∙ ap (members_written old) (sym (behind-left prims ms i m link o ls within is)) ∙ was
 
 -- a member that does not
-pub printed_path : (prims : List Primitive) (ms : List Member) (i : ℕ) (m : Member) (link o : ℕ) (ls : TreeLists) (old : List (List ℕ × Json)) (path : Path) (all : Result JsonMembers Path) → i < length ms → m ≡ get_or ms i m
-    → Err path ≡ first_print prims (put m defs.no_members) link o ls
-    → members_before old (object_print prims (members_view (drop i ms)) link o ls) ≡ all → Err path ≡ all
-printed_path prims ms i m link o ls old path all within is fails was =
-    let name = first_name (put m defs.no_members) in
-    sym (members-path old path)
-    ∙ ap (λ r. members_before old (in_front name r (printed_behind prims ms (i + 1) link o (behind_first (put m defs.no_members) ls)))) fails
-    ∙ ap (members_before old) (sym (behind-left prims ms i m link o ls within is)) ∙ was
+pub members_path : (prims : List Primitive) (ms : List Member) (i : ℕ) (m : Member) (link o : ℕ) (ls : TreeLists) (old named : List Token) (path : Path) (all : Result (List Token) Path) → i < length ms → m ≡ get_or ms i m
+    → Err path ≡ written named (first_print prims (put m defs.no_members) link o ls)
+    → members_written old (object_print prims (members_view (drop i ms)) link o ls) ≡ all → Err path ≡ all
+members_path prims ms i m link o ls old named path all within is fails was =
+    member_path old named (first_name (put m defs.no_members)) (first_print prims (put m defs.no_members) link o ls) (printed_behind prims ms (i + 1) link o (behind_first (put m defs.no_members) ls)) path fails
+    ∙ ap (members_written old) (sym (behind-left prims ms i m link o ls within is)) ∙ was
 
--- all members printed
-pub printed_all : (prims : List Primitive) (ms : List Member) (i : ℕ) (link o : ℕ) (ls : TreeLists) (printed : List (List ℕ × Json)) (all : Result JsonMembers Path) → length ms ≤ i
-    → members_before printed (object_print prims (members_view (drop i ms)) link o ls) ≡ all → Ok (members_of printed) ≡ all
-printed_all prims ms i link o ls printed all end was = sym (members-all printed) ∙ ap (λ ks. members_before printed (object_print prims (members_view ks) link o ls)) (sym (past ms i end)) ∙ was
+-- all members are written
+pub members_all : (prims : List Primitive) (ms : List Member) (i : ℕ) (link o : ℕ) (ls : TreeLists) (old new : List Token) (all : Result (List Token) Path) → length ms ≤ i → new ≡ old ++ end_object ∷ []
+    → members_written old (object_print prims (members_view (drop i ms)) link o ls) ≡ all → Ok new ≡ all
+members_all prims ms i link o ls old new all end ended was = ap (λ ts. Ok ts) ended ∙ ap (λ ks. members_written old (object_print prims (members_view ks) link o ls)) (sym (past ms i end)) ∙ was
+
+-- what a member that asks a property is written as is that of its answers, below its name
+pub asks_written : (prims : List Primitive) (m : Member) (name : List ℕ) (asking : Asking) (clause : Vec Member Global) (ms : List Member) (ts : List trees.Tree) (link o : ℕ) (ls : TreeLists) (old out : List Token) (printed outcome : Outcome)
+    → m ≡ Asks name asking clause → ms ≡ clause.items → ts ≡ first_list ls → seen (λ _. out) outcome ≡ under name (seen (λ _. out) printed) → seen (λ _. out) printed ≡ written old (asks_print prims (asking_view asking) (members_view ms) ts)
+    → seen (λ _. out) outcome ≡ written old (first_print prims (put m defs.no_members) link o ls)
+asks_written prims m name asking clause ms ts link o ls old out printed outcome is same first below here =
+    let a = asking_view asking in
+    below ∙ ap (under name) here ∙ under_name old name (asks_print prims a (members_view ms) ts)
+    ∙ ap (λ ks. written old (under name (asks_print prims a (members_view ks) ts))) same
+    ∙ ap (λ us. written old (under name (asks_print prims a (members_view clause.items) us))) first
+    ∙ sym (ap (λ c. written old (first_print prims c link o ls)) (asks_put name asking clause defs.no_members))
+    ∙ sym (ap (λ k. written old (first_print prims (put k defs.no_members) link o ls)) is)

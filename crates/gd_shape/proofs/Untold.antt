@@ -1,7 +1,8 @@
 -- What is printed with no walks told is what is printed without walks.
-use Rattle.std.proofs.Common.{◌≡◌, ℕ, List, [], ◌∷◌, length, Bool, true, false, Result, Ok, Err, refl, ap, ◌∙◌}
+use Rattle.std.proofs.Common.{◌≡◌, ℕ, List, [], ◌∷◌, length, Bool, true, false, Result, Ok, Err, refl, ap, sym, ◌∙◌}
 use Rattle.std.specs.Prelude.{unwrap_or, if◌then◌else◌}
 use Rattle.gd_prim.specs.declared.Primitive.{Primitive}
+use Rattle.json.specs.Token.{Token}
 use Rattle.gd_grammar.specs.Chain.{◌>>=◌}
 use Rattle.gd_tree.specs.Json.{Json, object, Items, item, Members as JsonMembers}
 use Rattle.gd_tree.specs.Trees.{Tree, tree, TreeLists, first_list, rest_lists}
@@ -12,6 +13,7 @@ use Rattle.gd_defs.specs.Reply.{Path, is_ambiguous, operand_of, as_list, own_jso
 use Rattle.gd_runs.specs.Shape.{Printed, each_shape, list_shape, answers_shape, object_shape, rows_shape, page_shape}
 use Rattle.gd_runs.specs.Shape.Answers.{Ranked}
 use Rattle.gd_page_laws.proofs.Printed.{untold, id_json-untold, own-untold, list-untold, front-untold, own-front, each_ranked, as_object-untold}
+use Rattle.gd_shape.specs.Outcome.{written}
 use Rattle.gd_shape.specs.Printed.{each_print, given_or, found_print, cut_of, as_object, object_print, answer_print, asks_print, rows_print, page_print}
 
 -- ---- lists of answers
@@ -79,11 +81,6 @@ rows-untold prims ms (tree o ls ∷ ts) = ap (λ x. x >>= λ m. rows_shape prims
     by (Err e) rest = refl
     by (Ok m) rest = ap (λ x. x >>= λ js. Ok (item (object m) js.0, js.1)) rest ∙ last (object m) (rows_print prims ms ts)
 
--- a path of two answers stays one in a list
-pub path_listed : (listed : Bool) (path : Path) → Err path ≡ as_list listed (Err path)
-path_listed true path = refl
-path_listed false path = refl
-
 -- a page with no walks told is the page without walks
 pub page_untold : (prims : List Primitive) (q : Asked) (ts : List Tree) → page_shape prims q ts [] ≡ page_print prims q ts
 page_untold prims q ts = ap (λ x. list_shape q.listed x >>= λ j. Ok j.0) (rows-untold prims q.members ts) ∙ ap (λ x. x >>= λ j. Ok j.0) (list-untold q.listed (rows_print prims q.members ts)) ∙ last (as_list q.listed (rows_print prims q.members ts))
@@ -91,3 +88,11 @@ page_untold prims q ts = ap (λ x. list_shape q.listed x >>= λ j. Ok j.0) (rows
     last : (r : Result Json Path) → (untold r >>= λ j. Ok j.0) ≡ r
     last (Ok j) = refl
     last (Err e) = refl
+
+-- what is written of a page's rows is what the page prints
+pub page_written : (prims : List Primitive) (q : Asked) (ts : List Tree) (ms : Members) (listed : Bool) (old : List Token) (r : Result (List Token) Path) → q.listed ≡ listed → ms ≡ q.members
+    → r ≡ written old (as_list listed (rows_print prims ms ts)) → r ≡ written old (page_shape prims q ts [])
+page_written prims q ts ms listed old r is same rows =
+    rows ∙ ap (λ ks. written old (as_list listed (rows_print prims ks ts))) same
+    ∙ ap (λ b. written old (as_list b (rows_print prims q.members ts))) (sym is)
+    ∙ ap (written old) (sym (page_untold prims q ts))

@@ -1,7 +1,10 @@
 -- What printing comes to, as the definitions have it.
-use Rattle.std.specs.Prelude.{ℕ, List, Result, Ok, Err, Vec, IsNone}
+use Rattle.std.specs.Prelude.{◌≡◌, ◌++◌, ℕ, List, Result, Ok, Err, Vec, IsNone}
 use Rattle.std.specs.declared.alloc.Global.{Global}
+use Rattle.json.specs.Token.{Token}
+use Rattle.gd_tree.specs.Json.{Json, Items, Members, compact}
 use Rattle.gd_defs.specs.Reply.{Path}
+use Rattle.gd_json.specs.Tokens.{tokens_of, items_tokens, members_tokens}
 use Rattle.gd_order_laws.specs.Window.{In}
 use Rattle.gd_shape.specs.Knowing.{known_at}
 use Rattle.gd_shape.specs.declared.sight.Lack.{Lack}
@@ -11,6 +14,35 @@ use Rattle.gd_shape.specs.declared.sight.Lack.TheVariants as lack
 abbrev pub seen : {A B : Type 0} → (A → B) → Result A (Vec (List ℕ) Global) → Result B Path
 seen f (Ok a) = Ok (f a)
 seen f (Err path) = Err path.items
+
+-- the tokens of a value stand behind others
+abbrev pub Adds : List Token → List Token → Json → Type 0
+Adds old new j = new ≡ old ++ tokens_of j
+
+-- the tokens of what prints behind others, or the path of two answers
+abbrev pub written : List Token → Result Json Path → Result (List Token) Path
+written old (Ok j) = Ok (old ++ tokens_of j)
+written old (Err path) = Err path
+
+-- those of further items of a list, with its end
+abbrev pub items_written : List Token → Result Items Path → Result (List Token) Path
+items_written old (Ok js) = Ok (old ++ items_tokens js)
+items_written old (Err path) = Err path
+
+-- those of further members of an object, with its end
+abbrev pub members_written : List Token → Result Members Path → Result (List Token) Path
+members_written old (Ok ms) = Ok (old ++ members_tokens ms)
+members_written old (Err path) = Err path
+
+-- what was printed before, where what is left out prints, or its path of two answers
+abbrev pub beside : {A B : Type 0} → B → Result A Path → Result B Path
+beside b (Ok a) = Ok b
+beside b (Err path) = Err path
+
+-- the compact text of what prints, or the path of two answers
+abbrev pub text_of : Result Json Path → Result (List ℕ) Path
+text_of (Ok j) = Ok (compact j)
+text_of (Err path) = Err path
 
 -- an object whose id is lacking has none among these
 abbrev pub Lacks : List (ℕ × List ℕ) → Lack → Type 0

@@ -91,13 +91,3 @@ abbrev pub behind_first : Members → TreeLists → TreeLists
 behind_first no_members ls = ls
 behind_first (own name w t operand ms) ls = ls
 behind_first (asks name a c ms) ls = rest_lists ls
-
--- members that were printed, in front of what is printed behind them
-abbrev pub members_before : List (List ℕ × Json) → Result JsonMembers Path → Result JsonMembers Path
-members_before [] rest = rest
-members_before (m ∷ ms) rest = in_front m.0 (Ok m.1) (members_before ms rest)
-
--- items that were printed, in front of what is printed behind them
-abbrev pub items_before : List Json → Result Items Path → Result Items Path
-items_before [] rest = rest
-items_before (j ∷ js) rest = items_before js rest >>= λ items. Ok (item j items)

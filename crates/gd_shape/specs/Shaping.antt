@@ -10,14 +10,13 @@ use Rattle.gd_defs.specs.Rows.{Row}
 use Rattle.gd_defs.specs.Template.{tree_of}
 use Rattle.gd_order_laws.specs.Window.{In}
 use Rattle.gd_match_laws.specs.Walks.{rows_listed}
-use Rattle.gd_json.specs.View.{view as json_view}
 use Rattle.gd_plan.specs.Asked.{asked_view}
 use Rattle.gd_defs.specs.Lines.{count_json}
 use Rattle.gd_runs.specs.Shape.{page_shape}
 use Rattle.gd_trees.specs.View.{view as tree_view, trees_view}
 use Rattle.gd_shape.specs.Knowing.{known_at, missing, unknown_of, IsKnownOf}
 use Rattle.gd_shape.specs.Listed.{AreAmong}
-use Rattle.gd_shape.specs.Outcome.{seen}
+use Rattle.gd_shape.specs.Outcome.{seen, text_of}
 use Rattle.gd_shape.specs.declared.shape.Shape.{Shape}
 use Rattle.gd_shape.specs.declared.shape.Next.{Next}
 use Rattle.gd_shape.specs.declared.shape.Next.TheVariants as next
@@ -112,14 +111,14 @@ abbrev pub IsNextDue : List Primitive → Shape → Next → Type 0
 IsNextDue prims s (next.Look wanted) = IsDue prims s wanted
 IsNextDue prims s (next.Printed outcome) = Unit {0}
 
--- what is next is wanted, or it is the page as it is expected
+-- what is next is wanted, or it is the text of the page as it is expected
 abbrev pub IsNext : Result tree.Json Path → Shape → Next → Type 0
 IsNext expected s (next.Look wanted) = IsWanted s wanted
-IsNext expected s (next.Printed outcome) = seen json_view outcome ≡ expected
+IsNext expected s (next.Printed outcome) = seen (λ text. text.items) outcome ≡ text_of expected
 
--- a slice that came to a reply tells what is expected
+-- a slice that came to a reply tells the text of what is expected
 abbrev pub Tells : Result tree.Json Path → ShapeTurn → Type 0
-Tells expected (Reply json) = expected ≡ Ok (json_view json)
+Tells expected (Reply text) = Ok text.items ≡ text_of expected
 Tells expected Unfinished = Unit {0}
 
 -- a path of two answers is the one that is expected
@@ -129,5 +128,5 @@ Refuses expected Memory = Unit {0}
 
 -- a slice came to no reply
 abbrev pub is_unfinished : ShapeTurn → Bool
-is_unfinished (Reply json) = false
+is_unfinished (Reply text) = false
 is_unfinished Unfinished = true

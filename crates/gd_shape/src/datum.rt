@@ -1,52 +1,83 @@
 //! Data as they print.
-ghost use Rattle.std.specs.Prelude.{◌≡◌, ℕ, [], ◌∷◌, None, IfErr, IfOk, IsTrue};
+ghost use Rattle.std.specs.Prelude.{◌≡◌, ℕ, [], ◌∷◌, None, IfErr, IsTrue, OnOk};
 ghost use Rattle.gd_tree.specs.Json.{text};
 ghost use Rattle.gd_prim.specs.Live.{value_at, end_at, object_datum, language_at};
-ghost use Rattle.gd_prim.specs.WellFormed.{may_hold};
+ghost use Rattle.gd_prim.specs.WellFormed.{is_moment, may_hold};
 ghost use Rattle.gd_defs.specs.Data.{datum_json};
+ghost use Rattle.gd_defs.specs.Moment as defs;
 ghost use Rattle.gd_defs.specs.Ids.{id_text, guid};
 ghost use Rattle.gd_defs.specs.Property as props;
 ghost use Rattle.gd_defs.specs.Reply as reply;
 ghost use Rattle.gd_defs.specs.Rows as rows;
-ghost use Rattle.gd_json.specs.View.{view};
 ghost use Rattle.gd_match_laws.specs.Walks.{id_of, own_listed};
 ghost use Rattle.gd_plan.specs.Seen.{own_view};
 ghost use Rattle.gd_shape.specs.Knowing.{IsKnownOf};
-ghost use Rattle.gd_shape.specs.Outcome.{Lacks, LacksOf};
+ghost use Rattle.gd_shape.specs.Outcome.{Adds, Lacks, LacksOf};
 
 use crate::known::Known;
 use crate::sight::{Lack, Sight};
 use gd_base::datum::{Datum, Precision};
 use gd_base::id::Id;
 use gd_base::memory::Memory;
+use gd_datum::moment::moment_text;
 use gd_fault::guid::guid;
-use gd_json::value::Json;
 use gd_plan::asked::Own;
 use gd_plan::constraint::answers_of;
 use gd_plan::expects::holds_values;
 use gd_resolve::property::Property;
+use json::Writer;
 use std::alloc::Global;
 
-/// A value that a primitive may hold, as it prints.
-#[tactic(auto, using(crate::proofs::Data::value_held))]
-fn value_json(alloc: Global, datum: &Datum) -> Result<Json, Memory>
-    requires { IsTrue (may_hold datum.now) }
-    ensures { IfOk result (λ json. view json ≡ datum_json datum.now) }
+/// Writes the text of a moment.
+fn write_moment(
+    alloc: Global,
+    out: &mut Writer,
+    ms: i64,
+    precision: Precision,
+) -> Result<(), Memory>
+    requires { IsTrue (is_moment ms) }
+    ensures printed { OnOk result (Adds out.old.tokens out.new.tokens
+        (text (defs.moment_text ms precision))) }
+    ensures before { out.new.before ≡ out.old.before }
 {
-    match datum {
-        Datum::Empty => Ok(Json::Null),
-        value => Ok(gd_datum::value::datum_json(alloc, value)?),
-    }
+    let text = moment_text(alloc, ms, precision)?;
+    out.string(text.as_str())?;
+    Ok(())
 }
 
-/// The value at a place, as it prints.
-pub(crate) fn value_at(alloc: Global, sight: &Sight<'_>, place: Id) -> Result<Json, Memory>
-    ensures { IfOk result (λ json. view json ≡ datum_json (value_at sight.now place)) }
+/// Writes a value that a primitive may hold.
+fn write_value(alloc: Global, out: &mut Writer, datum: &Datum) -> Result<(), Memory>
+    requires { IsTrue (may_hold datum.now) }
+    ensures printed { OnOk result (Adds out.old.tokens out.new.tokens (datum_json datum.now)) }
+    ensures before { out.new.before ≡ out.old.before }
+{
+    match datum {
+        Datum::Bool(b) => out.boolean(*b)?,
+        Datum::Int(n) => out.i64(*n)?,
+        Datum::Moment { ms, precision } => write_moment(alloc, out, *ms, *precision)?,
+        Datum::Text(text) => out.string(text.as_str())?,
+        Datum::Object(_) => unreachable!(),
+        Datum::Empty => out.null()?,
+    }
+    Ok(())
+}
+
+/// Writes the value at a place.
+pub(crate) fn write_value_at(
+    alloc: Global,
+    out: &mut Writer,
+    sight: &Sight<'_>,
+    place: Id,
+) -> Result<(), Memory>
+    ensures printed { OnOk result (Adds out.old.tokens out.new.tokens
+        (datum_json (value_at sight.now place))) }
+    ensures before { out.new.before ≡ out.old.before }
 {
     match sight.prim(place) {
-        Some(prim) => value_json(alloc, &prim.value),
-        None => Ok(Json::Null),
+        Some(prim) => write_value(alloc, out, &prim.value)?,
+        None => out.null()?,
     }
+    Ok(())
 }
 
 /// When the primitive at a place was written.
@@ -64,55 +95,83 @@ pub(crate) fn timestamp(sight: &Sight<'_>, place: Id) -> Datum
     }
 }
 
-/// The same as it prints.
-fn timestamp_json(alloc: Global, sight: &Sight<'_>, place: Id) -> Result<Json, Memory>
-    ensures { IfOk result (λ json. view json ≡ datum_json (rows.timestamp sight.now place)) }
+/// Writes when the primitive at a place was written.
+fn write_timestamp(
+    alloc: Global,
+    out: &mut Writer,
+    sight: &Sight<'_>,
+    place: Id,
+) -> Result<(), Memory>
+    ensures printed { OnOk result (Adds out.old.tokens out.new.tokens
+        (datum_json (rows.timestamp sight.now place))) }
+    ensures before { out.new.before ≡ out.old.before }
 {
     let datum = timestamp(sight, place);
-    value_json(alloc, &datum)
+    write_value(alloc, out, &datum)
 }
 
-/// The guid of a place.
-fn guid_json(alloc: Global, place: Id) -> Result<Json, Memory>
-    ensures { IfOk result (λ json. view json ≡ text (guid place)) }
+/// Writes the guid of a place.
+fn write_guid(alloc: Global, out: &mut Writer, place: Id) -> Result<(), Memory>
+    ensures printed { OnOk result (Adds out.old.tokens out.new.tokens (text (guid place))) }
+    ensures before { out.new.before ≡ out.old.before }
 {
-    Ok(Json::Text(guid(alloc, place)?))
+    let text = guid(alloc, place)?;
+    out.string(text.as_str())?;
+    Ok(())
 }
 
-/// The id of an object.
-fn id_json(sight: &Sight<'_>, ids: &Known, object: Id) -> Result<Json, Lack>
+/// Writes the id of an object.
+fn write_id(out: &mut Writer, sight: &Sight<'_>, ids: &Known, object: Id) -> Result<(), Lack>
     requires { IsKnownOf sight.now ids.now }
-    ensures printed { IfOk result (λ json. view json ≡ text (id_text sight.now object)) }
+    ensures printed { OnOk result (Adds out.old.tokens out.new.tokens
+        (text (id_text sight.now object))) }
+    ensures before { out.new.before ≡ out.old.before }
     ensures lacks { IfErr result (λ lack. Lacks ids.now lack) }
     ensures listed { IfErr result (λ lack. LacksOf
         (object ∷ []) lack) }
 {
-    Ok(Json::Text(sight.id(ids, object)?))
+    match sight.id(ids, object) {
+        Ok(text) => {
+            out.string(text.as_str())?;
+            Ok(())
+        }
+        Err(lack) => Err(lack),
+    }
 }
 
-/// The id of an object, if there is one, else null.
-fn some_id_json(sight: &Sight<'_>, ids: &Known, object: Option<Id>) -> Result<Json, Lack>
+/// Writes the id of an object, if there is one, else null.
+fn write_some_id(
+    out: &mut Writer,
+    sight: &Sight<'_>,
+    ids: &Known,
+    object: Option<Id>,
+) -> Result<(), Lack>
     requires { IsKnownOf sight.now ids.now }
-    ensures printed { IfOk result (λ json. view json ≡ reply.id_json sight.now
-        (object_datum object)) }
+    ensures printed { OnOk result (Adds out.old.tokens out.new.tokens
+        (reply.id_json sight.now (object_datum object))) }
+    ensures before { out.new.before ≡ out.old.before }
     ensures lacks { IfErr result (λ lack. Lacks ids.now lack) }
     ensures listed { IfErr result (λ lack. LacksOf
         (id_of (object_datum object)) lack) }
 {
     match object {
-        Some(object) => id_json(sight, ids, object),
-        None => Ok(Json::Null),
+        Some(object) => write_id(out, sight, ids, object)?,
+        None => out.null()?,
     }
+    Ok(())
 }
 
-/// The guid of an object, if there is one, else null.
-fn some_guid_json(alloc: Global, object: Option<Id>) -> Result<Json, Memory>
-    ensures { IfOk result (λ json. view json ≡ datum_json (object_datum object)) }
+/// Writes the guid of an object, if there is one, else null.
+fn write_some_guid(alloc: Global, out: &mut Writer, object: Option<Id>) -> Result<(), Memory>
+    ensures printed { OnOk result (Adds out.old.tokens out.new.tokens
+        (datum_json (object_datum object))) }
+    ensures before { out.new.before ≡ out.old.before }
 {
     match object {
-        Some(object) => guid_json(alloc, object),
-        None => Ok(Json::Null),
+        Some(object) => write_guid(alloc, out, object)?,
+        None => out.null()?,
     }
+    Ok(())
 }
 
 /// The right end of a link.
@@ -183,87 +242,103 @@ pub(crate) fn answer_object(sight: &Sight<'_>, property: &Property, link: Id) ->
     far_end(sight, property, link)
 }
 
-/// What a computed member tells of an object and the link that led to it, as it prints.
-pub(crate) fn own_json(
+/// Writes what a computed member tells of an object and the link that led to it.
+pub(crate) fn write_own(
     alloc: Global,
+    out: &mut Writer,
     sight: &Sight<'_>,
     ids: &Known,
     own: Own,
     link: Id,
     object: Id,
-) -> Result<Json, Lack>
+) -> Result<(), Lack>
     requires { IsKnownOf sight.now ids.now }
-    ensures printed { IfOk result (λ json. view json ≡ reply.own_json sight.now (own_view own) link
-        object) }
+    ensures printed { OnOk result (Adds out.old.tokens out.new.tokens
+        (reply.own_json sight.now (own_view own) link object)) }
+    ensures before { out.new.before ≡ out.old.before }
     ensures lacks { IfErr result (λ lack. Lacks ids.now lack) }
     ensures listed { IfErr result (λ lack. LacksOf
         (own_listed sight.now (own_view own) None link object) lack) }
 {
     match own {
-        Own::Id => id_json(sight, ids, object),
-        Own::Guid => Ok(guid_json(alloc, object)?),
-        Own::Timestamp => Ok(timestamp_json(alloc, sight, object)?),
-        Own::Link => Ok(guid_json(alloc, link)?),
-        Own::Value => Ok(value_at(alloc, sight, link)?),
+        Own::Id => write_id(out, sight, ids, object)?,
+        Own::Guid => write_guid(alloc, out, object)?,
+        Own::Timestamp => write_timestamp(alloc, out, sight, object)?,
+        Own::Link => write_guid(alloc, out, link)?,
+        Own::Value => write_value_at(alloc, out, sight, link)?,
         Own::Namespace => {
             let namespace = right_of(sight, link);
-            some_id_json(sight, ids, namespace)
+            write_some_id(out, sight, ids, namespace)?;
         }
         Own::Lang => {
             let language = language_of(sight, link);
-            some_id_json(sight, ids, language)
+            write_some_id(out, sight, ids, language)?;
         }
     }
+    Ok(())
 }
 
-/// An answer of a property as its value: an object as its guid.
+/// Writes an answer of a property as its value: an object as its guid.
 #[tactic(auto, using(crate::proofs::Data::values_here, crate::proofs::Data::objects_here))]
-pub(crate) fn answer_value(
+pub(crate) fn write_answer_value(
     alloc: Global,
+    out: &mut Writer,
     sight: &Sight<'_>,
     property: &Property,
     link: Id,
-) -> Result<Json, Memory>
-    ensures { IfOk result (λ json. view json
-        ≡ datum_json (props.answer_datum sight.now property.now link)) }
+) -> Result<(), Memory>
+    ensures printed { OnOk result (Adds out.old.tokens out.new.tokens
+        (datum_json (props.answer_datum sight.now property.now link))) }
+    ensures before { out.new.before ≡ out.old.before }
 {
     if holds_values(answers_of(property)) {
-        return value_at(alloc, sight, link);
+        return write_value_at(alloc, out, sight, link);
     }
     let end = far_end(sight, property, link);
-    some_guid_json(alloc, end)
+    write_some_guid(alloc, out, end)
 }
 
-/// An answer of a property as its id: a value as it is.
+/// Writes an answer of a property as its id: a value as it is.
 #[tactic(auto, using(crate::proofs::Data::values_here, crate::proofs::Data::objects_here))]
-pub(crate) fn answer_id(
+pub(crate) fn write_answer_id(
     alloc: Global,
+    out: &mut Writer,
     sight: &Sight<'_>,
     ids: &Known,
     property: &Property,
     link: Id,
-) -> Result<Json, Lack>
+) -> Result<(), Lack>
     requires { IsKnownOf sight.now ids.now }
-    ensures printed { IfOk result (λ json. view json ≡ reply.id_json sight.now
-        (props.answer_datum sight.now property.now link)) }
+    ensures printed { OnOk result (Adds out.old.tokens out.new.tokens
+        (reply.id_json sight.now (props.answer_datum sight.now property.now link))) }
+    ensures before { out.new.before ≡ out.old.before }
     ensures lacks { IfErr result (λ lack. Lacks ids.now lack) }
     ensures listed { IfErr result (λ lack. LacksOf
         (id_of (props.answer_datum sight.now property.now link)) lack) }
 {
     if holds_values(answers_of(property)) {
-        return Ok(value_id(alloc, sight, link)?);
+        write_value_id(alloc, out, sight, link)?;
+        return Ok(());
     }
     let end = far_end(sight, property, link);
-    some_id_json(sight, ids, end)
+    write_some_id(out, sight, ids, end)
 }
 
-/// The value at a place, which is no object, as its id.
+/// Writes the value at a place, which is no object, as its id.
 #[tactic(auto, using(crate::proofs::Data::no_id))]
-fn value_id(alloc: Global, sight: &Sight<'_>, place: Id) -> Result<Json, Memory>
-    ensures { IfOk result (λ json. view json ≡ reply.id_json sight.now (value_at sight.now place)) }
+fn write_value_id(
+    alloc: Global,
+    out: &mut Writer,
+    sight: &Sight<'_>,
+    place: Id,
+) -> Result<(), Memory>
+    ensures printed { OnOk result (Adds out.old.tokens out.new.tokens
+        (reply.id_json sight.now (value_at sight.now place))) }
+    ensures before { out.new.before ≡ out.old.before }
 {
     match sight.prim(place) {
-        Some(prim) => value_json(alloc, &prim.value),
-        None => Ok(Json::Null),
+        Some(prim) => write_value(alloc, out, &prim.value)?,
+        None => out.null()?,
     }
+    Ok(())
 }

@@ -1,10 +1,11 @@
-//! What a clause prints of an object.
-ghost use Rattle.std.specs.Prelude.{◌≡◌, ◌++◌, [], ◌∷◌, Ok, IfErr, IfOk, OnOk, map, option_map};
-ghost use Rattle.std.specs.Prelude.{unwrap_or};
+//! What a clause prints of an object, written as it is found.
+ghost use Rattle.std.specs.Prelude.{◌≡◌, List, IfErr, IfOk, OnOk, map, ◌∷◌};
+ghost use Rattle.std.specs.Prelude.{option_map, true, false, unwrap_or};
+ghost use Rattle.json.specs.Token.{Token};
 ghost use Rattle.gd_defs.specs.Asked as defs;
 ghost use Rattle.gd_defs.specs.Property.{answer_datum};
 ghost use Rattle.gd_defs.specs.Reply as reply;
-ghost use Rattle.gd_json.specs.View.{view, items_view, members_view as printed_view, member_view};
+ghost use Rattle.gd_json.specs.View.{view};
 ghost use Rattle.gd_match_laws.specs.Walks.{id_of, own_listed, where_id};
 ghost use Rattle.gd_match_laws.specs.Walks.{each_listed, object_listed};
 ghost use Rattle.gd_plan.specs.Asked.{asking_view, members_view, put, style_view};
@@ -14,65 +15,75 @@ ghost use Rattle.gd_trees.specs.View.{view as tree_view};
 ghost use Rattle.gd_shape.specs.InTrees.{lists_view};
 ghost use Rattle.gd_shape.specs.Knowing.{IsKnownOf};
 ghost use Rattle.gd_shape.specs.Listed.{answer_listed, asks_listed, first_listed};
-ghost use Rattle.gd_shape.specs.Outcome.{seen, Lacks, LacksOf};
+ghost use Rattle.gd_shape.specs.Outcome.{beside, seen, written, Adds, Lacks, LacksOf};
 ghost use Rattle.gd_shape.specs.Printed as print;
 ghost use Rattle.gd_shape.specs.Ranking.{ranked_view};
 
 use crate::answer::{Answer, behind_member, first_place};
 use crate::cut::cut;
-use crate::datum::{answer_id, answer_value, own_json, value_at};
+use crate::datum::{write_answer_id, write_answer_value, write_own, write_value_at};
 use crate::known::Known;
 use crate::lists::first_trees;
+use crate::operand::write_json;
 use crate::ranked::Ranked;
 use crate::sight::{Lack, Sight};
-use gd_base::id::Id;
 use gd_base::memory::Memory;
 use gd_json::value::{Json, JsonText};
 use gd_plan::asked::{Asking, Member, Own, Style};
 use gd_resolve::property::Property;
 use gd_trees::tree::{Tree, Trees};
+use json::Writer;
 use std::alloc::Global;
 
 /// The names of the members that lead to two answers where one is asked.
 pub(crate) type Names = Vec<JsonText>;
 
-/// The members of an object as they print.
-pub(crate) type Members = Vec<(JsonText, Json)>;
-
-/// The first name that the lists of an object have, or null.
+/// Writes the first name that the lists of an object have, or null.
 #[tactic(auto, using(crate::proofs::Prints::named, crate::proofs::Prints::unnamed))]
-fn name_json(alloc: Global, sight: &Sight<'_>, lists: &[Trees]) -> Result<Json, Memory>
-    ensures { IfOk result (λ json. view json ≡ name_shape sight.now (lists_view lists.now)) }
+fn write_name(
+    alloc: Global,
+    out: &mut Writer,
+    sight: &Sight<'_>,
+    lists: &[Trees],
+) -> Result<(), Memory>
+    ensures printed { OnOk result (Adds out.old.tokens out.new.tokens
+        (name_shape sight.now (lists_view lists.now))) }
+    ensures before { out.new.before ≡ out.old.before }
 {
     match first_place(first_trees(lists)) {
-        Some(place) => value_at(alloc, sight, place),
-        None => Ok(Json::Null),
+        Some(place) => write_value_at(alloc, out, sight, place)?,
+        None => out.null()?,
     }
+    Ok(())
 }
 
-/// What an answer prints in a style that is not its clause's, from its link and the lists of the
-/// object there.
-fn style_json(
+/// Writes an answer in a style that is not its clause's, from its link and the lists of the object
+/// there.
+fn write_style(
     alloc: Global,
+    out: &mut Writer,
     sight: &Sight<'_>,
     ids: &Known,
     property: &Property,
     style: &Style,
     row: &Ranked<'_>,
-) -> Result<Json, Lack>
+) -> Result<(), Lack>
     requires { IsKnownOf sight.now ids.now }
-    ensures printed { IfOk result (λ json. view json ≡ print.style_print sight.now property.now
-        row.now.link (lists_view row.now.lists.now) (style_view style.now)) }
+    ensures printed { OnOk result (Adds out.old.tokens out.new.tokens
+        (print.style_print sight.now property.now row.now.link (lists_view row.now.lists.now)
+        (style_view style.now))) }
+    ensures before { out.new.before ≡ out.old.before }
     ensures lacks { IfErr result (λ lack. Lacks ids.now lack) }
     ensures listed { IfErr result (λ lack. LacksOf
         (where_id (style_view style.now) (id_of (answer_datum sight.now property.now row.now.link))) lack) }
 {
     match style {
-        Style::Operand(json) => Ok(json.copy()?),
-        Style::Value => Ok(answer_value(alloc, sight, property, row.link)?),
-        Style::Id => answer_id(alloc, sight, ids, property, row.link),
-        Style::Name | Style::Clause => Ok(name_json(alloc, sight, row.lists)?),
+        Style::Operand(json) => write_json(out, json)?,
+        Style::Value => write_answer_value(alloc, out, sight, property, row.link)?,
+        Style::Id => write_answer_id(alloc, out, sight, ids, property, row.link)?,
+        Style::Name | Style::Clause => write_name(alloc, out, sight, row.lists)?,
     }
+    Ok(())
 }
 
 /// The operand that a literal or an operator prints in place of its answers.
@@ -99,40 +110,6 @@ fn is_ambiguous(single: bool, found: usize) -> bool
     single && found > 1
 }
 
-/// Items as a list, or the first of them, or null where there is none.
-pub(crate) fn as_list(listed: bool, items: Vec<Json>) -> Json
-    ensures { Ok (view result) ≡ reply.as_list listed (Ok (items_view items.items)) }
-{
-    if listed {
-        Json::List(items)
-    } else {
-        first_item(items)
-    }
-}
-
-/// The first of items, or null where there is none.
-#[tactic(auto, using(crate::proofs::Prints::first_kept))]
-fn first_item(items: Vec<Json>) -> Json
-    ensures { view result ≡ reply.first_item (items_view items.items) }
-{
-    let mut items = items;
-    items.truncate(1);
-    match items.pop() {
-        Some(json) => json,
-        None => Json::Null,
-    }
-}
-
-/// Printed members as an object.
-pub(crate) fn as_object(printed: Result<Members, Names>) -> Result<Json, Names>
-    ensures { seen view result ≡ print.as_object (seen (λ ms. printed_view ms.items) printed) }
-{
-    match printed {
-        Ok(members) => Ok(Json::Object(members)),
-        Err(names) => Err(names),
-    }
-}
-
 /// A path below a member of this name.
 fn with_name(name: &JsonText, names: Names) -> Result<Names, Memory>
     ensures { IfOk result (λ path. path.items ≡ name.now ∷ names.items) }
@@ -143,37 +120,41 @@ fn with_name(name: &JsonText, names: Names) -> Result<Names, Memory>
 }
 
 /// The outcome below a member, whose name begins the path of two answers.
-fn under(name: &JsonText, printed: Result<Json, Names>) -> Result<Result<Json, Names>, Memory>
-    ensures { IfOk result (λ outcome. seen view outcome
-        ≡ reply.under name.now (seen view printed)) }
+fn under(name: &JsonText, printed: Result<(), Names>) -> Result<Result<(), Names>, Memory>
+    ensures { IfOk result (λ outcome. (out : List Token) → seen (λ _. out) outcome
+        ≡ reply.under name.now (seen (λ _. out) printed)) }
 {
     match printed {
-        Ok(json) => Ok(Ok(json)),
+        Ok(()) => Ok(Ok(())),
         Err(names) => Ok(Err(with_name(name, names)?)),
     }
 }
 
-/// What a computed member prints: its operand, or what it tells.
-fn own_or(
+/// Writes what a computed member prints: its operand, or what it tells.
+fn write_own_or(
     alloc: Global,
+    out: &mut Writer,
     sight: &Sight<'_>,
     ids: &Known,
     own: Own,
     operand: &Option<Json>,
     at: &Answer<'_>,
-) -> Result<Json, Lack>
+) -> Result<(), Lack>
     requires { IsKnownOf sight.now ids.now }
-    ensures printed { IfOk result (λ json. view json ≡ unwrap_or (option_map view operand.now)
-        (reply.own_json sight.now (own_view own) at.now.link at.now.object)) }
+    ensures printed { OnOk result (Adds out.old.tokens out.new.tokens
+        (unwrap_or (option_map view operand.now)
+        (reply.own_json sight.now (own_view own) at.now.link at.now.object))) }
+    ensures before { out.new.before ≡ out.old.before }
     ensures lacks { IfErr result (λ lack. Lacks ids.now lack) }
     ensures listed { IfErr result (λ lack. LacksOf
         (own_listed sight.now (own_view own) (option_map view operand.now) at.now.link
         at.now.object) lack) }
 {
     match operand {
-        Some(json) => Ok(json.copy()?),
-        None => own_json(alloc, sight, ids, own, at.link, at.object),
+        Some(json) => write_json(out, json)?,
+        None => write_own(alloc, out, sight, ids, own, at.link, at.object)?,
     }
+    Ok(())
 }
 
 /// The name of a member.
@@ -186,168 +167,264 @@ fn name_of(member: &Member) -> &JsonText
     }
 }
 
-/// Puts a member behind those that were printed.
-fn push_member(printed: &mut Members, member: &Member, json: Json) -> Result<(), Memory>
-    ensures { OnOk result (map member_view printed.new.items
-        ≡ map member_view printed.old.items ++ (
-          print.first_name (put member.now defs.no_members),
-          view json,
-        ) ∷ []) }
-{
-    printed.push((name_of(member).copy()?, json))?;
-    Ok(())
-}
-
-/// What members print of an object from the lists of its clauses, or the first path of two answers.
+/// Writes the object of what members print of an object from the lists of its clauses, or finds the
+/// first path of two answers.
 #[cycle(print)]
-#[tactic(auto, using(crate::proofs::Members::printed_more, crate::proofs::Listed::among_behind, crate::proofs::Listed::member_lacks))]
-pub(crate) fn members_json(
+#[tactic(auto, using(crate::proofs::Written::object_begins, crate::proofs::Members::members_more, crate::proofs::Members::members_path, crate::proofs::Members::members_all, crate::proofs::Listed::among_behind, crate::proofs::Listed::member_lacks))]
+pub(crate) fn write_object(
     alloc: Global,
+    out: &mut Writer,
     sight: &Sight<'_>,
     ids: &Known,
     members: &[Member],
     at: &Answer<'_>,
-) -> Result<Result<Members, Names>, Lack>
+) -> Result<Result<(), Names>, Lack>
     requires { IsKnownOf sight.now ids.now }
-    ensures printed { IfOk result (λ outcome. seen (λ ms. printed_view ms.items) outcome
-        ≡ print.object_print sight.now (members_view members.now) at.now.link at.now.object
-        (lists_view at.now.lists.now)) }
+    ensures printed { IfOk result (λ outcome. seen (λ _. out.new.tokens) outcome
+        ≡ written out.old.tokens (print.as_object (print.object_print sight.now
+        (members_view members.now) at.now.link at.now.object (lists_view at.now.lists.now)))) }
+    ensures before { out.new.before ≡ out.old.before }
     ensures lacks { IfErr result (λ lack. Lacks ids.now lack) }
     ensures listed { IfErr result (λ lack. LacksOf
         (object_listed sight.now (members_view members.now) at.now.link at.now.object
         (lists_view at.now.lists.now)) lack) }
 {
-    let mut printed = Vec::with_capacity(alloc, members.len())?;
+    out.begin_object()?;
     let mut lists = at.lists;
     for member in members {
-        match member_json(alloc, sight, ids, member, at, lists)? {
-            Ok(json) => push_member(&mut printed, member, json)?,
+        out.key(name_of(member).as_str())?;
+        match write_member(alloc, out, sight, ids, member, at, lists)? {
+            Ok(()) => {}
             Err(names) => return Ok(Err(names)),
         }
         lists = behind_member(member, lists);
     }
-    Ok(Ok(printed))
+    out.end_object()?;
+    Ok(Ok(()))
 }
 
-/// What a member prints of an object from the lists from its own on.
+/// Writes what a member prints of an object from the lists from its own on.
 #[cycle(print)]
-fn member_json(
+fn write_member(
     alloc: Global,
+    out: &mut Writer,
     sight: &Sight<'_>,
     ids: &Known,
     member: &Member,
     at: &Answer<'_>,
     lists: &[Trees],
-) -> Result<Result<Json, Names>, Lack>
+) -> Result<Result<(), Names>, Lack>
     requires { IsKnownOf sight.now ids.now }
-    ensures printed { IfOk result (λ outcome. seen view outcome ≡ print.first_print sight.now
-        (put member.now defs.no_members) at.now.link at.now.object (lists_view lists.now)) }
+    ensures printed { IfOk result (λ outcome. seen (λ _. out.new.tokens) outcome
+        ≡ written out.old.tokens (print.first_print sight.now (put member.now defs.no_members)
+        at.now.link at.now.object (lists_view lists.now))) }
+    ensures before { out.new.before ≡ out.old.before }
     ensures lacks { IfErr result (λ lack. Lacks ids.now lack) }
     ensures listed { IfErr result (λ lack. LacksOf
         (first_listed sight.now (put member.now defs.no_members) at.now.link at.now.object
         (lists_view lists.now)) lack) }
 {
     match member {
-        Member::Own { own, operand, .. } => Ok(Ok(own_or(alloc, sight, ids, *own, operand, at)?)),
+        Member::Own { own, operand, .. } => {
+            write_own_or(alloc, out, sight, ids, *own, operand, at)?;
+            Ok(Ok(()))
+        }
         Member::Asks {
             name,
             asking,
             clause,
         } => {
-            let outcome = asks_json(alloc, sight, ids, clause, asking, first_trees(lists))?;
+            let outcome = write_asks(alloc, out, sight, ids, clause, asking, first_trees(lists))?;
             Ok(under(name, outcome)?)
         }
     }
 }
 
-/// What a member that asks a property prints of the trees of its links.
+/// Writes what a member that asks a property prints of the trees of its links.
 #[cycle(print)]
 #[tactic(auto, using(crate::proofs::Prints::asks_given, crate::proofs::Prints::asks_twice, crate::proofs::Prints::asks_found, crate::proofs::Listed::asks_lacks))]
-fn asks_json(
+fn write_asks(
     alloc: Global,
+    out: &mut Writer,
     sight: &Sight<'_>,
     ids: &Known,
     clause: &[Member],
     asking: &Asking,
     trees: &[Tree],
-) -> Result<Result<Json, Names>, Lack>
+) -> Result<Result<(), Names>, Lack>
     requires { IsKnownOf sight.now ids.now }
-    ensures printed { IfOk result (λ outcome. seen view outcome ≡ print.asks_print sight.now
-        (asking_view asking.now) (members_view clause.now) (map tree_view trees.now)) }
+    ensures printed { IfOk result (λ outcome. seen (λ _. out.new.tokens) outcome
+        ≡ written out.old.tokens (print.asks_print sight.now (asking_view asking.now)
+        (members_view clause.now) (map tree_view trees.now))) }
+    ensures before { out.new.before ≡ out.old.before }
     ensures lacks { IfErr result (λ lack. Lacks ids.now lack) }
     ensures listed { IfErr result (λ lack. LacksOf
         (asks_listed sight.now (asking_view asking.now) (members_view clause.now)
         (map tree_view trees.now)) lack) }
 {
     if let Some(json) = operand(&asking.style) {
-        return Ok(Ok(json.copy()?));
+        write_json(out, json)?;
+        return Ok(Ok(()));
     }
     if is_ambiguous(asking.single, trees.len()) {
         return Ok(Err(Vec::new(alloc)));
     }
     let rows = cut(alloc, sight, asking, clause, trees)?;
-    match each_json(alloc, sight, ids, clause, asking, rows.as_slice())? {
-        Ok(items) => Ok(Ok(as_list(asking.listed, items))),
+    write_answers(alloc, out, sight, ids, clause, asking, rows.as_slice())
+}
+
+/// Writes answers as a list, or the first of them, or null where there is none.
+#[cycle(print)]
+fn write_answers(
+    alloc: Global,
+    out: &mut Writer,
+    sight: &Sight<'_>,
+    ids: &Known,
+    clause: &[Member],
+    asking: &Asking,
+    rows: &[Ranked<'_>],
+) -> Result<Result<(), Names>, Lack>
+    requires { IsKnownOf sight.now ids.now }
+    ensures printed { IfOk result (λ outcome. seen (λ _. out.new.tokens) outcome
+        ≡ written out.old.tokens (reply.as_list asking.now.listed (print.each_print
+        (print.answer_print sight.now (asking_view asking.now) (members_view clause.now))
+        (map ranked_view rows.now)))) }
+    ensures before { out.new.before ≡ out.old.before }
+    ensures lacks { IfErr result (λ lack. Lacks ids.now lack) }
+    ensures listed { IfErr result (λ lack. LacksOf
+        (each_listed (answer_listed sight.now (asking_view asking.now) (members_view clause.now))
+        (map ranked_view rows.now)) lack) }
+{
+    if asking.listed {
+        return write_each(alloc, out, sight, ids, clause, asking, rows);
+    }
+    write_first(alloc, out, sight, ids, clause, asking, rows)
+}
+
+/// Writes the list of answers as they print, or finds the first path of two answers.
+#[cycle(print)]
+#[tactic(auto, using(crate::proofs::Written::list_begins, crate::proofs::Prints::each_more, crate::proofs::Prints::each_path, crate::proofs::Prints::each_all, crate::proofs::Listed::each_lacks))]
+fn write_each(
+    alloc: Global,
+    out: &mut Writer,
+    sight: &Sight<'_>,
+    ids: &Known,
+    clause: &[Member],
+    asking: &Asking,
+    rows: &[Ranked<'_>],
+) -> Result<Result<(), Names>, Lack>
+    requires { IsKnownOf sight.now ids.now }
+    ensures printed { IfOk result (λ outcome. seen (λ _. out.new.tokens) outcome
+        ≡ written out.old.tokens (reply.as_list true (print.each_print
+        (print.answer_print sight.now (asking_view asking.now) (members_view clause.now))
+        (map ranked_view rows.now)))) }
+    ensures before { out.new.before ≡ out.old.before }
+    ensures lacks { IfErr result (λ lack. Lacks ids.now lack) }
+    ensures listed { IfErr result (λ lack. LacksOf
+        (each_listed (answer_listed sight.now (asking_view asking.now) (members_view clause.now))
+        (map ranked_view rows.now)) lack) }
+{
+    out.begin_array()?;
+    for row in rows {
+        match write_answer(alloc, out, sight, ids, clause, asking, row)? {
+            Ok(()) => {}
+            Err(names) => return Ok(Err(names)),
+        }
+    }
+    out.end_array()?;
+    Ok(Ok(()))
+}
+
+/// Writes the first of answers, or null where there is none. A path of two answers in those behind
+/// it is found too.
+#[cycle(print)]
+#[tactic(auto, using(crate::proofs::Prints::first_more, crate::proofs::Prints::first_fails, crate::proofs::Prints::no_first, crate::proofs::Listed::first_lacks, crate::proofs::Listed::rest_lack))]
+fn write_first(
+    alloc: Global,
+    out: &mut Writer,
+    sight: &Sight<'_>,
+    ids: &Known,
+    clause: &[Member],
+    asking: &Asking,
+    rows: &[Ranked<'_>],
+) -> Result<Result<(), Names>, Lack>
+    requires { IsKnownOf sight.now ids.now }
+    ensures printed { IfOk result (λ outcome. seen (λ _. out.new.tokens) outcome
+        ≡ written out.old.tokens (reply.as_list false (print.each_print
+        (print.answer_print sight.now (asking_view asking.now) (members_view clause.now))
+        (map ranked_view rows.now)))) }
+    ensures before { out.new.before ≡ out.old.before }
+    ensures lacks { IfErr result (λ lack. Lacks ids.now lack) }
+    ensures listed { IfErr result (λ lack. LacksOf
+        (each_listed (answer_listed sight.now (asking_view asking.now) (members_view clause.now))
+        (map ranked_view rows.now)) lack) }
+{
+    let Some((row, rest)) = rows.split_first() else {
+        out.null()?;
+        return Ok(Ok(()));
+    };
+    match write_answer(alloc, out, sight, ids, clause, asking, row)? {
+        Ok(()) => pass_each(alloc, sight, ids, clause, asking, rest),
         Err(names) => Ok(Err(names)),
     }
 }
 
-/// Answers as they print, or the first path of two answers.
+/// The first path of two answers in answers that are not printed.
 #[cycle(print)]
-#[tactic(auto, using(crate::proofs::Prints::each_all, crate::proofs::Listed::each_lacks))]
-fn each_json(
+#[tactic(auto, using(crate::proofs::Prints::none_beside, crate::proofs::Written::listed_beside))]
+fn pass_each(
     alloc: Global,
     sight: &Sight<'_>,
     ids: &Known,
     clause: &[Member],
     asking: &Asking,
     rows: &[Ranked<'_>],
-) -> Result<Result<Vec<Json>, Names>, Lack>
+) -> Result<Result<(), Names>, Lack>
     requires { IsKnownOf sight.now ids.now }
-    ensures printed { IfOk result (λ outcome. seen (λ js. items_view js.items) outcome
-        ≡ print.each_print (print.answer_print sight.now (asking_view asking.now)
-        (members_view clause.now)) (map ranked_view rows.now)) }
+    ensures printed { IfOk result (λ outcome. (out : List Token) → seen (λ _. out) outcome
+        ≡ beside out (print.each_print (print.answer_print sight.now (asking_view asking.now)
+        (members_view clause.now)) (map ranked_view rows.now))) }
     ensures lacks { IfErr result (λ lack. Lacks ids.now lack) }
     ensures listed { IfErr result (λ lack. LacksOf
         (each_listed (answer_listed sight.now (asking_view asking.now) (members_view clause.now))
         (map ranked_view rows.now)) lack) }
 {
-    let mut items = Vec::with_capacity(alloc, rows.len())?;
-    for row in rows {
-        match answer_json(alloc, sight, ids, clause, asking, row)? {
-            Ok(json) => items.push(json)?,
-            Err(names) => return Ok(Err(names)),
-        }
+    if rows.is_empty() {
+        return Ok(Ok(()));
     }
-    Ok(Ok(items))
+    let mut aside = Writer::new(Vec::new(alloc));
+    write_each(alloc, &mut aside, sight, ids, clause, asking, rows)
 }
 
-/// What an answer of a member prints.
+/// Writes what an answer of a member prints.
 #[cycle(print)]
-fn answer_json(
+fn write_answer(
     alloc: Global,
+    out: &mut Writer,
     sight: &Sight<'_>,
     ids: &Known,
     clause: &[Member],
     asking: &Asking,
     row: &Ranked<'_>,
-) -> Result<Result<Json, Names>, Lack>
+) -> Result<Result<(), Names>, Lack>
     requires { IsKnownOf sight.now ids.now }
-    ensures printed { IfOk result (λ outcome. seen view outcome ≡ print.answer_print sight.now
-        (asking_view asking.now) (members_view clause.now) (ranked_view row.now)) }
+    ensures printed { IfOk result (λ outcome. seen (λ _. out.new.tokens) outcome
+        ≡ written out.old.tokens (print.answer_print sight.now (asking_view asking.now)
+        (members_view clause.now) (ranked_view row.now))) }
+    ensures before { out.new.before ≡ out.old.before }
     ensures lacks { IfErr result (λ lack. Lacks ids.now lack) }
     ensures listed { IfErr result (λ lack. LacksOf
         (answer_listed sight.now (asking_view asking.now) (members_view clause.now)
         (ranked_view row.now)) lack) }
 {
     if !is_clause(&asking.style) {
-        return Ok(Ok(style_json(alloc, sight, ids, &asking.property, &asking.style, row)?));
+        write_style(alloc, out, sight, ids, &asking.property, &asking.style, row)?;
+        return Ok(Ok(()));
     }
     let at = Answer {
         link: row.link,
         object: row.object,
         lists: row.lists,
     };
-    let printed = members_json(alloc, sight, ids, clause, &at)?;
-    Ok(as_object(printed))
+    write_object(alloc, out, sight, ids, clause, &at)
 }

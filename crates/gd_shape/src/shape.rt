@@ -5,9 +5,9 @@ ghost use Rattle.gd_base.specs.Counts.{Rose};
 ghost use Rattle.gd_prim.specs.History.{prims_of};
 ghost use Rattle.gd_prim.specs.declared.Primitive.{Primitive};
 ghost use Rattle.gd_tree.specs.Json as tree;
+ghost use Rattle.gd_defs.specs.Lines.{count_json};
 ghost use Rattle.gd_defs.specs.Reply.{Path};
 ghost use Rattle.gd_defs.specs.Rows.{Row};
-ghost use Rattle.gd_json.specs.View.{view as json_view};
 ghost use Rattle.gd_match_laws.specs.Walks.{rows_listed};
 ghost use Rattle.gd_order_laws.specs.Window.{In};
 ghost use Rattle.gd_plan.specs.Asked.{asked_view};
@@ -16,7 +16,7 @@ ghost use Rattle.gd_trees.specs.View.{view as tree_view};
 ghost use Rattle.gd_work_laws.specs.Reading.{printing_most};
 ghost use Rattle.gd_shape.specs.Knowing.{known_at, missing, unknown_of, IsKnownOf};
 ghost use Rattle.gd_shape.specs.Listed.{AreAmong};
-ghost use Rattle.gd_shape.specs.Outcome.{seen, Lacks, LacksOf};
+ghost use Rattle.gd_shape.specs.Outcome.{seen, text_of, Lacks, LacksOf};
 ghost use Rattle.gd_shape.specs.declared.shape.Shape.{Shape};
 ghost use Rattle.gd_shape.specs.declared.shape.ShapeFault.TheVariants.{Memory as no_memory};
 ghost use Rattle.gd_shape.specs.Shaping.{asked_of, trees_in, page_of, body_print, steps_left};
@@ -27,11 +27,12 @@ ghost use Rattle.gd_shape.specs.Shaping.{IsNext, Tells, Refuses, is_unfinished};
 
 use crate::gather::objects_printed;
 use crate::known::Known;
-use crate::page::page_json;
+use crate::page::page_text;
 use crate::sight::{Lack, Sight};
 use gd_base::id::Id;
 use gd_base::memory::Memory;
 use gd_base::steps::Steps;
+use gd_json::text::json_text;
 use gd_json::value::{Json, JsonText};
 use gd_plan::asked::Asked;
 use gd_resolve::up::id_of;
@@ -55,8 +56,8 @@ pub enum PageBody {
 /// What a slice of printing comes to.
 #[derive(Drop)]
 pub enum ShapeTurn {
-    /// What the root prints.
-    Reply(Json),
+    /// The compact text of what the root prints.
+    Reply(Vec<u8>),
     /// The budget was reached.
     Unfinished,
 }
@@ -111,8 +112,8 @@ enum Wanted {
 enum Next {
     /// Something is to be looked at first.
     Look(Wanted),
-    /// What the root prints, or the names that lead to two answers where one is asked.
-    Printed(Result<Json, Vec<JsonText>>),
+    /// The text of what the root prints, or the names that lead to two answers where one is asked.
+    Printed(Result<Vec<u8>, Vec<JsonText>>),
 }
 
 /// What is next where something is lacking.
@@ -261,7 +262,7 @@ impl Shape {
         ensures wanted { IfOk result (λ next. IsNextDue (prims_of view.now) self.now next) }
     {
         let sight = Sight::new(view);
-        match page_json(alloc, &sight, &self.ids, &self.asked, self.trees.as_slice()) {
+        match page_text(alloc, &sight, &self.ids, &self.asked, self.trees.as_slice()) {
             Ok(outcome) => Ok(Next::Printed(outcome)),
             Err(lack) => lacking(lack),
         }
@@ -440,20 +441,30 @@ impl Shape {
             return Err(ShapeFault::Memory);
         }
         match self.count {
-            Some(count) => Ok(ShapeTurn::Reply(Json::Int(i64::from(count)))),
+            Some(count) => Ok(ShapeTurn::Reply(count_text(alloc, count)?)),
             None => self.go_on(alloc, view, budget, steps),
         }
     }
 }
 
+/// A count as it prints.
+fn count_text(alloc: Global, count: u32) -> Result<Vec<u8>, Memory>
+    ensures { IfOk result (λ text. text.items ≡ tree.compact (count_json count)) }
+{
+    json_text(alloc, &Json::Int(i64::from(count)))
+}
+
 /// The turn that printing comes to.
-fn told(outcome: Result<Json, Vec<JsonText>>) -> Result<ShapeTurn, ShapeFault>
-    ensures reply { IfOk result (λ turn. Tells (seen json_view outcome) turn) }
-    ensures refused { IfErr result (λ fault. Refuses (seen json_view outcome) fault) }
+#[tactic(auto, using(crate::proofs::Written::path_told))]
+fn told(outcome: Result<Vec<u8>, Vec<JsonText>>) -> Result<ShapeTurn, ShapeFault>
+    ensures reply { (page : Result tree.Json Path) → seen (λ text. text.items) outcome
+        ≡ text_of page → IfOk result (λ turn. Tells page turn) }
+    ensures refused { (page : Result tree.Json Path) → seen (λ text. text.items) outcome
+        ≡ text_of page → IfErr result (λ fault. Refuses page fault) }
     ensures done { IfOk result (λ turn. is_unfinished turn ≡ false) }
 {
     match outcome {
-        Ok(json) => Ok(ShapeTurn::Reply(json)),
+        Ok(text) => Ok(ShapeTurn::Reply(text)),
         Err(path) => Err(ShapeFault::NotUnique { path }),
     }
 }

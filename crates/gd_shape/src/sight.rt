@@ -87,16 +87,16 @@ impl<'a> Sight<'a> {
         self.view.primitives().get(place.place() as usize)
     }
 
-    /// The id of an object, if it is among those that are known.
-    pub(crate) fn id(&self, ids: &Known, object: Id) -> Result<JsonText, Lack>
+    /// The id of an object, if it is among those that are known. It takes no memory.
+    pub(crate) fn id<'b>(&self, ids: &'b Known, object: Id) -> Result<&'b JsonText, Lack>
         requires { IsKnownOf self.now ids.now }
-        ensures id { IfOk result (λ text. text ≡ id_text self.now object) }
+        ensures id { IfOk result (λ text. text.now ≡ id_text self.now object) }
         ensures lacks { IfErr result (λ lack. Lacks ids.now lack) }
         ensures listed { IfErr result (λ lack. LacksOf
             (object ∷ []) lack) }
     {
         match ids.at(object) {
-            Some(text) => Ok(text.copy()?),
+            Some(text) => Ok(text),
             None => Err(Lack::IdOf(object)),
         }
     }

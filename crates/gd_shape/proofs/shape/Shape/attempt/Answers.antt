@@ -8,8 +8,8 @@ use Rattle.gd_shape.specs.Shaping.{asked_of, trees_in, listed_of}
 use Rattle.gd_shape.proofs.Listed.{lacks_same}
 use Rattle.gd_shape.proofs.shape.Shape.attempt.Goals as goal
 
-pub page_json-requires : goal.page_json-requires
-page_json-requires c = subst (λ prims. IsKnownOf prims c.args.self.now.ids) (sym c.new-sight.ensures) c.requires.known
+pub page_text-requires : goal.page_text-requires
+page_text-requires c = subst (λ prims. IsKnownOf prims c.args.self.now.ids) (sym c.new-sight.ensures) c.requires.known
 
 pub returns-in-Err-clause-next : goal.returns-in-Err-clause-next
 returns-in-Err-clause-next c = c.lacking.ensures.next (page_shape (prims_of c.args.view.now) (asked_of c.args.self.now) (trees_in c.args.self.now) []) c.args.self.now c.in-Err.ensures.lacks
