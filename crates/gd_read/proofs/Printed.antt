@@ -1,12 +1,12 @@
 -- Readings that print their page.
-use Rattle.std.proofs.Common.{◌≡◌, ℕ, ◌-◌, ◌≤◌, List, [], ◌∷◌, Bool, true, false, length, map, take, Option, Some, None, Result, Err, refl, ap, sym, subst, ◌∙◌, arith}
+use Rattle.std.proofs.Common.{◌≡◌, ℕ, ◌-◌, ◌≤◌, List, [], ◌∷◌, Bool, true, false, length, map, take, Option, Some, None, Result, Ok, Err, refl, ap, sym, subst, ◌∙◌, arith}
 use Rattle.std.specs.Prelude.{nat_lt, slice_get, if◌then◌else◌, codes}
 use Rattle.std.specs.List.{last_or}
 use Rattle.gd_prim.specs.declared.Batch.{Batch}
 use Rattle.gd_prim.specs.declared.Primitive.{Primitive}
 use Rattle.gd_prim.specs.History.{prims_of}
 use Rattle.gd_grammar.specs.Mark.{cursor_text}
-use Rattle.gd_tree.specs.Json.{Json, text}
+use Rattle.gd_tree.specs.Json.{Json, text, compact}
 use Rattle.gd_defs.specs.Lines.{refused_at}
 use Rattle.gd_defs.specs.Reply.{Mark, Path, is_ambiguous, page, page_cursor, row_mark, page_answer}
 use Rattle.gd_defs.specs.Rows as defs
@@ -16,6 +16,8 @@ use Rattle.gd_mql.specs.Requests.{cursor_view}
 use Rattle.gd_plan.specs.Asked.{asked_view}
 use Rattle.gd_plan.specs.declared.asked.Asked.{Asked as Found}
 use Rattle.gd_read.specs.Marked.{mark_of}
+use Rattle.gd_reply.specs.Answers.{told_of}
+use Rattle.gd_shape.specs.Outcome.{text_of}
 use Rattle.gd_shape.specs.Shaping.{page_of, body_print, body_due, shape_due, IsOf, IsBodyOf, IsSamePage, count_or, asked_of, trees_in}
 use Rattle.gd_shape.specs.declared.shape.PageBody.TheVariants as bodies
 use Rattle.gd_shape.specs.declared.shape.PageBody.{PageBody}
@@ -59,6 +61,18 @@ asked_is dateline w asks rows limit j asking rows_are limit_is is =
     ∙ ap (λ (l : List Row). page_cursor dateline (take limit (map defined l)) (nat_lt limit (length (map defined l)))) rows_are
     ∙ ap (λ n. page_cursor dateline (take n (rows_of w)) (nat_lt n (length (rows_of w)))) limit_is)
     ∙ ap (λ b. if b then Some (page_cursor dateline (page_rows w) (nat_lt w.limit (length (rows_of w)))) else None) (sym asking)
+
+-- ---- what a page comes to
+
+-- LAW: the text of a page is told of its answer
+pub page_found : (cursor : Option Json) (outcome : List ℕ) (page : Result Json Path) → Ok outcome ≡ text_of page → Ok (cursor, outcome) ≡ told_of (page_answer cursor page)
+page_found cursor outcome (Ok j) is = let e : outcome ≡ compact j = cc in ap (λ t. Ok (cursor, t)) e
+page_found cursor outcome (Err path) is = cc
+
+-- LAW: and so is a path of two answers
+pub page_refused : (cursor : Option Json) (path : Path) (page : Result Json Path) → Err path ≡ text_of page → Err (refused_at (codes "NotUnique") path) ≡ told_of (page_answer cursor page)
+page_refused cursor path (Ok j) is = cc
+page_refused cursor path (Err other) is = let e : path ≡ other = cc in ap (λ p. Err (refused_at (codes "NotUnique") p)) e
 
 -- LAW: a body that has the page takes no more steps than printing the page
 pub prints_paid : (prims : List Primitive) (plan taken : Found) (after : Option Mark) (body : PageBody) (shape : Shape) → HasPage prims (asked_view plan) after body → taken ≡ plan → shape_due prims shape ≤ body_due prims (asked_view taken) body
@@ -110,9 +124,9 @@ module _ (batches : List Batch) (s : Subject) where
   }
 
   -- LAW: what it prints is the answer that is owed
-  pub prints_answer : (shape : Shape) (w : Kept) (printed : Result Json Path) → Prints batches s shape w → page_of (prims_of batches) shape ≡ printed
-      → page_answer (if asks_page (cursor_view s.request.cursor) then Some (page_cursor s.dateline (page_rows w) (nat_lt w.limit (length (rows_of w)))) else None) printed ≡ answer_of batches s
-  prints_answer shape w printed prints is =
-      ap (page_answer (if asks_page (cursor_view s.request.cursor) then Some (page_cursor s.dateline (page_rows w) (nat_lt w.limit (length (rows_of w)))) else None)) (sym is ∙ prints.prints)
+  pub prints_answer : (shape : Shape) (w : Kept) → Prints batches s shape w
+      → page_answer (if asks_page (cursor_view s.request.cursor) then Some (page_cursor s.dateline (page_rows w) (nat_lt w.limit (length (rows_of w)))) else None) (page_of (prims_of batches) shape) ≡ answer_of batches s
+  prints_answer shape w prints =
+      ap (page_answer (if asks_page (cursor_view s.request.cursor) then Some (page_cursor s.dateline (page_rows w) (nat_lt w.limit (length (rows_of w)))) else None)) prints.prints
       ∙ sym (prints_are_owed (prims_of batches) prints.q (scan_order (prims_of batches) prints.q) s.dateline (asks_page (cursor_view s.request.cursor)) (mark_of s.after) w prints.kept prints.trees prints.one)
       ∙ prints.owes

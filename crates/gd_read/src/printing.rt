@@ -1,7 +1,8 @@
 //! Readings that print their page.
 ghost use Rattle.std.specs.Prelude.{◌≡◌, ◌+◌, ◌<◌, ◌≤◌, ◌^◌, ℕ, [], Some, None, map, length, take};
-ghost use Rattle.std.specs.Prelude.{nat_lt, option_map, if◌then◌else◌, Err, IfOk, codes};
+ghost use Rattle.std.specs.Prelude.{nat_lt, option_map, if◌then◌else◌, Result, Err, IfOk, codes};
 ghost use Rattle.gd_prim.specs.History.{prims_of};
+ghost use Rattle.gd_tree.specs.Json.{Json as Value};
 ghost use Rattle.gd_defs.specs.Lines.{refused_at};
 ghost use Rattle.gd_defs.specs.Reply as reply;
 ghost use Rattle.gd_json.specs.View.{view as json_view};
@@ -14,6 +15,7 @@ ghost use Rattle.gd_suspended_laws.specs.Standing.{rows_of, page_rows};
 ghost use Rattle.gd_reply.specs.Answers.{Tells};
 ghost use Rattle.gd_read.specs.Stages.{Prints, IsBuilt};
 ghost use Rattle.gd_read.specs.Rounds.{RoundGives, RoundGoes};
+ghost use Rattle.gd_shape.specs.Outcome.{text_of};
 ghost use Rattle.gd_shape.specs.Shaping.{shape_due};
 ghost use Rattle.gd_read.specs.Left.{prints_most, round_left};
 
@@ -104,11 +106,12 @@ fn asked_cursor(alloc: Global, subject: &Subject, window: &Window) -> Result<Opt
     }
 }
 
-/// What a page comes to, of what it prints or the first path at which two answers stand where one
-/// is asked.
-fn printed_answer(cursor: Option<Json>, printed: Result<Json, Path>) -> Answer
-    ensures { Tells (reply.page_answer (option_map json_view cursor) (printed_view printed))
-        result }
+/// What a page comes to, of the text of what it prints or the first path at which two answers stand
+/// where one is asked.
+#[tactic(auto, using(crate::proofs::Printed::page_found, crate::proofs::Printed::page_refused))]
+fn printed_answer(cursor: Option<Json>, printed: Result<Vec<u8>, Path>) -> Answer
+    ensures { (page : Result Value reply.Path) → printed_view printed ≡ text_of page
+        → Tells (reply.page_answer (option_map json_view cursor) page) result }
 {
     match printed {
         Ok(outcome) => Answer::Found { cursor, outcome },
@@ -121,13 +124,13 @@ fn page_answer(
     alloc: Global,
     subject: &Subject,
     window: &Window,
-    printed: Result<Json, Path>,
+    printed: Result<Vec<u8>, Path>,
 ) -> Result<Answer, Memory>
-    ensures { IfOk result (λ answer. Tells (reply.page_answer
+    ensures { IfOk result (λ answer. (page : Result Value reply.Path)
+        → printed_view printed ≡ text_of page → Tells (reply.page_answer
         (if asks_page (cursor_view subject.now.request.cursor)
         then Some (reply.page_cursor subject.now.dateline (page_rows window.now)
-        (nat_lt window.now.limit (length (rows_of window.now)))) else None)
-        (printed_view printed)) answer) }
+        (nat_lt window.now.limit (length (rows_of window.now)))) else None) page) answer) }
 {
     let cursor = asked_cursor(alloc, subject, window)?;
     Ok(printed_answer(cursor, printed))
@@ -149,9 +152,9 @@ pub(crate) fn print_on<L>(
         steps.old steps.new (budget + 1024) result }
 {
     match shape.resume(alloc, view, budget, steps) {
-        Ok(ShapeTurn::Reply(json)) => {
+        Ok(ShapeTurn::Reply(text)) => {
             drop(shape);
-            Ok(Round::Answer(page_answer(alloc, subject, window, Ok(json))?))
+            Ok(Round::Answer(page_answer(alloc, subject, window, Ok(text))?))
         }
         Ok(ShapeTurn::Unfinished) => Ok(Round::Going(Stage::Printing(shape))),
         Err(ShapeFault::NotUnique { path }) => {

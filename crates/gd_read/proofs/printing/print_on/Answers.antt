@@ -1,6 +1,7 @@
 use Rattle.std.proofs.Common.{◌∙◌, sym, ap, subst, Err, arith}
 use Rattle.gd_prim.specs.History.{prims_of}
-use Rattle.gd_shape.specs.Shaping.{shape_due}
+use Rattle.gd_shape.specs.Outcome.{text_of}
+use Rattle.gd_shape.specs.Shaping.{page_of, shape_due}
 use Rattle.gd_reply.specs.Answers.{Tells}
 use Rattle.gd_read.proofs.Going.{goes_answer}
 use Rattle.gd_read.proofs.Printed.{prints_answer}
@@ -11,6 +12,6 @@ returns-in_ok-page_answer-in-Err-NotUnique g c =
     let refused = rw c.in-Err-NotUnique.field-0-is at c.in-Err-NotUnique.ensures.refused in
     goes_answer (λ n. shape_due (prims_of c.args.view.now) c.resume.new.self)
     (subst (λ e. Tells e c.in_ok-page_answer-in-Err-NotUnique.field-0)
-    (prints_answer c.args.view.now c.args.subject.now c.args.shape c.args.window.now (Err c.from-path.result) c.requires.prints (refused ∙ ap Err (sym c.from-path.ensures)))
-    c.in_ok-page_answer-in-Err-NotUnique.ensures)
+    (prints_answer c.args.view.now c.args.subject.now c.args.shape c.args.window.now c.requires.prints)
+    (c.in_ok-page_answer-in-Err-NotUnique.ensures (page_of (prims_of c.args.view.now) c.args.shape) (sym (ap text_of (refused ∙ ap Err (sym c.from-path.ensures))))))
     (λ n high. c.resume.ensures.due) (omega arith) c.resume.ensures.later
