@@ -72,6 +72,12 @@ own_cost n (literal j) = if is_identity n.word then ids_cost j else 0
 own_cost n (operand j) = if is_identity n.word then ids_cost j else 0
 own_cost n f = 0
 
+-- what the text of a plain member `type` costs where it is no operand on objects of a system type: its id, since it names the context type of its clause whatever is expected
+abbrev pub type_cost : Expects → Name → Form → ℕ
+type_cost an_object_of_system n f = 0
+type_cost e n (literal (text t)) = if bytes_eq n.spelled (codes "type") then id_cost t else 0
+type_cost e n f = 0
+
 -- what the text of a language costs: its id, and one for each primitive of which the object that it names is the left end
 abbrev pub lang_cost : List Primitive → Json → ℕ
 lang_cost prims (text t) = id_cost t + said_of prims (object_of prims t)
@@ -94,7 +100,8 @@ abbrev mutual
   members_cost prims c no_members = 0
   members_cost prims c (sort_by ws ms) = sum_by (sort_cost prims c) ws + members_cost prims c ms
   members_cost prims c (member n f ms) =
-      (if is_computed n.word || is_link n.word then own_cost n f else word_cost prims c n.word + form_cost prims (expected_of (property prims c n.reversed n.word)) f)
+      (if is_computed n.word || is_link n.word then own_cost n f
+      else word_cost prims c n.word + (form_cost prims (expected_of (property prims c n.reversed n.word)) f + type_cost (expects_of (expected_of (property prims c n.reversed n.word))) n f))
       + members_cost prims c ms
 
   -- what the form of a member costs that asks for a property with this expected type

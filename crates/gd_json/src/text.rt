@@ -29,8 +29,9 @@ pub fn with_json(bytes: Vec<u8>, value: &Json) -> Result<Vec<u8>, Memory>
     Ok(out.into_inner())
 }
 
+/// Writes a value behind what was written before. `Memory`: what was written is of no use then.
 #[cycle(write)]
-fn write(out: &mut Writer, value: &Json) -> Result<(), Memory>
+pub fn write(out: &mut Writer, value: &Json) -> Result<(), Memory>
     ensures ok { OnOk result (out.new.tokens ≡ out.old.tokens ++ tokens_of (view value.now)) }
     ensures before { out.new.before ≡ out.old.before }
 {

@@ -8,7 +8,6 @@ mod gather;
 pub mod keys;
 pub mod known;
 mod lists;
-mod operand;
 mod order;
 pub mod page;
 mod print;

@@ -24,10 +24,10 @@ use crate::cut::cut;
 use crate::datum::{write_answer_id, write_answer_value, write_own, write_value_at};
 use crate::known::Known;
 use crate::lists::first_trees;
-use crate::operand::write_json;
 use crate::ranked::Ranked;
 use crate::sight::{Lack, Sight};
 use gd_base::memory::Memory;
+use gd_json::text::write;
 use gd_json::value::{Json, JsonText};
 use gd_plan::asked::{Asking, Member, Own, Style};
 use gd_resolve::property::Property;
@@ -78,7 +78,7 @@ fn write_style(
         (where_id (style_view style.now) (id_of (answer_datum sight.now property.now row.now.link))) lack) }
 {
     match style {
-        Style::Operand(json) => write_json(out, json)?,
+        Style::Operand(json) => write(out, json)?,
         Style::Value => write_answer_value(alloc, out, sight, property, row.link)?,
         Style::Id => write_answer_id(alloc, out, sight, ids, property, row.link)?,
         Style::Name | Style::Clause => write_name(alloc, out, sight, row.lists)?,
@@ -151,7 +151,7 @@ fn write_own_or(
         at.now.object) lack) }
 {
     match operand {
-        Some(json) => write_json(out, json)?,
+        Some(json) => write(out, json)?,
         None => write_own(alloc, out, sight, ids, own, at.link, at.object)?,
     }
     Ok(())
@@ -263,7 +263,7 @@ fn write_asks(
         (map tree_view trees.now)) lack) }
 {
     if let Some(json) = operand(&asking.style) {
-        write_json(out, json)?;
+        write(out, json)?;
         return Ok(Ok(()));
     }
     if is_ambiguous(asking.single, trees.len()) {
