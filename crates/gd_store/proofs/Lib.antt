@@ -3,6 +3,7 @@ pub mod Entered
 pub mod Follows
 pub mod Held
 pub mod History
+pub mod LeftEnds
 pub mod Places
 pub mod Rising
 pub mod Short

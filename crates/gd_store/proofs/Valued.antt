@@ -72,7 +72,7 @@ any_old : (c a : Bool) → (c ≡ true → a ≡ true) → a ≡ (a || c)
 any_old false a go = sym (or_false a)
 any_old true a go = go refl ∙ sym (ap (λ b. b || true) (go refl))
 
-any_with : (v w : Datum) (vs : List Datum) → list_any (datum_eq v) (with_value w vs) ≡ (list_any (datum_eq v) vs || datum_eq v w)
+pub any_with : (v w : Datum) (vs : List Datum) → list_any (datum_eq v) (with_value w vs) ≡ (list_any (datum_eq v) vs || datum_eq v w)
 any_with v w vs = either (list_any (datum_eq w) vs) refl
   where
     either : (b : Bool) → list_any (datum_eq w) vs ≡ b → list_any (datum_eq v) (if b then vs else vs ++ w ∷ []) ≡ (list_any (datum_eq v) vs || datum_eq v w)
@@ -97,7 +97,7 @@ none_cons : (b r : Bool) (k : ℕ) (ids : List ℕ) → (b || r) ≡ false → (
 none_cons true r k ids none rest = cc
 none_cons false r k ids none rest = rest none
 
-none_from : (t : Primitive → Bool) (k : ℕ) (prims : List Primitive) → list_any t prims ≡ false → places_from t k prims ≡ []
+pub none_from : (t : Primitive → Bool) (k : ℕ) (prims : List Primitive) → list_any t prims ≡ false → places_from t k prims ≡ []
 none_from t k [] none = refl
 none_from t k (p ∷ prims) none = none_cons (t p) (list_any t prims) k (places_from t (k + 1) prims) none (none_from t (k + 1) prims)
 
@@ -249,7 +249,7 @@ get_behind (x ∷ xs) ys (suc k) past =
     let same : k - length xs ≡ suc k - suc (length xs) = omega arith in
     get_behind xs ys k (omega (arith, past)) ∙ ap (slice_get ys) same
 
-get_past : (xs : List Datum) (k : ℕ) → length xs ≤ k → slice_get xs k ≡ None
+pub get_past : (xs : List Datum) (k : ℕ) → length xs ≤ k → slice_get xs k ≡ None
 get_past [] k past = refl
 get_past (x ∷ xs) zero past = absurd (omega (arith, past))
 get_past (x ∷ xs) (suc k) past = get_past xs k (omega (arith, past))
@@ -270,7 +270,7 @@ pos_any : (t : Datum → Bool) (xs : List Datum) → nat_lt (position_or_len t x
 pos_any t [] = refl
 pos_any t (x ∷ xs) = pos_step (t x) (list_any t xs) (position_or_len t xs) (length xs) (pos_any t xs)
 
-position_is : (t : Datum → Bool) (xs : List Datum) → position t xs ≡ cond (list_any t xs) (Some (position_or_len t xs)) None
+pub position_is : (t : Datum → Bool) (xs : List Datum) → position t xs ≡ cond (list_any t xs) (Some (position_or_len t xs)) None
 position_is t xs = ap (λ b. cond b (Some (position_or_len t xs)) None) (pos_any t xs)
 
 pos_first : (b : Bool) (r : Bool) (m n : ℕ) → (b || r) ≡ true → (r ≡ true → m ≡ n) → cond (not b) (1 + m) 0 ≡ cond (not b) (1 + n) 0

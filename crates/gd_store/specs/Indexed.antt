@@ -10,6 +10,7 @@ use Rattle.gd_versions.specs.Versions.{successor_of}
 use Rattle.gd_keys.specs.Keys.{KeysValue, key_list, object_list}
 use Rattle.gd_linkage.specs.Linkage.{LinkageValue, list_of}
 use Rattle.gd_store.specs.Keys.{is_key_link, is_key_of}
+use Rattle.gd_store.specs.Lefts.{AreLefts}
 use Rattle.gd_store.specs.Short.{are_short}
 use Rattle.gd_store.specs.Valued.{AreValues}
 use Rattle.gd_store.specs.declared.indexes.Indexes.{Indexes}
@@ -42,6 +43,7 @@ pub record AreIndexes (indexes : Indexes) (prims : List Primitive) : Type 0 wher
   pub keys : AreKeys indexes.keys prims
   pub links : AreLinks indexes.linkage prims
   pub values : AreValues indexes.values prims
+  pub lefts : AreLefts indexes.lefts prims
 
 -- the indexes are those of the list, it could be entered, and its texts are short
 pub record IsIndexed (indexes : Indexes) (prims : List Primitive) : Type 0 where

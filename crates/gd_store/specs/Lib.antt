@@ -1,5 +1,6 @@
 pub mod Indexed
 pub mod Keys
+pub mod Lefts
 pub mod Scan
 pub mod Short
 pub mod Stored

@@ -9,6 +9,7 @@ ghost use Rattle.gd_prim.specs.Live as graph;
 ghost use Rattle.gd_postings.specs.Postings.{ids_below, first_from};
 ghost use Rattle.gd_store.specs.Indexed.{may_enter};
 ghost use Rattle.gd_store.specs.Keys.{is_key_link, is_key_of};
+ghost use Rattle.gd_store.specs.Lefts.{LeftsRise};
 ghost use Rattle.gd_store.specs.Short.{is_short, are_short};
 ghost use Rattle.gd_store.specs.Valued.{AreValues, number_in, places_of_number};
 
@@ -223,6 +224,24 @@ impl IndexedPrims {
         ensures { (node : ℕ) → length (places_with end node self.now) ≤ result }
     {
         self.indexes.most(end)
+    }
+
+    /// Whether it is known that the left ends of the primitives with this node at the end rise, below
+    /// each place. False says nothing.
+    pub(crate) fn lefts_rise(&self, end: End, node: Id) -> bool
+        ensures { result ≡ true → (n : ℕ)
+            → LeftsRise (take n self.now) (places_with end node (take n self.now)) }
+    {
+        self.indexes.lefts_rise(end, node)
+    }
+
+    /// Whether it is known that the left ends of the primitives that have the value with this number
+    /// rise, below each place. False says nothing.
+    pub(crate) fn value_lefts_rise(&self, number: u32) -> bool
+        ensures { result ≡ true → (n : ℕ)
+            → LeftsRise (take n self.now) (places_of_number number (take n self.now)) }
+    {
+        self.indexes.value_lefts_rise(number)
     }
 
     /// The places below `below` whose primitive has this node at the end, in rising order.

@@ -1,11 +1,13 @@
 //! Indexes of a list of primitives: which one succeeds which, where the key links are, which places
 //! name a node, and which have a value.
-ghost use Rattle.std.specs.Prelude.{◌≡◌, ℕ, ◌+◌, ◌-◌, ◌^◌, ◌<◌, ◌≤◌, [], None, Some, length, take};
-ghost use Rattle.std.specs.Prelude.{slice_get, min, position, is_some, if◌then◌else◌, IsTrue, OnOk};
+ghost use Rattle.std.specs.Prelude.{◌≡◌, ℕ, ◌+◌, ◌-◌, ◌^◌, ◌<◌, ◌≤◌, [], None, Some, length, take, List};
+ghost use Rattle.std.specs.Prelude.{slice_get, min, position, is_some, true, if◌then◌else◌, IsTrue, OnOk};
 ghost use Rattle.std.specs.Prelude.{OnErr, IfSome};
 ghost use Rattle.std.specs.List.{last_or};
 ghost use Rattle.std.specs.Option.{option_copied};
 ghost use Rattle.gd_base.specs.Counts.{Rose};
+ghost use Rattle.gd_prim.specs.declared.Primitive.{Primitive};
+ghost use Rattle.gd_prim.specs.End.{places_with};
 ghost use Rattle.gd_prim.specs.Live as graph;
 ghost use Rattle.gd_postings.specs.Postings.{ids_below, first_from};
 ghost use Rattle.gd_versions.specs.Versions.{successor_of};
@@ -15,9 +17,11 @@ ghost use Rattle.gd_store.specs.Indexed.{AreSuccessors, AreKeys, AreLinks, AreIn
 ghost use Rattle.gd_store.specs.Indexed.{below_end};
 ghost use Rattle.gd_base.specs.Order.{datum_eq};
 ghost use Rattle.gd_valueidx.specs.Values.{value_list, values_in, number_list};
-ghost use Rattle.gd_store.specs.Valued.{AreValues};
+ghost use Rattle.gd_store.specs.Lefts.{AreLefts, LeftsRise};
+ghost use Rattle.gd_store.specs.Valued.{places_of_number, AreValues};
 
 use crate::below::{at_below, count_below, count_front, first_front, front, last_below};
+use crate::lefts::Lefts;
 use gd_base::datum::Datum;
 use gd_base::id::Id;
 use gd_base::memory::Memory;
@@ -34,14 +38,15 @@ use std::alloc::Global;
 /// The property of key links.
 const KEY: Id = Id(15);
 
-/// Which primitive of a list succeeds which, the places of its key links, and the places by nodes
-/// and by values.
+/// Which primitive of a list succeeds which, the places of its key links, the places by nodes and by
+/// values, and how far the left ends of links come.
 #[derive(Drop)]
 pub(crate) struct Indexes {
     versions: Versions,
     keys: Keys,
     linkage: Linkage,
     values: Values,
+    lefts: Lefts,
 }
 
 /// The text that the value is.
@@ -162,11 +167,37 @@ fn take_out_value(values: &mut Values, prims: &[Primitive], place: usize)
     values.retract(&prim.value);
 }
 
+/// Enters the primitive at a place in the list of its value, and sees its left end, or for want of
+/// memory leaves each list as it was.
+fn enter_valued(
+    values: &mut Values,
+    lefts: &mut Lefts,
+    prims: &[Primitive],
+    place: usize,
+) -> Result<(), Memory>
+    requires there { place < length prims.now }
+    requires few { length prims.now ≤ 2_097_151 }
+    requires before_values { AreValues values.old (take place prims.now) }
+    requires before_lefts { AreLefts lefts.old (take place prims.now) }
+    ensures ok_values { OnOk result (AreValues values.new (take (place + 1) prims.now)) }
+    ensures ok_lefts { OnOk result (AreLefts lefts.new (take (place + 1) prims.now)) }
+    ensures err_values { OnErr result (AreValues values.new (take place prims.now)) }
+    ensures kept_lefts { AreLefts lefts.new (take place prims.now) }
+{
+    enter_value(values, prims, place)?;
+    if let Err(fault) = lefts.enter(values, prims, place) {
+        take_out_value(values, prims, place);
+        return Err(fault);
+    }
+    Ok(())
+}
+
 /// Enters the primitive at a place in all lists, or for want of memory leaves each list as it was.
 fn enter_all_lists(
     keys: &mut Keys,
     linkage: &mut Linkage,
     values: &mut Values,
+    lefts: &mut Lefts,
     prims: &[Primitive],
     place: usize,
 ) -> Result<(), Memory>
@@ -175,14 +206,17 @@ fn enter_all_lists(
     requires before_keys { AreKeys keys.old (take place prims.now) }
     requires before_links { AreLinks linkage.old (take place prims.now) }
     requires before_values { AreValues values.old (take place prims.now) }
+    requires before_lefts { AreLefts lefts.old (take place prims.now) }
     ensures ok_keys { OnOk result (AreKeys keys.new (take (place + 1) prims.now)) }
     ensures ok_links { OnOk result (AreLinks linkage.new (take (place + 1) prims.now)) }
     ensures ok_values { OnOk result (AreValues values.new (take (place + 1) prims.now)) }
+    ensures ok_lefts { OnOk result (AreLefts lefts.new (take (place + 1) prims.now)) }
     ensures err_keys { OnErr result (AreKeys keys.new (take place prims.now)) }
     ensures err_links { OnErr result (AreLinks linkage.new (take place prims.now)) }
     ensures err_values { OnErr result (AreValues values.new (take place prims.now)) }
+    ensures err_lefts { OnErr result (AreLefts lefts.new (take place prims.now)) }
 {
-    enter_value(values, prims, place)?;
+    enter_valued(values, lefts, prims, place)?;
     if let Err(fault) = enter_lists(keys, linkage, prims, place) {
         take_out_value(values, prims, place);
         return Err(fault);
@@ -231,6 +265,7 @@ impl Indexes {
             keys: Keys::new(alloc),
             linkage: Linkage::new(alloc),
             values: Values::new(alloc),
+            lefts: Lefts::new(alloc),
         }
     }
 
@@ -256,6 +291,7 @@ impl Indexes {
             &mut self.keys,
             &mut self.linkage,
             &mut self.values,
+            &mut self.lefts,
             prims,
             place,
         ) {
@@ -353,6 +389,24 @@ impl Indexes {
         ensures { (node : ℕ) → length (list_of end node self.now.linkage).ids ≤ result }
     {
         self.linkage.most(end)
+    }
+
+    /// Whether it is known that the left ends of the primitives with this node at the end rise. False
+    /// says nothing.
+    pub(crate) fn lefts_rise(&self, end: End, node: Id) -> bool
+        ensures { result ≡ true → (prims : List Primitive) → AreLefts self.now.lefts prims
+            → LeftsRise prims (places_with end node prims) }
+    {
+        self.lefts.rise_at(end, node)
+    }
+
+    /// Whether it is known that the left ends of the primitives that have the value with this number
+    /// rise. False says nothing.
+    pub(crate) fn value_lefts_rise(&self, number: u32) -> bool
+        ensures { result ≡ true → (prims : List Primitive) → AreLefts self.now.lefts prims
+            → LeftsRise prims (places_of_number number prims) }
+    {
+        self.lefts.rise_of(number)
     }
 
     /// The places below `below` that name this node at this end.

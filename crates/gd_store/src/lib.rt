@@ -5,5 +5,6 @@
 mod below;
 mod indexed;
 mod indexes;
+mod lefts;
 pub mod store;
 pub mod view;

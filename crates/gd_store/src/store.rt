@@ -13,6 +13,7 @@ ghost use Rattle.gd_prim.specs.Limits.{limits, first_full, text_bytes};
 ghost use Rattle.gd_postings.specs.Postings.{ids_below, first_from};
 ghost use Rattle.gd_store.specs.Indexed.{may_enter};
 ghost use Rattle.gd_store.specs.Keys.{is_key_link, is_key_of};
+ghost use Rattle.gd_store.specs.Lefts.{LeftsRise};
 ghost use Rattle.gd_store.specs.Stored as stored;
 ghost use Rattle.gd_store.specs.Valued.{AreValues, number_in, places_of_number};
 
@@ -418,6 +419,24 @@ impl Store {
         ensures { (node : ℕ) → length (places_with end node (prims_of self.now)) ≤ result }
     {
         self.prims.most(end)
+    }
+
+    /// Whether it is known that the left ends of the primitives with this node at the end rise, below
+    /// each place. False says nothing.
+    pub(crate) fn lefts_rise(&self, end: End, node: Id) -> bool
+        ensures { result ≡ true → (n : ℕ) → LeftsRise (take n (prims_of self.now))
+            (places_with end node (take n (prims_of self.now))) }
+    {
+        self.prims.lefts_rise(end, node)
+    }
+
+    /// Whether it is known that the left ends of the primitives that have the value with this number
+    /// rise, below each place. False says nothing.
+    pub(crate) fn value_lefts_rise(&self, number: u32) -> bool
+        ensures { result ≡ true → (n : ℕ) → LeftsRise (take n (prims_of self.now))
+            (places_of_number number (take n (prims_of self.now))) }
+    {
+        self.prims.value_lefts_rise(number)
     }
 
     /// Whether a primitive may have this text as its value. False: none has it, since no text is so

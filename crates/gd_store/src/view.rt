@@ -9,6 +9,7 @@ ghost use Rattle.gd_prim.specs.Live as graph;
 ghost use Rattle.gd_prim.specs.WellFormed.{may_hold};
 ghost use Rattle.gd_postings.specs.Postings.{ids_below, first_from};
 ghost use Rattle.gd_store.specs.Keys.{is_key_link, is_key_of};
+ghost use Rattle.gd_store.specs.Lefts.{LeftsRise};
 ghost use Rattle.gd_store.specs.Valued.{number_in, places_of_number};
 
 use crate::store::Store;
@@ -214,6 +215,28 @@ impl<'a> View<'a> {
     {
         let store = self.store;
         store.most(end)
+    }
+
+    /// Whether it is known that the left ends of the primitives with this node at the end rise, as
+    /// they do where links are written for one object after the other. False says nothing: those
+    /// that came after the view are seen too, and those that were taken away again. It takes no
+    /// steps and no memory.
+    pub fn lefts_rise(&self, end: End, node: Id) -> bool
+        ensures { result ≡ true
+            → LeftsRise (prims_of self.now) (places_with end node (prims_of self.now)) }
+    {
+        let store = self.store;
+        store.lefts_rise(end, node)
+    }
+
+    /// Whether it is known that the left ends of the primitives that have the value with this number
+    /// rise. False says nothing, as above. It takes no steps and no memory.
+    pub fn value_lefts_rise(&self, number: u32) -> bool
+        ensures { result ≡ true
+            → LeftsRise (prims_of self.now) (places_of_number number (prims_of self.now)) }
+    {
+        let store = self.store;
+        store.value_lefts_rise(number)
     }
 
     /// How many of the places whose primitive has this node at the end are less than `from`: so

@@ -1,0 +1,11 @@
+use Rattle.std.proofs.Common.{List, subst, take}
+use Rattle.gd_prim.specs.declared.Primitive.{Primitive}
+use Rattle.gd_store.specs.Valued.{places_of_number}
+use Rattle.gd_store.specs.Lefts.{LeftsRise}
+use Rattle.gd_store.proofs.LeftEnds.{lefts_below}
+use Rattle.gd_store.proofs.indexed.IndexedPrims.value_lefts_rise.Goals as goal
+
+pub returns : goal.returns
+returns c rises n =
+    subst (λ (prims : List Primitive). LeftsRise (take n prims) (places_of_number c.args.number (take n prims))) c.self.view_is
+    (c.value_lefts_rise.ensures rises (take n c.self.inside.prims) (lefts_below c.self.inside.indexes.lefts c.self.inside.prims n c.self.invariant.indexed.lefts))
