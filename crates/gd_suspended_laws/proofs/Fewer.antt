@@ -1,26 +1,22 @@
 -- The order in which fewer members of a query are scanned has each candidate of the query, once.
-use Rattle.std.proofs.Common.{◌≡◌, ◌↔◌, ℕ, List, [], ◌∷◌, ◌++◌, Ok, map, true, ap, sym, subst, ◌∙◌}
+use Rattle.std.proofs.Common.{◌≡◌, ◌↔◌, ℕ, List, map, true, sym, ◌∙◌}
 use Rattle.std.specs.Ordering.{nat_cmp}
 use Rattle.std.proofs.lemmas.Cmp.{nat_cmp_total}
 use Rattle.gd_prim.specs.declared.Primitive.{Primitive}
 use Rattle.gd_prim.specs.Live.{objects, is_object}
-use Rattle.gd_defs.specs.Query.{Query}
-use Rattle.gd_defs.specs.Asked.{Asked, Members, asked_query}
+use Rattle.gd_defs.specs.Asked.{Asked, Members}
 use Rattle.gd_defs.specs.Rows.{meets_given, candidates}
 use Rattle.gd_defs.specs.Template.{passes_template}
 use Rattle.gd_defs.specs.Plan.{template_of}
-use Rattle.gd_runs.specs.RootSets.{named_places, sets_by_name, sets_by_link}
-use Rattle.gd_runs.specs.Scanned.{scan_order, set_order}
-use Rattle.gd_template_laws.specs.Laws.{AreHeld}
+use Rattle.gd_runs.specs.Scanned.{scan_order}
 use Rattle.gd_order_laws.specs.Window.{In}
 use Rattle.gd_order_laws.proofs.Sorted.{Apart-filter, In-filter, In-filtered}
 use Rattle.gd_scan_laws.specs.Ordered.{scanned}
 use Rattle.gd_scan_laws.specs.Planned.{Planned}
 use Rattle.gd_scan_laws.proofs.Laws.{planned}
 use Rattle.gd_scan_laws.proofs.Objects.{both_true, true_both, object_is, is_object_in}
-use Rattle.gd_scan_laws.proofs.Orders.{picked, picks, scanned_once, scanned_all}
+use Rattle.gd_scan_laws.proofs.Orders.{scanned_once, scanned_all}
 use Rattle.gd_suspended_laws.specs.Laws.{FewerAre}
-use Rattle.gd_suspended_laws.specs.Standing.{IsOrderOf}
 
 fewer_candidate : (prims : List Primitive) (q : Asked) (ms : Members) → Planned prims q → ((o : ℕ) → meets_given prims q.members 0 o ≡ true → meets_given prims ms 0 o ≡ true) → (o : ℕ)
     → In o (scanned prims q (scan_order prims (record q { members = ms }))) ↔ In o (candidates prims q)
@@ -47,13 +43,3 @@ fewer_are prims written q ms held asked fewer = record {
   once = Apart-filter nat_cmp nat_cmp_total (passes_template prims (template_of q)) (map (λ (c : ℕ × ℕ). c.1) (scan_order prims (record q { members = ms }))) (scanned_once prims (record q { members = ms }));
   all = fewer_candidate prims q ms (planned prims written q held asked) fewer;
 }
-
--- LAW: so does a single place, where members name it and nothing else
-pub named_order : (prims : List Primitive) (written : Query) (q : Asked) (ms : Members) (place : ℕ) → AreHeld prims → asked_query prims written ≡ Ok q → ((o : ℕ) → meets_given prims q.members 0 o ≡ true → meets_given prims ms 0 o ≡ true)
-    → sets_by_name ms ≡ named_places (place ∷ []) ∷ [] → sets_by_link prims ms ≡ [] → IsOrderOf prims q (set_order prims (named_places (place ∷ [])))
-named_order prims written q ms place held asked fewer name links =
-    subst (IsOrderOf prims q)
-    (picks prims (record q { members = ms })
-    ∙ ap (λ l. set_order prims (picked prims (l ++ sets_by_link prims ms))) name
-    ∙ ap (λ l. set_order prims (picked prims (named_places (place ∷ []) ∷ l))) links)
-    (fewer_are prims written q ms held asked fewer)

@@ -6,12 +6,9 @@ pub mod Building
 pub mod Given
 pub mod Going
 pub mod Everything
-pub mod Named
 pub mod Full
 pub mod Defined
 pub mod Fewer
-pub mod Early
-pub mod AtOnce
 pub mod Visited
 pub mod Gathered
 pub mod Laws

@@ -1,5 +1,5 @@
 -- The laws of readings that are suspended.
-use Rattle.std.specs.Prelude.{◌≡◌, ◌<◌, ◌≤◌, ℕ, ◌+◌, List, [], ◌∷◌, ◌++◌, map, filter, take, drop, length, slice_get, Bool, true, false, nat_lt, Option, Some, None, Ok, if◌then◌else◌, codes, Err}
+use Rattle.std.specs.Prelude.{◌≡◌, ◌<◌, ◌≤◌, ℕ, ◌+◌, List, [], map, filter, take, drop, length, slice_get, Bool, true, false, nat_lt, Option, Some, None, Ok, if◌then◌else◌, codes, Err}
 use Rattle.std.specs.List.{list_any, enumerate_from}
 use Rattle.std.specs.Ordering.{nat_cmp}
 use Rattle.gd_prim.specs.declared.Primitive.{Primitive}
@@ -12,24 +12,23 @@ use Rattle.gd_defs.specs.Plan.{asked_end, template_of}
 use Rattle.gd_defs.specs.Reply.{Mark, page_cursor, is_ambiguous, max_candidate_weight, max_page_weight, page_answer, answer}
 use Rattle.gd_defs.specs.Rows.{key_place, meets_given, met}
 use Rattle.gd_defs.specs.Template.{Template, tree_of, passes_template, weight}
-use Rattle.gd_bytes.specs.Frozen.{IterAt, Scan, scanning, building, printing}
+use Rattle.gd_bytes.specs.Frozen.{Scan, scanning, building, printing}
 use Rattle.gd_runs.specs.Owed.{ScanOrder, Candidate, is_among, owed_by, weighs_too_much}
-use Rattle.gd_runs.specs.RootSets.{everything, links_of, named_places}
+use Rattle.gd_runs.specs.RootSets.{everything, links_of}
 use Rattle.gd_runs.specs.Scanned.{scan_order, set_order}
 use Rattle.gd_runs.specs.Shape.{page_shape}
 use Rattle.gd_runs.specs.Shape.Answers.{key_places, sort_lists}
 use Rattle.gd_runs.specs.Thawed.{built_trees, built_weight, body_answer}
 use Rattle.gd_template_laws.specs.Laws.{AreHeld}
-use Rattle.gd_order_laws.specs.Window.{In, Each, Apart, Rising}
+use Rattle.gd_order_laws.specs.Window.{In, Apart, Rising}
 use Rattle.gd_scan_laws.specs.Ordered.{start}
 use Rattle.gd_match_laws.specs.Links.{passing_links, link_order}
-use Rattle.gd_match_laws.specs.Moves.{order_from, Runs}
+use Rattle.gd_match_laws.specs.Moves.{Runs}
 use Rattle.gd_match_laws.specs.Laws.{AtEnd}
 use Rattle.gd_match_laws.specs.Rows.{rows_order}
-use Rattle.gd_window.specs.declared.row.Row.{Row}
-use Rattle.gd_window.specs.Kept.{Kept, HasSeen}
+use Rattle.gd_window.specs.Kept.{Kept}
 use Rattle.gd_window.specs.Laws.{RowsBehindAreAsDefined}
-use Rattle.gd_suspended_laws.specs.Standing.{rows_of, marks_of, window_of, rows_among, page_rows, IsOrderOf, HasScanned, IsKept, IsLast, IsListed, ChangesNothing, HasVisited, page_objects, trees_among, weight_among}
+use Rattle.gd_suspended_laws.specs.Standing.{rows_of, marks_of, page_rows, IsOrderOf, HasScanned, IsKept, ChangesNothing, HasVisited, page_objects, trees_among, weight_among}
 
 -- The sort keys of an object stand where its tree tells.
 abbrev pub TreesTellKeys : Type 0
@@ -43,11 +42,6 @@ OrdersAre = (prims : List Primitive) (written : Query) (q : Asked) → AreHeld p
 -- So is that of all places.
 abbrev pub EverythingIs : Type 0
 EverythingIs = (prims : List Primitive) (written : Query) (q : Asked) → AreHeld prims → asked_query prims written ≡ Ok q → IsOrderOf prims q (set_order prims everything)
-
--- So is that of places that are named, if each place that passes is one of them.
-abbrev pub NamedAre : Type 0
-NamedAre = (prims : List Primitive) (written : Query) (q : Asked) (places : List ℕ) → AreHeld prims → asked_query prims written ≡ Ok q → ((o : ℕ) → passes_template prims (template_of q) o ≡ true → In o places)
-    → IsOrderOf prims q (set_order prims (named_places places))
 
 -- So is each that has no place twice, and each place that passes.
 abbrev pub FullAre : Type 0
@@ -82,11 +76,6 @@ abbrev pub HeavyScansRefuse : Type 0
 HeavyScansRefuse = (prims : List Primitive) (q : Asked) (order : ScanOrder) (dateline : ℕ) (with_cursor : Bool) (after : Option Mark) (kept : List Mark) (s : Scan) → list_any weighs_too_much (owed_by prims (template_of q) order s) ≡ true
     → body_answer prims q order dateline with_cursor after kept (scanning s) ≡ Err (too_wide (max_candidate_weight + 1))
 
--- Where the places of an order are listed, and each of the list behind the last tree that was given would change nothing, the scan may go to its end with the window that it has.
-abbrev pub ScansEndEarly : Type 0
-ScansEndEarly = (prims : List Primitive) (q : Asked) (order : ScanOrder) (after : Option Mark) (s : Scan) (w : Kept) (places : List ℕ) (last : ℕ) → IsListed prims q order places
-    → (has : HasScanned prims q after order s w) → IsLast has.given last → ((o : ℕ) → In o places → last < o → ChangesNothing prims q w o) → (e : Scan) × (HasScanned prims q after order e w × AtEnd prims order (template_of q) e)
-
 -- Where each place that passes is one of a list, which has none twice, and all of the list were visited, a scan of these one after another may go to its end with the window that has seen their rows.
 abbrev pub VisitsEnd : Type 0
 VisitsEnd = (prims : List Primitive) (written : Query) (q : Asked) (after : Option Mark) (places : List ℕ) (w : Kept) → AreHeld prims → asked_query prims written ≡ Ok q → Apart nat_cmp places
@@ -102,18 +91,6 @@ VisitsEndEarly = (prims : List Primitive) (q : Asked) (after : Option Mark) (pla
 abbrev pub HeavyVisitsRefuse : Type 0
 HeavyVisitsRefuse = (prims : List Primitive) (written : Query) (q : Asked) (o : ℕ) → AreHeld prims → asked_query prims written ≡ Ok q → passes_template prims (template_of q) o ≡ true → max_candidate_weight < weight prims (template_of q) o
     → (dateline : ℕ) (with_cursor : Bool) (after : Option Mark) → answer prims dateline with_cursor after written ≡ Err (too_wide (max_candidate_weight + 1))
-
--- Where all is known of the next candidate, which does not weigh too much, and its row was offered if it answers, the scan may go on behind it.
-abbrev pub ScansPass : Type 0
-ScansPass = (prims : List Primitive) (q : Asked) (order : ScanOrder) (after : Option Mark) (s : Scan) (w v : Kept) (c : ℕ × ℕ) (i : IterAt) → s.frames ≡ []
-    → order_from prims (template_of q) order s.iter.place ≡ c ∷ order_from prims (template_of q) order i.place → weight prims (template_of q) c.1 ≤ max_candidate_weight
-    → v ≡ window_of prims q after v.rows → ((offered : List Row) → HasSeen w offered → HasSeen v (offered ++ rows_among prims q (c.1 ∷ [])))
-    → HasScanned prims q after order s w → HasScanned prims q after order (record { iter = i; weight = 0; frames = [] }) v
-
--- Where none of the candidates that are left would change anything, the scan may go to its end with the window that it has.
-abbrev pub ScansEndHere : Type 0
-ScansEndHere = (prims : List Primitive) (q : Asked) (order : ScanOrder) (after : Option Mark) (s : Scan) (w : Kept) → Rising nat_cmp (map (λ c. c.0) order) → s.frames ≡ []
-    → Each (λ c. ChangesNothing prims q w c.1) (order_from prims (template_of q) order s.iter.place) → HasScanned prims q after order s w → (e : Scan) × (HasScanned prims q after order e w × AtEnd prims order (template_of q) e)
 
 -- The rows that a scan keeps are read again from their marks.
 abbrev pub ScansKeep : Type 0

@@ -7,9 +7,9 @@ ghost use Rattle.gd_suspended_laws.specs.Laws.{BuildsGo, EverythingIs, FewerAre,
 ghost use Rattle.gd_suspended_laws.specs.Laws.{HeavyBuildsRefuse, HeavyPagesRefuse};
 ghost use Rattle.gd_suspended_laws.specs.Laws.{HeavyScansRefuse, HeavyVisitsRefuse};
 ghost use Rattle.gd_suspended_laws.specs.Laws.{LinksAreDefined, ManyRefuse};
-ghost use Rattle.gd_suspended_laws.specs.Laws.{NamedAre, OrdersAre, PagesPrint, PagesRefuse};
+ghost use Rattle.gd_suspended_laws.specs.Laws.{OrdersAre, PagesPrint, PagesRefuse};
 ghost use Rattle.gd_suspended_laws.specs.Laws.{PrintsOwe, RowsAreLight};
-ghost use Rattle.gd_suspended_laws.specs.Laws.{ScansEndEarly, ScansEndHere, ScansKeep, ScansOwe, ScansPass};
+ghost use Rattle.gd_suspended_laws.specs.Laws.{ScansKeep, ScansOwe};
 ghost use Rattle.gd_suspended_laws.specs.Laws.{StartsOwe};
 ghost use Rattle.gd_suspended_laws.specs.Laws.{ThenBuilds, ThenCounts, ThenPrints, TreesTellKeys};
 ghost use Rattle.gd_suspended_laws.specs.Laws.{VisitsEnd, VisitsEndEarly};
@@ -27,12 +27,6 @@ pub fn orders_are()
 /// The order of all places has each candidate once.
 pub fn everything_is()
     ensures { EverythingIs }
-{}
-
-/// The order of places that are named has each candidate once, if each place that passes is one of
-/// them.
-pub fn named_are()
-    ensures { NamedAre }
 {}
 
 /// So has an order that has no place twice, and each place that passes.
@@ -66,11 +60,6 @@ pub fn heavy_scans_refuse()
     ensures { HeavyScansRefuse }
 {}
 
-/// Where what is left would change nothing, the scan may go to its end with the window that it has.
-pub fn scans_end_early()
-    ensures { ScansEndEarly }
-{}
-
 /// Where places were visited among which each that passes is, the scan of these may go to its end
 /// with the window that it has.
 pub fn visits_end()
@@ -85,16 +74,6 @@ pub fn visits_end_early()
 /// Where a place passes and weighs too much, the answer is the refusal that says so.
 pub fn heavy_visits_refuse()
     ensures { HeavyVisitsRefuse }
-{}
-
-/// Where all is known of the next candidate, the scan may go on behind it.
-pub fn scans_pass()
-    ensures { ScansPass }
-{}
-
-/// Where none of the candidates that are left would change anything, the scan may end.
-pub fn scans_end_here()
-    ensures { ScansEndHere }
 {}
 
 /// The rows that a scan keeps are read again from their marks.
