@@ -1,27 +1,23 @@
 -- Ids that are known, and one that is learned.
-use Rattle.std.proofs.Common.{◌≡◌, ◌≢◌, ◌≤◌, ◌<◌, ◌+◌, ◌*◌, ℕ, zero, suc, List, [], ◌∷◌, length, filter, Bool, true, false, not, cond, Option, Some, None, IsNone, is_some, if◌then◌else◌, refl, sym, subst, ap, ◌∙◌, arith}
+use Rattle.std.proofs.Common.{◌≡◌, ◌≢◌, ◌≤◌, ◌+◌, ◌*◌, ℕ, suc, List, [], ◌∷◌, length, filter, Bool, true, false, not, cond, Option, Some, None, IsNone, is_some, refl, sym, subst, ap, ◌∙◌, arith}
 use Rattle.std.specs.Option.{ForSome}
 use Rattle.std.specs.Ordering.{nat_cmp}
 use Rattle.std.specs.Cmp.{unsigned_tied}
 use Rattle.std.specs.Map.{lookup}
 use Rattle.std.specs.BTreeMap.{is_at}
-use Rattle.std.proofs.lemmas.Bool.{eqb-true, eqb-false, false_from_ne_true}
+use Rattle.std.proofs.lemmas.Bool.{eqb-true, eqb-false}
 use Rattle.gd_prim.specs.declared.Primitive.{Primitive}
 use Rattle.gd_defs.specs.Ids.{id_text}
 use Rattle.gd_order_laws.specs.Window.{In}
 use Rattle.gd_left_laws.specs.Left.{ids_left}
 use Rattle.gd_left_laws.proofs.Laws.{ids_lower}
-use Rattle.gd_shape.specs.Knowing.{known_at, IsKnownOf, missing, unknown_of}
+use Rattle.gd_shape.specs.Knowing.{known_at, IsKnownOf, unknown_of}
 
 same_id : (a b : ℕ) → is_at (nat_cmp a) b ≡ true → a ≡ b
 same_id a b is = eqb-true a b (sym (unsigned_tied a b) ∙ is)
 
 other_id : (a b : ℕ) → is_at (nat_cmp a) b ≡ false → a ≢ b
 other_id a b is = eqb-false a b (sym (unsigned_tied a b) ∙ is)
-
--- a number that is not above the object's is another one
-not_here : (object n : ℕ) → n < object → is_at (nat_cmp object) n ≡ false
-not_here object n below = false_from_ne_true (is_at (nat_cmp object) n) (λ here. let e : object ≡ n = same_id object n here in absurd (omega (arith, e, below)))
 
 -- the new ids are the old ones and that of the object
 abbrev Sets : List (ℕ × List ℕ) → List (ℕ × List ℕ) → ℕ → List ℕ → Type 0
@@ -40,85 +36,6 @@ learned prims old new object text known is sets q =
 -- where nothing changed they are
 pub kept : (prims : List Primitive) (old new : List (ℕ × List ℕ)) → IsKnownOf prims old → new ≡ old → IsKnownOf prims new
 kept prims old new known is = subst (IsKnownOf prims) (sym is) known
-
--- ---- how many ids are missing
-
--- one number more
-one_more : (b : Bool) (o : Option (List ℕ)) (text : List ℕ) (a m : ℕ) → a ≤ m
-    → (if is_some (cond b (Some text) o) then 0 else 1) + a ≤ (if is_some o then 0 else 1) + m
-one_more true None text a m few = omega (arith, few)
-one_more true (Some t) text a m few = omega (arith, few)
-one_more false None text a m few = omega (arith, few)
-one_more false (Some t) text a m few = omega (arith, few)
-
--- once an id was learned, no more are missing
-pub fewer_missing : (old new : List (ℕ × List ℕ)) (object : ℕ) (text : List ℕ) → Sets old new object text → (n : ℕ) → missing n new ≤ missing n old
-fewer_missing old new object text sets zero = omega arith
-fewer_missing old new object text sets (suc n) =
-    rw (sets n) (one_more (is_at (nat_cmp object) n) (known_at old n) text (missing n new) (missing n old) (fewer_missing old new object text sets n))
-
--- one number more, which is not the object
-same_more : (b : Bool) (o : Option (List ℕ)) (text : List ℕ) (a m : ℕ) → b ≡ false → a ≡ m
-    → (if is_some (cond b (Some text) o) then 0 else 1) + a ≡ (if is_some o then 0 else 1) + m
-same_more true o text a m other same = absurd (cc)
-same_more false o text a m other same = ap (λ k. (if is_some o then 0 else 1) + k) same
-
--- below its object as many are missing as before
-same_below : (old new : List (ℕ × List ℕ)) (object : ℕ) (text : List ℕ) → Sets old new object text → (n : ℕ) → n ≤ object → missing n new ≡ missing n old
-same_below old new object text sets zero below = refl
-same_below old new object text sets (suc n) below =
-    rw (sets n) (same_more (is_at (nat_cmp object) n) (known_at old n) text (missing n new) (missing n old)
-    (not_here object n (omega (arith, below))) (same_below old new object text sets n (omega (arith, below))))
-
--- one number more, which may be the object
-one_less_more : (b : Bool) (o : Option (List ℕ)) (text : List ℕ) (a m : ℕ) → (b ≡ true → IsNone o × (a ≡ m)) → (b ≡ false → a + 1 ≡ m)
-    → (if is_some (cond b (Some text) o) then 0 else 1) + a + 1 ≡ (if is_some o then 0 else 1) + m
-one_less_more true None text a m here there = let is : a ≡ m = (here refl).1 in omega (arith, is)
-one_less_more true (Some t) text a m here there = let none : IsNone (Some t) = (here refl).0 in absurd (cc)
-one_less_more false None text a m here there = let is : a + 1 ≡ m = there refl in omega (arith, is)
-one_less_more false (Some t) text a m here there = let is : a + 1 ≡ m = there refl in omega (arith, is)
-
--- where nothing is known of the object, one less is missing above it
-pub one_missing_less : (old new : List (ℕ × List ℕ)) (object : ℕ) (text : List ℕ) → Sets old new object text
-    → (n : ℕ) → object < n → IsNone (known_at old object) → missing n new + 1 ≡ missing n old
-one_missing_less old new object text sets zero below unknown = absurd (omega (arith, below))
-one_missing_less old new object text sets (suc n) below unknown =
-    rw (sets n) (one_less_more (is_at (nat_cmp object) n) (known_at old n) text (missing n new) (missing n old)
-    (λ here. let e : object ≡ n = same_id object n here in
-    (subst (λ q. IsNone (known_at old q)) e unknown, same_below old new object text sets n (omega (arith, e))))
-    (λ there. let other : object ≢ n = other_id object n there in
-    one_missing_less old new object text sets n (omega (arith, below, other)) unknown))
-
--- where nothing changed as many are missing
-pub as_many_missing : (old new : List (ℕ × List ℕ)) → new ≡ old → (n : ℕ) → missing n new ≤ missing n old
-as_many_missing old new is n = subst (λ ids. missing n ids ≤ missing n old) (sym is) (omega arith)
-
--- one number more, at which none is known or below which one is missing
-some_more : (o : Option (List ℕ)) (object n m : ℕ) → object < suc n → (object ≡ n → IsNone o) → (object < n → 1 ≤ m) → 1 ≤ (if is_some o then 0 else 1) + m
-some_more None object n m below here there = omega arith
-some_more (Some t) object n m below here there = let some : 1 ≤ m = there (omega (arith, below, other)) in omega (arith, some)
-  where
-    other : object ≢ n
-    other e = let none : IsNone (Some t) = here e in absurd (cc)
-
--- where the id of an object is not known, one at least is missing above it
-pub some_missing : (ids : List (ℕ × List ℕ)) (object : ℕ) → IsNone (known_at ids object) → (n : ℕ) → object < n → 1 ≤ missing n ids
-some_missing ids object unknown zero below = absurd (omega (arith, below))
-some_missing ids object unknown (suc n) below =
-    some_more (known_at ids n) object n (missing n ids) below (λ e. subst (λ q. IsNone (known_at ids q)) e unknown) (λ less. some_missing ids object unknown n less)
-
-one_at_most : (o : Option (List ℕ)) (m n : ℕ) → m ≤ n → (if is_some o then 0 else 1) + m ≤ suc n
-one_at_most None m n few = omega (arith, few)
-one_at_most (Some t) m n few = omega (arith, few)
-
--- no more are missing than there are numbers
-few_missing : (ids : List (ℕ × List ℕ)) (n : ℕ) → missing n ids ≤ n
-few_missing ids zero = omega arith
-few_missing ids (suc n) = one_at_most (known_at ids n) (missing n ids) n (few_missing ids n)
-
--- so no more steps are left than at first
-pub most_left : (ids : List (ℕ × List ℕ)) (n places : ℕ) → places ≤ 262_144 → places + 785 * missing n ids ≤ 262_144 + 785 * n
-most_left ids n places few = let less : missing n ids ≤ n = few_missing ids n in omega (arith, few, less)
 
 -- ---- how many of objects are not known
 

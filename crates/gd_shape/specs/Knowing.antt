@@ -1,5 +1,5 @@
 -- Ids of objects of a list of primitives.
-use Rattle.std.specs.Prelude.{◌≡◌, ◌+◌, ℕ, zero, suc, List, Option, is_some, if◌then◌else◌}
+use Rattle.std.specs.Prelude.{◌≡◌, ℕ, List, Option, is_some}
 use Rattle.std.specs.Option.{ForSome}
 use Rattle.std.specs.Ordering.{nat_cmp}
 use Rattle.std.specs.Map.{lookup}
@@ -15,11 +15,6 @@ known_at ids object = lookup (is_at (nat_cmp object)) ids
 -- what is known are the ids of the objects
 abbrev pub IsKnownOf : List Primitive → List (ℕ × List ℕ) → Type 0
 IsKnownOf prims ids = (object : ℕ) → ForSome (known_at ids object) (λ text. text ≡ id_text prims object)
-
--- how many of the numbers below n have no id among these
-abbrev pub missing : ℕ → List (ℕ × List ℕ) → ℕ
-missing zero ids = 0
-missing (suc n) ids = (if is_some (known_at ids n) then 0 else 1) + missing n ids
 
 -- how many of objects have no id among these, each as often as it stands there
 abbrev pub unknown_of : List (ℕ × List ℕ) → List ℕ → ℕ

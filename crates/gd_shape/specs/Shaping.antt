@@ -14,7 +14,7 @@ use Rattle.gd_plan.specs.Asked.{asked_view}
 use Rattle.gd_defs.specs.Lines.{count_json}
 use Rattle.gd_runs.specs.Shape.{page_shape}
 use Rattle.gd_trees.specs.View.{view as tree_view, trees_view}
-use Rattle.gd_shape.specs.Knowing.{known_at, missing, unknown_of, IsKnownOf}
+use Rattle.gd_shape.specs.Knowing.{known_at, unknown_of, IsKnownOf}
 use Rattle.gd_shape.specs.Listed.{AreAmong}
 use Rattle.gd_shape.specs.Outcome.{seen, text_of}
 use Rattle.gd_shape.specs.declared.shape.Shape.{Shape}
@@ -50,18 +50,6 @@ page_of prims s = count_or s.count (page_shape prims (asked_of s) (trees_in s) [
 abbrev pub body_print : List Primitive → Asked → PageBody → Result tree.Json Path
 body_print prims q (body.Trees trees) = page_shape prims q (list_of (trees_view trees)) []
 body_print prims q (body.Count n) = Ok (count_json n)
-
--- steps that are left, at most: one for each place that is still to be counted, and 785 for each object below n whose id is not known
-abbrev pub steps_left : ℕ → Shape → ℕ
-steps_left n s = s.places + 785 * missing n s.ids
-
--- the same of a page that may have come to a fault, after which none are left
-abbrev pub shape_left : ℕ → Shape → ℕ
-shape_left n s = if s.stopped then 0 else steps_left n s
-
--- no more than these are left at first
-abbrev pub shape_most : ℕ → ℕ
-shape_most n = 262_144 + 785 * n
 
 -- the objects whose ids the page prints, over a list
 abbrev pub listed_of : List Primitive → Shape → List ℕ

@@ -1,10 +1,10 @@
 //! Ids that were found.
-ghost use Rattle.std.specs.Prelude.{◌≡◌, ◌+◌, ◌<◌, ◌≤◌, ℕ, IsNone, List, OnOk};
+ghost use Rattle.std.specs.Prelude.{◌≡◌, ◌+◌, ◌≤◌, ℕ, IsNone, List, OnOk};
 ghost use Rattle.std.specs.Option.{option_copied};
 ghost use Rattle.gd_prim.specs.declared.Primitive.{Primitive};
 ghost use Rattle.gd_defs.specs.Ids.{id_text};
 ghost use Rattle.gd_order_laws.specs.Window.{In};
-ghost use Rattle.gd_shape.specs.Knowing.{known_at, missing, unknown_of, IsKnownOf};
+ghost use Rattle.gd_shape.specs.Knowing.{known_at, unknown_of, IsKnownOf};
 
 use gd_base::id::Id;
 use gd_base::memory::Memory;
@@ -45,13 +45,9 @@ impl Known {
     }
 
     /// Keeps the id of an object. `Memory`: what is known stays.
-    #[tactic(auto, using(crate::proofs::Knowing::as_many_missing))]
     pub fn learn(&mut self, object: Id, text: JsonText) -> Result<(), Memory>
         ensures known { (prims : List Primitive) → IsKnownOf prims self.old
             → text ≡ id_text prims object → IsKnownOf prims self.new }
-        ensures fewer { (n : ℕ) → missing n self.new ≤ missing n self.old }
-        ensures one { OnOk result ((n : ℕ) → object < n → IsNone (known_at self.old object)
-            → missing n self.new + 1 ≡ missing n self.old) }
         ensures due { OnOk result ((os : List ℕ) → In object os → IsNone (known_at self.old object)
             → unknown_of self.new os + 1 ≤ unknown_of self.old os) }
     {

@@ -14,13 +14,13 @@ ghost use Rattle.gd_plan.specs.Asked.{asked_view};
 ghost use Rattle.gd_runs.specs.Shape.{page_shape};
 ghost use Rattle.gd_trees.specs.View.{view as tree_view};
 ghost use Rattle.gd_work_laws.specs.Reading.{printing_most};
-ghost use Rattle.gd_shape.specs.Knowing.{known_at, missing, unknown_of, IsKnownOf};
+ghost use Rattle.gd_shape.specs.Knowing.{known_at, unknown_of, IsKnownOf};
 ghost use Rattle.gd_shape.specs.Listed.{AreAmong};
 ghost use Rattle.gd_shape.specs.Outcome.{seen, text_of, Lacks, LacksOf};
 ghost use Rattle.gd_shape.specs.declared.shape.Shape.{Shape};
 ghost use Rattle.gd_shape.specs.declared.shape.ShapeFault.TheVariants.{Memory as no_memory};
-ghost use Rattle.gd_shape.specs.Shaping.{asked_of, trees_in, page_of, body_print, steps_left};
-ghost use Rattle.gd_shape.specs.Shaping.{shape_left, shape_most, IsOf, IsSamePage, IsWanted};
+ghost use Rattle.gd_shape.specs.Shaping.{asked_of, trees_in, page_of, body_print};
+ghost use Rattle.gd_shape.specs.Shaping.{IsOf, IsSamePage, IsWanted};
 ghost use Rattle.gd_shape.specs.Shaping.{steps_due, shape_due, body_due, listed_of};
 ghost use Rattle.gd_shape.specs.Shaping.{IsBodyOf, IsDue, IsNextDue};
 ghost use Rattle.gd_shape.specs.Shaping.{IsNext, Tells, Refuses, is_unfinished};
@@ -145,7 +145,7 @@ fn unknown(objects: &mut Vec<Id>, ids: &Known) -> Option<Id>
 }
 
 /// Finds the id of an object that is not known: at most 785 steps.
-#[tactic(auto, using(crate::proofs::Knowing::some_missing, crate::proofs::Knowing::some_unknown))]
+#[tactic(auto, using(crate::proofs::Knowing::some_unknown))]
 fn find_id<L>(
     alloc: Global,
     ids: &mut Known,
@@ -155,8 +155,6 @@ fn find_id<L>(
 ) -> Result<(), Memory>
     requires { IsNone (known_at ids.old object) }
     ensures known { IsKnownOf (prims_of view.now) ids.old → IsKnownOf (prims_of view.now) ids.new }
-    ensures one { OnOk result ((n : ℕ) → 2 ^ 32 ≤ n → missing n ids.new + 1 ≡ missing n ids.old) }
-    ensures some { (n : ℕ) → 2 ^ 32 ≤ n → 1 ≤ missing n ids.old }
     ensures due { OnOk result ((os : List ℕ) → In object os
         → unknown_of ids.new os + 1 ≤ unknown_of ids.old os) }
     ensures some_due { (os : List ℕ) → In object os → 1 ≤ unknown_of ids.old os }
@@ -184,14 +182,11 @@ fn left_of(budget: u64, before: u64, after: u64) -> u64
 
 /// A shape of trees or of a count, of which nothing is looked at yet, with so many places for which
 /// a step is to be counted.
-#[tactic(auto, using(crate::proofs::Knowing::most_left))]
 fn begun(alloc: Global, asked: Asked, trees: Vec<Tree>, count: Option<u32>, places: u64) -> Shape
-    requires { places ≤ 262_144 }
     ensures asked { asked_of result ≡ asked_view asked }
     ensures trees { trees_in result ≡ map tree_view trees.items }
     ensures count { result.count ≡ count }
     ensures of { (prims : List Primitive) → IsOf prims result }
-    ensures left { (n : ℕ) → shape_left n result ≤ shape_most n }
     ensures due { (prims : List Primitive) → shape_due prims result
         ≤ places + 785 * length (rows_listed prims (asked_view asked).members
         (map tree_view trees.items)) }
@@ -217,7 +212,6 @@ impl Shape {
         ensures page { IfOk result (λ shape. (prims : List Primitive)
             → page_of prims shape ≡ body_print prims (asked_view asked) body) }
         ensures of { IfOk result (λ shape. (prims : List Primitive) → IsOf prims shape) }
-        ensures left { IfOk result (λ shape. (n : ℕ) → shape_left n shape ≤ shape_most n) }
         ensures due { IfOk result (λ shape. (prims : List Primitive)
             → shape_due prims shape ≤ body_due prims (asked_view asked) body) }
 
@@ -241,7 +235,6 @@ impl Shape {
         requires { IsOf (prims_of view.now) self.old }
         ensures page { IsSamePage self.old self.new }
         ensures still { IsOf (prims_of view.now) self.new }
-        ensures left { (n : ℕ) → steps_left n self.new ≡ steps_left n self.old }
         ensures due { (prims : List Primitive) → steps_due prims self.new ≡ steps_due prims self.old }
     {
         if !self.gathered {
@@ -277,7 +270,6 @@ impl Shape {
         ensures wanted { IfOk result (λ next. IsNextDue (prims_of view.now) self.new next) }
         ensures page { IsSamePage self.old self.new }
         ensures still { IsOf (prims_of view.now) self.new }
-        ensures left { (n : ℕ) → steps_left n self.new ≡ steps_left n self.old }
         ensures due { (prims : List Primitive) → steps_due prims self.new ≡ steps_due prims self.old }
     {
         if self.places > 0 {
@@ -302,10 +294,7 @@ impl Shape {
         requires due { IsDue (prims_of view.now) self.old wanted }
         ensures page { IsSamePage self.old self.new }
         ensures still { IsOf (prims_of view.now) self.old → IsOf (prims_of view.now) self.new }
-        ensures within { (n : ℕ) → 2 ^ 32 ≤ n → steps.new ≤ steps.old + steps_left n self.old }
-        ensures within_due { steps.new ≤ steps.old + steps_due (prims_of view.now) self.old }
-        ensures less { OnOk result ((n : ℕ) → 2 ^ 32 ≤ n → steps.new + steps_left n self.new
-            ≤ steps.old + steps_left n self.old) }
+        ensures within { steps.new ≤ steps.old + steps_due (prims_of view.now) self.old }
         ensures due { OnOk result (steps.new + steps_due (prims_of view.now) self.new
             ≤ steps.old + steps_due (prims_of view.now) self.old) }
         ensures work { steps.new ≤ steps.old + 785 }
@@ -341,10 +330,7 @@ impl Shape {
             ≤ steps.new) }
         ensures page { IsSamePage self.old self.new }
         ensures still { IsOf (prims_of view.now) self.new }
-        ensures within { (n : ℕ) → 2 ^ 32 ≤ n → steps.new ≤ steps.old + steps_left n self.old }
-        ensures within_due { steps.new ≤ steps.old + steps_due (prims_of view.now) self.old }
-        ensures less { IsOk result → (n : ℕ) → 2 ^ 32 ≤ n → steps.new + steps_left n self.new
-            ≤ steps.old + steps_left n self.old }
+        ensures within { steps.new ≤ steps.old + steps_due (prims_of view.now) self.old }
         ensures due { IsOk result → steps.new + steps_due (prims_of view.now) self.new
             ≤ steps.old + steps_due (prims_of view.now) self.old }
         ensures work { steps.new ≤ steps.old + budget + 1024 }
@@ -384,8 +370,6 @@ impl Shape {
             ≤ steps.new) }
         ensures page { IsSamePage self.old self.new }
         ensures still { IsOf (prims_of view.now) self.new }
-        ensures less { (n : ℕ) → 2 ^ 32 ≤ n → steps.new + shape_left n self.new
-            ≤ steps.old + shape_left n self.old }
         ensures due { steps.new + shape_due (prims_of view.now) self.new
             ≤ steps.old + shape_due (prims_of view.now) self.old }
         ensures work { steps.new ≤ steps.old + budget + 1024 }
@@ -399,9 +383,8 @@ impl Shape {
     /// Goes on over a view, until the budget of steps is reached or the page is printed: what the
     /// root of the query prints from the body, by the list of primitives below the view. It takes
     /// at most 1,024 steps more than the budget, and no more than those by which it lowers the
-    /// number that is left (`shape_left`): so after finitely many calls the page is printed. It
-    /// lowers by them, too, the number that is due (`shape_due`), which counts a step for each place
-    /// of the trees and 785 for each id that the page prints.
+    /// number that is due (`shape_due`), which counts a step for each place of the trees and 785 for
+    /// each id that the page prints: so after finitely many calls the page is printed.
     /// `NotUnique`: two answers were found where one is asked; the path is the first such one.
     /// `Memory`: an allocation was refused, or a call before it came to a fault. After a reply
     /// nothing more is to be asked.
@@ -425,13 +408,8 @@ impl Shape {
         ensures page { IsSamePage self.old self.new }
         ensures still { IsOf (prims_of view.now) self.new }
 
-        // Each call lowers the steps that are left, at most, by those that it takes, whatever it
-        // comes to. Each place is below 2^32.
-        ensures less { (n : ℕ) → 2 ^ 32 ≤ n → steps.new + shape_left n self.new
-            ≤ steps.old + shape_left n self.old }
-
-        // It does the same to the steps that are due: those for the places of the trees and for the
-        // ids that the page prints.
+        // Each call lowers the steps that are due, at most, by those that it takes, whatever it comes
+        // to: those for the places of the trees and for the ids that the page prints.
         ensures due { steps.new + shape_due (prims_of view.now) self.new
             ≤ steps.old + shape_due (prims_of view.now) self.old }
         ensures work { steps.new ≤ steps.old + budget + 1024 }

@@ -1,19 +1,10 @@
-use Rattle.std.proofs.Common.{◌≡◌, ◌≤◌, ◌+◌, IsNone, subst, sym}
-use Rattle.gd_shape.specs.Knowing.{known_at, missing, unknown_of, IsKnownOf}
-use Rattle.gd_shape.proofs.Knowing.{learned, kept, fewer_missing, one_missing_less, fewer_unknown}
+use Rattle.std.proofs.Common.{◌≤◌, ◌+◌, IsNone, subst, sym}
+use Rattle.gd_shape.specs.Knowing.{known_at, unknown_of, IsKnownOf}
+use Rattle.gd_shape.proofs.Knowing.{learned, kept, fewer_unknown}
 use Rattle.gd_shape.proofs.known.Known.learn.Goals as goal
 
 pub returns-in-Ok-clause-known : goal.returns-in-Ok-clause-known
 returns-in-Ok-clause-known c = λ prims known is. learned prims c.self.inside.ids.entries c.insert.new.self.entries c.args.object c.args.text (subst (IsKnownOf prims) (sym c.self.view_is) known) is c.in-Ok.ensures.updates.0
-
-pub returns-in-Ok-clause-fewer : goal.returns-in-Ok-clause-fewer
-returns-in-Ok-clause-fewer c = λ n. subst (λ ids. missing n c.insert.new.self.entries ≤ missing n ids) c.self.view_is
-    (fewer_missing c.self.inside.ids.entries c.insert.new.self.entries c.args.object c.args.text c.in-Ok.ensures.updates.0 n)
-
-pub returns-in-Ok-clause-one : goal.returns-in-Ok-clause-one
-returns-in-Ok-clause-one c = λ n below unknown. subst (λ ids. missing n c.insert.new.self.entries + 1 ≡ missing n ids) c.self.view_is
-    (one_missing_less c.self.inside.ids.entries c.insert.new.self.entries c.args.object c.args.text c.in-Ok.ensures.updates.0 n below
-    (subst (λ ids. IsNone (known_at ids c.args.object)) (sym c.self.view_is) unknown))
 
 pub returns-in-Ok-clause-due : goal.returns-in-Ok-clause-due
 returns-in-Ok-clause-due c = λ os here unknown. subst (λ ids. unknown_of c.insert.new.self.entries os + 1 ≤ unknown_of ids os) c.self.view_is

@@ -1,6 +1,6 @@
-use Rattle.std.proofs.Common.{◌≤◌, ◌<◌, ◌+◌, ◌-◌, ◌^◌, ℕ, min}
+use Rattle.std.proofs.Common.{◌≤◌, ◌<◌, ◌+◌, ◌-◌, ◌^◌, min}
 use Rattle.gd_prim.specs.History.{prims_of}
-use Rattle.gd_shape.specs.Shaping.{IsOf, IsSamePage, steps_left, steps_due}
+use Rattle.gd_shape.specs.Shaping.{IsOf, IsSamePage, steps_due}
 use Rattle.gd_shape.proofs.shape.Shape.print_trees.Given as goal
 
 abbrev pub invariant-loop-left : goal.invariant-loop-left
@@ -12,7 +12,6 @@ invariant-loop-left g l = record {
   within : l.steps + l.left ≤ l.initial.steps + l.budget + 1024;
   before : 0 < l.left → l.steps + l.left ≤ l.initial.steps + l.budget;
   counted : min (l.initial.steps + (l.budget - l.left)) (2 ^ 64 - 1) ≤ l.steps;
-  less : (n : ℕ) → 2 ^ 32 ≤ n → l.steps + steps_left n l.self ≤ l.initial.steps + steps_left n l.initial.self;
   due : l.steps + steps_due (prims_of l.view) l.self ≤ l.initial.steps + steps_due (prims_of l.view) l.initial.self;
 }
 
