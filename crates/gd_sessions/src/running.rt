@@ -487,7 +487,7 @@ impl<D: Disk, C: Clock> Running<D, C> {
 
         // Where its steps are counted from 0, the event keeps the pace: a reading that begins has
         // no more left than its first number, a slice that is unfinished takes its budget off, and
-        // of each other reading is left what was.
+        // of each other reading no more is left than before.
         ensures paced { steps.old ≡ 0
             → KeepsPace line (event_view event) (reply_text result) self.old self.new }
         ensures later { steps.old ≤ steps.new }
