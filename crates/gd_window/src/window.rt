@@ -1,13 +1,13 @@
 //! The first rows behind a row.
-ghost use Rattle.std.specs.Prelude.{◌≡◌, ◌+◌, ◌≤◌, [], ◌∷◌, ◌++◌, List, true, length, take, nat_lt};
+ghost use Rattle.std.specs.Prelude.{◌≡◌, ◌+◌, ◌≤◌, [], ◌∷◌, ◌++◌, List, true, length};
 ghost use Rattle.std.specs.Prelude.{IfOk, OnOk, OnErr};
 ghost use Rattle.gd_window.specs.declared.row.Row.{Row};
-ghost use Rattle.gd_window.specs.Kept.{is_behind, rows_behind, HasSeen};
+ghost use Rattle.gd_window.specs.Kept.{is_behind, HasSeen};
 
 use crate::compare::row_order;
 use crate::order::Order;
 use crate::place::{place_of, put};
-use crate::row::{Row, Rows};
+use crate::row::Row;
 use gd_base::id::Id;
 use gd_base::memory::Memory;
 use std::alloc::Global;
@@ -127,24 +127,5 @@ impl Window {
             Some(last) => last.id.place() < id.place(),
             None => false,
         }
-    }
-
-    /// The first rows behind `after` of all that were offered, in their order and up to the limit,
-    /// and whether there are more of them. Afterwards no row counts as offered. It takes no memory.
-    pub fn take_all(&mut self) -> (Rows, bool)
-        ensures rows { (offered : List Row) → HasSeen self.old offered
-            → result.0 ≡ take self.old.limit (rows_behind self.old.order self.old.after offered) }
-        ensures more { (offered : List Row) → HasSeen self.old offered
-            → result.1 ≡ nat_lt self.old.limit
-            (length (rows_behind self.old.order self.old.after offered)) }
-        ensures anew { self.new ≡ record self.old { rows = [] } }
-        ensures again { HasSeen self.new [] }
-    {
-        let limit = self.limit as usize;
-        let more = limit < self.kept.len();
-        self.kept.truncate(limit);
-        let none = Vec::new(*self.kept.allocator());
-        let rows = std::mem::replace(&mut self.kept, none);
-        (Rows::from_vec(rows), more)
     }
 }
