@@ -1,27 +1,25 @@
 -- What was looked up so far, and what is left of it.
-use Rattle.std.proofs.Common.{◌≡◌, ◌∙◌, ℕ, ◌+◌, ◌*◌, ◌≤◌, ◌<◌, suc, List, [], ◌∷◌, length, drop, get_or, Vec, Global, add-one, drop-cons, Bool, true, false, ◌&&◌, ◌||◌, Option, Some, None, Result, Ok, refl, sym, ap, subst, arith, rules, codes}
+use Rattle.std.proofs.Common.{◌≡◌, ◌∙◌, ℕ, ◌+◌, ◌*◌, ◌≤◌, ◌<◌, suc, List, ◌∷◌, length, drop, get_or, Vec, Global, add-one, drop-cons, Bool, true, false, ◌&&◌, ◌||◌, Option, Some, None, Ok, sym, ap, subst, arith, rules, codes}
 use Rattle.std.specs.Prelude.{sum_by, is_some, if◌then◌else◌, bytes_eq}
 use Rattle.std.proofs.lemmas.Bool.{false≢true}
 use Rattle.std.proofs.lemmas.List.Sums.{sum_by-cons}
-use Rattle.gd_grammar.specs.Chain.{◌>>=◌}
 use Rattle.gd_grammar.proofs.Steps.{steps, ok_same, some_given}
 use Rattle.gd_prim.specs.declared.Primitive.{Primitive}
-use Rattle.gd_tree.specs.Json.{Json, null, boolean, number, text, list, object, Items, no_items, item}
+use Rattle.gd_tree.specs.Json.{Json, null, boolean, number, text, list, object, Items, item}
 use Rattle.gd_defs.specs.Data.{Test}
 use Rattle.gd_defs.specs.Cost.{context, expected_of, id_cost}
 use Rattle.gd_defs.specs.Ids.{object_of}
 use Rattle.gd_defs.specs.Query as query
 use Rattle.gd_defs.specs.Query.{is_word}
-use Rattle.gd_defs.specs.Property.{Property, Expects, a_value, a_key, an_object_of_system, a_plain_object, expects_of, holds_values, property, property_object}
+use Rattle.gd_defs.specs.Property.{Property, Expects, a_value, a_key, an_object_of_system, a_plain_object, expects_of, holds_values, property}
 use Rattle.gd_defs.specs.Asked.{Own, its_id, its_guid, its_timestamp, its_link, its_value, its_namespace, its_lang, own_of, own_expects, takes, has_namespace, has_lang, asked_object, test_of, context_of, type_text, place_named}
 use Rattle.gd_json.specs.View.{view, items_view}
 use Rattle.gd_json.specs.declared.value.Json.{Json as Written, List as List', Text as Text', the_lemmas}
 use Rattle.gd_json.proofs.Parts.{view-List}
 use Rattle.gd_resolve.specs.Asked.{property_steps}
-use Rattle.gd_compile.specs.Looks.{item_steps, operand_steps, test_steps, language_looks, own_steps, own_looks, itself_looks, part_looks, turned_steps, member_steps, sort_steps, context_steps, computed_looks, value_looks, looks, form_looks, member_looks, clause_looks, below_looks}
+use Rattle.gd_compile.specs.Looks.{item_steps, operand_steps, test_steps, language_looks, own_steps, own_looks, itself_looks, part_looks, member_steps, sort_steps, context_steps, computed_looks, value_looks, looks, form_looks, member_looks, clause_looks, below_looks}
 use Rattle.gd_compile.specs.Seen.{is_choice}
 use Rattle.gd_compile.specs.Spoken.{language_steps, object_named}
-use Rattle.gd_compile.proofs.Paid.{item_within}
 use Rattle.gd_compile.proofs.Spoken.{test_named}
 
 -- ---- operands

@@ -1,5 +1,5 @@
 -- The cost of a query pays for looking up its words and ids.
-use Rattle.std.proofs.Common.{◌≡◌, ◌∙◌, ℕ, ◌+◌, ◌*◌, ◌≤◌, List, [], ◌∷◌, length, Bool, true, false, not, ◌&&◌, ◌||◌, Option, Some, None, is_some, Ok, refl, sym, ap, subst, arith, codes}
+use Rattle.std.proofs.Common.{◌≡◌, ℕ, ◌+◌, ◌*◌, ◌≤◌, List, [], ◌∷◌, length, Bool, true, false, ◌&&◌, ◌||◌, Option, Some, None, is_some, refl, sym, ap, subst, arith, codes}
 use Rattle.std.specs.Prelude.{sum_by, if◌then◌else◌, bytes_eq}
 use Rattle.std.proofs.lemmas.Bool.{false≢true}
 use Rattle.std.proofs.lemmas.List.Sums.{sum_by-cons}
@@ -7,15 +7,15 @@ use Rattle.gd_prim.specs.declared.Primitive.{Primitive}
 use Rattle.gd_prim.specs.declared.End.TheVariants.{Left}
 use Rattle.gd_prim.specs.End.{places_with}
 use Rattle.gd_tree.specs.Json.{Json, null, boolean, number, text, list, object}
-use Rattle.gd_defs.specs.Cost.{said_of, id_cost, ids_cost, word_cost, sort_cost, operand_cost, own_cost, reference_cost, value_cost, members_cost, form_cost, context, expected_of}
+use Rattle.gd_defs.specs.Cost.{said_of, id_cost, ids_cost, word_cost, sort_cost, operand_cost, own_cost, reference_cost, value_cost, members_cost, form_cost, type_cost, context, expected_of}
 use Rattle.gd_defs.specs.Query as query
 use Rattle.gd_defs.specs.Query.{has_operator, is_word}
 use Rattle.gd_defs.specs.Property.{Property, Expects, a_value, a_key, an_object_of_system, a_plain_object, expects_of, holds_values, property, property_object}
 use Rattle.gd_defs.specs.Asked.{Own, its_id, its_guid, its_timestamp, its_link, its_namespace, its_lang, own_of, own_expects, takes, has_namespace, has_lang, type_text}
 use Rattle.gd_defs.specs.Asked.Tests.{tested_as}
 use Rattle.gd_resolve.specs.Asked.{property_steps}
-use Rattle.gd_resolve.proofs.Costs.{found_steps, word_paid, word_least}
-use Rattle.gd_compile.specs.Looks.{item_steps, operand_steps, test_steps, language_looks, own_steps, own_looks, itself_looks, part_looks, value_looks, turned_steps, member_steps, sort_steps, context_steps, computed_looks, looks, form_looks, member_looks, is_system, expects_types}
+use Rattle.gd_resolve.proofs.Costs.{found_steps, word_paid}
+use Rattle.gd_compile.specs.Looks.{item_steps, operand_steps, test_steps, language_looks, own_steps, own_looks, itself_looks, part_looks, value_looks, turned_steps, member_steps, sort_steps, context_steps, computed_looks, looks, form_looks, member_looks}
 use Rattle.gd_compile.proofs.Right.{IsNamed, AreRight, IsRight}
 
 -- ---- operands
@@ -282,24 +282,17 @@ type_first n (query.operand j) ms = omega arith
 type_first n (query.one d cs) ms = omega arith
 type_first n (query.many d cs) ms = omega arith
 
--- `type` asks for objects of a system type
-pub types_system : (prims : List Primitive) (c : Option ℕ) → expects_types prims ≡ true → expects_of (expected_of (property prims c false (codes "type"))) ≡ an_object_of_system
-types_system prims c told = by (expects_of (expected_of (property prims None false (codes "type")))) told
-  where
-    by : (e : Expects) → is_system e ≡ true → e ≡ an_object_of_system
-    by an_object_of_system told = refl
-    by (a_value k) told = absurd (false≢true told)
-    by a_key told = absurd (false≢true told)
-    by a_plain_object told = absurd (false≢true told)
-
 -- ---- clauses
 
 -- what a member costs
 abbrev pub member_cost : List Primitive → Option ℕ → query.Name → query.Form → ℕ
-member_cost prims c n f = if query.is_computed n.word || query.is_link n.word then own_cost n f else word_cost prims c n.word + form_cost prims (expected_of (property prims c n.reversed n.word)) f
+member_cost prims c n f = if query.is_computed n.word || query.is_link n.word then own_cost n f else word_cost prims c n.word + (form_cost prims (expected_of (property prims c n.reversed n.word)) f + type_cost (expects_of (expected_of (property prims c n.reversed n.word))) n f)
 
 pub words_same : (n : query.Name) → is_some (own_of n.word) ≡ (query.is_computed n.word || query.is_link n.word)
 words_same n = same_words (is_word (codes "id") n.word) (is_word (codes "guid") n.word) (is_word (codes "timestamp") n.word) (query.is_link n.word)
+
+sum_more : (a b x y z : ℕ) → a ≤ 64 * x → b ≤ 64 * y → a + b ≤ 64 * (x + (y + z))
+sum_more a b x y z one two = omega (arith, one, two)
 
 -- a member that names no context type
 member_base : (prims : List Primitive) (c : Option ℕ) (n : query.Name) (f : query.Form) → form_looks prims (expected_of (property prims c n.reversed n.word)) f ≤ 64 * form_cost prims (expected_of (property prims c n.reversed n.word)) f
@@ -307,48 +300,58 @@ member_base : (prims : List Primitive) (c : Option ℕ) (n : query.Name) (f : qu
 member_base prims c n f form = by (is_some (own_of n.word)) (query.is_computed n.word || query.is_link n.word) (words_same n)
   where
     by : (a b : Bool) → a ≡ b → (if a then computed_looks prims (own_of n.word) n.operator f else member_steps prims c n.reversed n.word + form_looks prims (expected_of (property prims c n.reversed n.word)) f)
-        ≤ 64 * (if b then own_cost n f else word_cost prims c n.word + form_cost prims (expected_of (property prims c n.reversed n.word)) f)
+        ≤ 64 * (if b then own_cost n f else word_cost prims c n.word + (form_cost prims (expected_of (property prims c n.reversed n.word)) f + type_cost (expects_of (expected_of (property prims c n.reversed n.word))) n f))
     by true true same = computed_paid prims n f
-    by false false same = sum_paid _ _ _ _ (member_paid prims c n.reversed n.word) form
+    by false false same = sum_more _ _ _ _ (type_cost (expects_of (expected_of (property prims c n.reversed n.word))) n f) (member_paid prims c n.reversed n.word) form
     by true false same = absurd (false≢true (sym same))
     by false true same = absurd (false≢true same)
 
 -- the member `type`, with what its text takes as the context type
-typed_paid : (prims : List Primitive) (c : Option ℕ) (n : query.Name) (t : List ℕ) → expects_types prims ≡ true → n.word ≡ codes "type" → n.reversed ≡ false
+typed_paid : (prims : List Primitive) (c : Option ℕ) (n : query.Name) (t : List ℕ) → bytes_eq n.spelled (codes "type") ≡ true → n.word ≡ codes "type"
     → member_looks prims c n (query.literal (text t)) + 30 * id_cost t ≤ 64 * member_cost prims c n (query.literal (text t))
-typed_paid prims c n t told word straight = rw (word, straight) (all (member_steps prims c false (codes "type")) (word_cost prims c (codes "type")) (expects_of (expected_of (property prims c false (codes "type")))) (member_paid prims c false (codes "type")) (types_system prims c told))
+typed_paid prims c n t spelled word = by n.word word (member_paid prims c n.reversed n.word)
   where
-    sum : (m w i v : ℕ) → m ≤ 64 * w → m + 30 * i + 30 * i ≤ 64 * (w + (i + v))
-    sum m w i v paid = omega (arith, paid)
+    both : (m w i v : ℕ) → m ≤ 64 * w → m + 30 * i + 30 * i ≤ 64 * (w + (i + v + 0))
+    both m w i v paid = omega (arith, paid)
 
-    all : (m w : ℕ) (e : Expects) → m ≤ 64 * w → e ≡ an_object_of_system → m + operand_steps (tested_as e) (text t) + 30 * id_cost t ≤ 64 * (w + operand_cost prims e (text t))
-    all m w an_object_of_system paid is = sum m w (id_cost t) (word_cost prims None (codes "name")) paid
-    all m w (a_value k) paid is = absurd (cc)
-    all m w a_key paid is = absurd (cc)
-    all m w a_plain_object paid is = absurd (cc)
+    one : (b : Bool) (m w i v : ℕ) → b ≡ true → m ≤ 64 * w → m + 0 + 30 * i ≤ 64 * (w + (v + (if b then i else 0)))
+    one true m w i v is paid = omega (arith, paid)
+    one false m w i v is paid = absurd (false≢true is)
+
+    all : (m w : ℕ) (e : Expects) → m ≤ 64 * w → m + operand_steps (tested_as e) (text t) + 30 * id_cost t ≤ 64 * (w + (operand_cost prims e (text t) + type_cost e n (query.literal (text t))))
+    all m w an_object_of_system paid = both m w (id_cost t) (word_cost prims None (codes "name")) paid
+    all m w (a_value k) paid = one (bytes_eq n.spelled (codes "type")) m w (id_cost t) 0 spelled paid
+    all m w a_key paid = one (bytes_eq n.spelled (codes "type")) m w (id_cost t) 0 spelled paid
+    all m w a_plain_object paid = one (bytes_eq n.spelled (codes "type")) m w (id_cost t) (word_cost prims None (codes "name")) spelled paid
+
+    by : (word : List ℕ) → word ≡ codes "type" → member_steps prims c n.reversed word ≤ 64 * word_cost prims c word
+        → (if is_some (own_of word) then computed_looks prims (own_of word) n.operator (query.literal (text t)) else member_steps prims c n.reversed word + form_looks prims (expected_of (property prims c n.reversed word)) (query.literal (text t))) + 30 * id_cost t
+        ≤ 64 * (if query.is_computed word || query.is_link word then own_cost n (query.literal (text t))
+        else word_cost prims c word + (form_cost prims (expected_of (property prims c n.reversed word)) (query.literal (text t)) + type_cost (expects_of (expected_of (property prims c n.reversed word))) n (query.literal (text t))))
+    by word is paid = rw is (all (member_steps prims c n.reversed (codes "type")) (word_cost prims c (codes "type")) (expects_of (expected_of (property prims c n.reversed (codes "type")))) (subst (λ w. member_steps prims c n.reversed w ≤ 64 * word_cost prims c w) is paid))
 
 plus_none : (a m : ℕ) → a ≤ m → a + 0 ≤ m
 plus_none a m le = omega (arith, le)
 
 -- any member
-pub one_paid : (prims : List Primitive) (c : Option ℕ) (n : query.Name) (f : query.Form) → expects_types prims ≡ true → IsNamed n
+pub one_paid : (prims : List Primitive) (c : Option ℕ) (n : query.Name) (f : query.Form) → IsNamed n
     → form_looks prims (expected_of (property prims c n.reversed n.word)) f ≤ 64 * form_cost prims (expected_of (property prims c n.reversed n.word)) f
     → member_looks prims c n f + own_type n f ≤ 64 * member_cost prims c n f
-one_paid prims c n (query.literal (text t)) told named form = by (bytes_eq n.spelled (codes "type")) named
+one_paid prims c n (query.literal (text t)) named form = by (bytes_eq n.spelled (codes "type")) refl
   where
-    by : (b : Bool) → (b ≡ true → (n.word ≡ codes "type") × (n.reversed ≡ false)) → member_looks prims c n (query.literal (text t)) + (if b then 30 * id_cost t else 0) ≤ 64 * member_cost prims c n (query.literal (text t))
-    by true named = let is = named refl in typed_paid prims c n t told is.0 is.1
-    by false named = plus_none _ _ (member_base prims c n (query.literal (text t)) form)
-one_paid prims c n (query.literal null) told named form = plus_none _ _ (member_base prims c n (query.literal null) form)
-one_paid prims c n (query.literal (boolean b)) told named form = plus_none _ _ (member_base prims c n (query.literal (boolean b)) form)
-one_paid prims c n (query.literal (number m)) told named form = plus_none _ _ (member_base prims c n (query.literal (number m)) form)
-one_paid prims c n (query.literal (list js)) told named form = plus_none _ _ (member_base prims c n (query.literal (list js)) form)
-one_paid prims c n (query.literal (object os)) told named form = plus_none _ _ (member_base prims c n (query.literal (object os)) form)
-one_paid prims c n query.ask told named form = plus_none _ _ (member_base prims c n query.ask form)
-one_paid prims c n query.ask_all told named form = plus_none _ _ (member_base prims c n query.ask_all form)
-one_paid prims c n (query.operand j) told named form = plus_none _ _ (member_base prims c n (query.operand j) form)
-one_paid prims c n (query.one d ms) told named form = plus_none _ _ (member_base prims c n (query.one d ms) form)
-one_paid prims c n (query.many d ms) told named form = plus_none _ _ (member_base prims c n (query.many d ms) form)
+    by : (b : Bool) → bytes_eq n.spelled (codes "type") ≡ b → member_looks prims c n (query.literal (text t)) + (if b then 30 * id_cost t else 0) ≤ 64 * member_cost prims c n (query.literal (text t))
+    by true spelled = typed_paid prims c n t spelled (named spelled)
+    by false spelled = plus_none _ _ (member_base prims c n (query.literal (text t)) form)
+one_paid prims c n (query.literal null) named form = plus_none _ _ (member_base prims c n (query.literal null) form)
+one_paid prims c n (query.literal (boolean b)) named form = plus_none _ _ (member_base prims c n (query.literal (boolean b)) form)
+one_paid prims c n (query.literal (number m)) named form = plus_none _ _ (member_base prims c n (query.literal (number m)) form)
+one_paid prims c n (query.literal (list js)) named form = plus_none _ _ (member_base prims c n (query.literal (list js)) form)
+one_paid prims c n (query.literal (object os)) named form = plus_none _ _ (member_base prims c n (query.literal (object os)) form)
+one_paid prims c n query.ask named form = plus_none _ _ (member_base prims c n query.ask form)
+one_paid prims c n query.ask_all named form = plus_none _ _ (member_base prims c n query.ask_all form)
+one_paid prims c n (query.operand j) named form = plus_none _ _ (member_base prims c n (query.operand j) form)
+one_paid prims c n (query.one d ms) named form = plus_none _ _ (member_base prims c n (query.one d ms) form)
+one_paid prims c n (query.many d ms) named form = plus_none _ _ (member_base prims c n (query.many d ms) form)
 
 -- a member in front of others
 pub front_paid : (own rest all type behind x y : ℕ) → own + type ≤ 64 * x → rest + behind ≤ 64 * y → all ≤ type + behind → own + rest + all ≤ 64 * (x + y)
@@ -370,18 +373,18 @@ swapped a b m le = omega (arith, le)
 
 mutual
   -- LAW: the cost of the members of a clause pays for looking them up, and the context type
-  pub members_paid : (prims : List Primitive) → expects_types prims ≡ true → (c : Option ℕ) (ms : query.Members) → AreRight ms → looks prims c ms + context_steps (type_text ms) ≤ 64 * members_cost prims c ms
-  members_paid prims told c query.no_members right = omega arith
-  members_paid prims told c (query.sort_by ws ms) right = sort_front (sum_by (sort_steps prims c) ws) (looks prims c ms) (context_steps (type_text ms)) (sum_by (sort_cost prims c) ws) (members_cost prims c ms) (sorts_paid prims c ws) (members_paid prims told c ms right)
-  members_paid prims told c (query.member n f ms) right =
+  pub members_paid : (prims : List Primitive) (c : Option ℕ) (ms : query.Members) → AreRight ms → looks prims c ms + context_steps (type_text ms) ≤ 64 * members_cost prims c ms
+  members_paid prims c query.no_members right = omega arith
+  members_paid prims c (query.sort_by ws ms) right = sort_front (sum_by (sort_steps prims c) ws) (looks prims c ms) (context_steps (type_text ms)) (sum_by (sort_cost prims c) ws) (members_cost prims c ms) (sorts_paid prims c ws) (members_paid prims c ms right)
+  members_paid prims c (query.member n f ms) right =
       front_paid (member_looks prims c n f) (looks prims c ms) (context_steps (type_text (query.member n f ms))) (own_type n f) (context_steps (type_text ms)) (member_cost prims c n f) (members_cost prims c ms)
-      (one_paid prims c n f told right.0 (form_paid prims told (expected_of (property prims c n.reversed n.word)) n f right.1)) (members_paid prims told c ms right.2) (type_first n f ms)
+      (one_paid prims c n f right.0 (form_paid prims (expected_of (property prims c n.reversed n.word)) n f right.1)) (members_paid prims c ms right.2) (type_first n f ms)
 
   -- so does that of a form
-  pub form_paid : (prims : List Primitive) → expects_types prims ≡ true → (expected : Option ℕ) (n : query.Name) (f : query.Form) → IsRight n f → form_looks prims expected f ≤ 64 * form_cost prims expected f
-  form_paid prims told expected n query.ask right = omega arith
-  form_paid prims told expected n query.ask_all right = omega arith
-  form_paid prims told expected n (query.literal j) right = literal_paid prims (expects_of expected) j
-  form_paid prims told expected n (query.operand j) right = literal_paid prims (expects_of expected) j
-  form_paid prims told expected n (query.one d ms) right = below_paid prims (expects_of expected) ms _ _ right (swapped _ _ _ (members_paid prims told (context prims expected ms) ms right))
-  form_paid prims told expected n (query.many d ms) right = below_paid prims (expects_of expected) ms _ _ right (swapped _ _ _ (members_paid prims told (context prims expected ms) ms right))
+  pub form_paid : (prims : List Primitive) (expected : Option ℕ) (n : query.Name) (f : query.Form) → IsRight n f → form_looks prims expected f ≤ 64 * form_cost prims expected f
+  form_paid prims expected n query.ask right = omega arith
+  form_paid prims expected n query.ask_all right = omega arith
+  form_paid prims expected n (query.literal j) right = literal_paid prims (expects_of expected) j
+  form_paid prims expected n (query.operand j) right = literal_paid prims (expects_of expected) j
+  form_paid prims expected n (query.one d ms) right = below_paid prims (expects_of expected) ms _ _ right (swapped _ _ _ (members_paid prims (context prims expected ms) ms right))
+  form_paid prims expected n (query.many d ms) right = below_paid prims (expects_of expected) ms _ _ right (swapped _ _ _ (members_paid prims (context prims expected ms) ms right))

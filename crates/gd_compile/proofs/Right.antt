@@ -8,14 +8,14 @@ use Rattle.gd_grammar.proofs.Steps.{steps, ok_same, not_ok, some_given, maybe, s
 use Rattle.gd_tree.specs.Json.{Json, null, boolean, number, text, list, object, Items, no_items, item, Members as JsonMembers, no_members as no_json_members, member as json_member}
 use Rattle.gd_tree.specs.Look.{is_null}
 use Rattle.gd_defs.specs.Query as query
-use Rattle.gd_defs.specs.Query.{Fault, Clause, Form, Name, no_directives, with_directive, with_member, member_name, form_or_operand, form_of, clause_of, clause_or_default, default_members, as_one, as_many, within, fault, or_fault, bad_word, left_out, bad_directive, bad_operand, list_form, name_of, is_left_out, is_directive, mode_of, limit_of, sort_of, is_count, has_operator, is_computed, is_link, is_other_list, operand_fits, query_of, root_query}
+use Rattle.gd_defs.specs.Query.{Fault, Clause, Form, Name, no_directives, with_directive, with_member, member_name, form_or_operand, form_of, clause_of, clause_or_default, default_members, as_one, as_many, fault, or_fault, bad_word, left_out, bad_directive, bad_operand, name_of, is_left_out, is_directive, mode_of, limit_of, sort_of, is_count, has_operator, is_computed, is_link, is_other_list, operand_fits}
 use Rattle.gd_defs.specs.Query.Names.{operator_of, behind_label, behind_mark, is_marked, label_fits, may_be_word, word_front}
 use Rattle.gd_defs.proofs.Directives.{each_effect}
 use Rattle.gd_form_laws.specs.Spelled.{clause_or, spelled_clause}
 
 -- the name `type` is of the word `type`
 abbrev pub IsNamed : query.Name → Type 0
-IsNamed n = bytes_eq n.spelled (codes "type") ≡ true → (n.word ≡ codes "type") × (n.reversed ≡ false)
+IsNamed n = bytes_eq n.spelled (codes "type") ≡ true → n.word ≡ codes "type"
 
 abbrev mutual
   -- each member is right
@@ -95,7 +95,7 @@ name_right k n is typed =
     let at : n.spelled ≡ codes "type" = (bytes_eq-Decides n.spelled (codes "type")).0 typed in
     let there : name_of (codes "type") ≡ Some n = subst (λ t. name_of t ≡ Some n) (sym (name_spelled k n is) ∙ at) is in
     let same : type_name ≡ n = some_same type_name n (sym type_is ∙ there) in
-    subst (λ (n : Name). (n.word ≡ codes "type") × (n.reversed ≡ false)) same (refl, refl)
+    subst (λ (n : Name). n.word ≡ codes "type") same refl
 
 member_right : (root : Bool) (k : List ℕ) (n : Name) → member_name root k ≡ Ok n → IsNamed n
 member_right root k n is =
@@ -133,7 +133,7 @@ many_right n (Err e) right f is = not_ok _ f is
 
 -- the default members
 default_right : (ms : JsonMembers) (r : Result Clause Fault) → ClauseRight r → ClauseRight (clause_or_default ms r)
-default_right no_json_members r right c is = subst (λ (c : Clause). AreRight c.1) (ok_same (record no_directives { mode = Some query.optional }, default_members) c is) (plain, tt, (plain, tt, ((λ same. (refl, refl)), tt, tt)))
+default_right no_json_members r right c is = subst (λ (c : Clause). AreRight c.1) (ok_same (record no_directives { mode = Some query.optional }, default_members) c is) (plain, tt, (plain, tt, ((λ same. refl), tt, tt)))
   where
     plain : {P : Type 0} → false ≡ true → P
     plain is = absurd (false≢true is)

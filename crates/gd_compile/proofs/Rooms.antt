@@ -11,7 +11,7 @@ use Rattle.gd_prim.specs.Builtin.{expected_place}
 use Rattle.gd_prim.specs.End.{places_with}
 use Rattle.gd_tree.specs.Json.{Json, null, boolean, number, text, list, object}
 use Rattle.gd_defs.specs.Data.{Test, anything, equals, differs, is_one_of, is_below, is_above, matches_words}
-use Rattle.gd_defs.specs.Cost.{said_of, id_cost, ids_cost, word_cost, operand_cost, form_cost, members_cost, context, expected_of, resolving}
+use Rattle.gd_defs.specs.Cost.{id_cost, ids_cost, word_cost, operand_cost, form_cost, type_cost, members_cost, context, expected_of, resolving}
 use Rattle.gd_defs.specs.Query as query
 use Rattle.gd_defs.specs.Property.{Property, Expects, a_value, a_key, an_object_of_system, a_plain_object, expects_of, holds_values, property, property_object, stated, turned, first_right, is_reversed_value}
 use Rattle.gd_defs.specs.Asked as defs
@@ -25,10 +25,10 @@ use Rattle.gd_compile.specs.declared.fault.Unknown.TheVariants as fault
 use Rattle.gd_template_laws.proofs.AskedMembers.{computed}
 use Rattle.gd_resolve.specs.Asked.{property_steps}
 use Rattle.gd_resolve.proofs.Costs.{found_steps, word_least, expects_two}
-use Rattle.gd_compile.specs.Looks.{operand_steps, turned_steps, member_steps, sort_steps, context_steps, looks, form_looks, member_looks, clause_looks, is_system, expects_types}
+use Rattle.gd_compile.specs.Looks.{operand_steps, turned_steps, member_steps, sort_steps, context_steps, looks, form_looks, member_looks, clause_looks}
 use Rattle.gd_compile.proofs.Looked.{context_is}
 use Rattle.gd_compile.proofs.Right.{IsNamed, AreRight, IsRight}
-use Rattle.gd_compile.proofs.Paid.{own_type, type_first, types_system, member_cost, words_same, one_paid, front_paid, sort_front, sorts_paid, members_paid, form_paid, turned_least}
+use Rattle.gd_compile.proofs.Paid.{own_type, type_first, member_cost, words_same, one_paid, sorts_paid, members_paid, form_paid, turned_least}
 
 -- how many steps choosing takes at most for the links that a member names: two sets of a literal, of plain objects one
 abbrev two_sets : Expects → ℕ
@@ -144,41 +144,36 @@ type_within n (number m) = omega arith
 type_within n (list js) = omega arith
 type_within n (object ms) = omega arith
 
--- only a member that asks for objects of a system type names the context type
-type_elsewhere : (prims : List Primitive) (c : Option ℕ) (n : query.Name) (j : Json) (e : Expects) → expects_types prims ≡ true → IsNamed n → expects_of (expected_of (property prims c n.reversed n.word)) ≡ e → is_system e ≡ false → own_type n (query.literal j) ≤ 0
-type_elsewhere prims c n (text t) e told named is other = by (bytes_eq n.spelled (codes "type")) named
+-- where no objects of a system type are wanted the cost of its text is counted apart
+type_apart : (n : query.Name) (c : Json → ℕ) → ((t : List ℕ) → c (text t) ≡ (if bytes_eq n.spelled (codes "type") then id_cost t else 0)) → (j : Json) → own_type n (query.literal j) ≤ 30 * c j
+type_apart n c is (text t) = by (bytes_eq n.spelled (codes "type")) (c (text t)) (is t)
   where
-    never : n.word ≡ codes "type" → n.reversed ≡ false → ⊥
-    never word straight =
-        let here : expects_of (expected_of (property prims c false (codes "type"))) ≡ e = subst (λ w. expects_of (expected_of (property prims c false w)) ≡ e) word (subst (λ r. expects_of (expected_of (property prims c r n.word)) ≡ e) straight is) in
-        false≢true (sym other ∙ ap is_system (sym here ∙ types_system prims c told))
-
-    by : (b : Bool) → (b ≡ true → (n.word ≡ codes "type") × (n.reversed ≡ false)) → (if b then 30 * id_cost t else 0) ≤ 0
-    by true named = let is = named refl in absurd (never is.0 is.1)
-    by false named = omega arith
-type_elsewhere prims c n null e told named is other = omega arith
-type_elsewhere prims c n (boolean b) e told named is other = omega arith
-type_elsewhere prims c n (number m) e told named is other = omega arith
-type_elsewhere prims c n (list js) e told named is other = omega arith
-type_elsewhere prims c n (object ms) e told named is other = omega arith
+    by : (b : Bool) (m : ℕ) → m ≡ (if b then id_cost t else 0) → (if b then 30 * id_cost t else 0) ≤ 30 * m
+    by true m same = omega (arith, same)
+    by false m same = omega arith
+type_apart n c is null = omega arith
+type_apart n c is (boolean b) = omega arith
+type_apart n c is (number m) = omega arith
+type_apart n c is (list js) = omega arith
+type_apart n c is (object ms) = omega arith
 
 -- the numbers: of values and keys, of objects of a system type, of plain objects
-of_values : (p t w k n own : ℕ) → 1 ≤ k → 2 ≤ n → w ≡ k + n → p ≡ 53 + 30 * k + 16 * n → t ≡ 0 → own ≤ 0 → p + t + 0 + own + 48 ≤ 64 * (w + 0)
-of_values p t w k n own keys said cost few straight none = omega (arith, keys, said, cost, few, straight, none)
+of_values : (p t w k n own i : ℕ) → 1 ≤ k → 2 ≤ n → w ≡ k + n → p ≡ 53 + 30 * k + 16 * n → t ≡ 0 → own ≤ 30 * i → p + t + 0 + own + 48 ≤ 64 * (w + (0 + i))
+of_values p t w k n own i keys said cost few straight type = omega (arith, keys, said, cost, few, straight, type)
 
-of_system : (p t w k n own i v : ℕ) → 1 ≤ k → 1 ≤ n → w ≡ k + n → p ≡ 53 + 30 * k + 16 * n → t ≤ 23 + 4 * n → own ≤ 30 * i → 1 ≤ v → p + t + 30 * i + own + 48 ≤ 64 * (w + (i + v))
+of_system : (p t w k n own i v : ℕ) → 1 ≤ k → 1 ≤ n → w ≡ k + n → p ≡ 53 + 30 * k + 16 * n → t ≤ 23 + 4 * n → own ≤ 30 * i → 1 ≤ v → p + t + 30 * i + own + 48 ≤ 64 * (w + (i + v + 0))
 of_system p t w k n own i v keys said cost few turns type name = omega (arith, keys, said, cost, few, turns, type, name)
 
-of_plain : (p t w k n own v : ℕ) → 1 ≤ k → 1 ≤ n → w ≡ k + n → p ≡ 53 + 30 * k + 16 * n → t ≤ 23 + 4 * n → own ≤ 0 → 1 ≤ v → p + t + 0 + own + 24 ≤ 64 * (w + v)
-of_plain p t w k n own v keys said cost few turns none name = omega (arith, keys, said, cost, few, turns, none, name)
+of_plain : (p t w k n own i v : ℕ) → 1 ≤ k → 1 ≤ n → w ≡ k + n → p ≡ 53 + 30 * k + 16 * n → t ≤ 23 + 4 * n → own ≤ 30 * i → 1 ≤ v → p + t + 0 + own + 24 ≤ 64 * (w + (v + i))
+of_plain p t w k n own i v keys said cost few turns type name = omega (arith, keys, said, cost, few, turns, type, name)
 
 -- a literal that asks for a property, with its sets
-literal_room : (prims : List Primitive) (c : Option ℕ) (n : query.Name) (j : Json) (p : Property) → expects_types prims ≡ true → IsNamed n → IsFound prims c n p
+literal_room : (prims : List Primitive) (c : Option ℕ) (n : query.Name) (j : Json) (p : Property) → IsFound prims c n p
     → member_steps prims c n.reversed n.word + form_looks prims (expected_of (property prims c n.reversed n.word)) (query.literal j) + own_type n (query.literal j) + two_sets (expects_of p.expected)
-    ≤ 64 * (word_cost prims c n.word + form_cost prims (expected_of (property prims c n.reversed n.word)) (query.literal j))
-literal_room prims c n j p told named found =
-    let same : expects_of (expected_of (property prims c n.reversed n.word)) ≡ expects_of p.expected = ap (λ (q : Option Property). expects_of (expected_of q)) found.2 in
-    subst (λ x. member_steps prims c n.reversed n.word + operand_steps (tested_as x) j + own_type n (query.literal j) + two_sets (expects_of p.expected) ≤ 64 * (word_cost prims c n.word + operand_cost prims x j)) (sym same) (by (expects_of p.expected) same refl)
+    ≤ 64 * (word_cost prims c n.word + (form_cost prims (expected_of (property prims c n.reversed n.word)) (query.literal j) + type_cost (expects_of (expected_of (property prims c n.reversed n.word))) n (query.literal j)))
+literal_room prims c n j p found =
+    subst (λ x. member_steps prims c n.reversed n.word + operand_steps (tested_as x) j + own_type n (query.literal j) + two_sets (expects_of p.expected) ≤ 64 * (word_cost prims c n.word + (operand_cost prims x j + type_cost x n (query.literal j))))
+    (sym (ap (λ (q : Option Property). expects_of (expected_of q)) found.2)) (by (expects_of p.expected) refl)
   where
     said : ℕ
     said = length (places_with Left found.0 prims)
@@ -198,44 +193,43 @@ literal_room prims c n j p told named found =
     unturned : p.reversed ≡ false → turned_steps prims (property_object prims c n.word) (property prims c n.reversed n.word) ≡ 0
     unturned is = ap (λ (q : Option Property). turned_steps prims (property_object prims c n.word) q) found.2 ∙ (ap (λ (x : Option ℕ). turned_steps prims x (Some p)) (sym found.1) ∙ ap (λ b. if b then 23 + 4 * said else 0) is)
 
-    values : (e : Expects) → expects_of (expected_of (property prims c n.reversed n.word)) ≡ e → is_system e ≡ false → holds_values (expects_of p.expected) ≡ true
-        → member_steps prims c n.reversed n.word + 0 + own_type n (query.literal j) + 48 ≤ 64 * (word_cost prims c n.word + 0)
-    values e is other holds =
+    values : (i : ℕ) → holds_values (expects_of p.expected) ≡ true → own_type n (query.literal j) ≤ 30 * i → member_steps prims c n.reversed n.word + 0 + own_type n (query.literal j) + 48 ≤ 64 * (word_cost prims c n.word + (0 + i))
+    values i holds type =
         let way = straight holds in
-        of_values (property_steps prims c n.word) (turned_steps prims (property_object prims c n.word) (property prims c n.reversed n.word)) (word_cost prims c n.word) f.0 said (own_type n (query.literal j))
-        f.1 (expects_two prims c n.word found.0 found.1 way.1) f.3 f.4 (unturned way.0) (type_elsewhere prims c n j e told named is other)
+        of_values (property_steps prims c n.word) (turned_steps prims (property_object prims c n.word) (property prims c n.reversed n.word)) (word_cost prims c n.word) f.0 said (own_type n (query.literal j)) i
+        f.1 (expects_two prims c n.word found.0 found.1 way.1) f.3 f.4 (unturned way.0) type
 
-    by : (e : Expects) → expects_of (expected_of (property prims c n.reversed n.word)) ≡ e → expects_of p.expected ≡ e
-        → member_steps prims c n.reversed n.word + operand_steps (tested_as e) j + own_type n (query.literal j) + two_sets e ≤ 64 * (word_cost prims c n.word + operand_cost prims e j)
-    by (a_value k) is same = values (a_value k) is refl (ap holds_values same)
-    by a_key is same = values a_key is refl (ap holds_values same)
-    by an_object_of_system is same =
+    by : (e : Expects) → expects_of p.expected ≡ e
+        → member_steps prims c n.reversed n.word + operand_steps (tested_as e) j + own_type n (query.literal j) + two_sets e ≤ 64 * (word_cost prims c n.word + (operand_cost prims e j + type_cost e n (query.literal j)))
+    by (a_value k) is = values (type_cost (a_value k) n (query.literal j)) (ap holds_values is) (type_apart n (λ j. type_cost (a_value k) n (query.literal j)) (λ t. refl) j)
+    by a_key is = values (type_cost a_key n (query.literal j)) (ap holds_values is) (type_apart n (λ j. type_cost a_key n (query.literal j)) (λ t. refl) j)
+    by an_object_of_system is =
         of_system (property_steps prims c n.word) (turned_steps prims (property_object prims c n.word) (property prims c n.reversed n.word)) (word_cost prims c n.word) f.0 said (own_type n (query.literal j)) (ids_cost j) (word_cost prims None (codes "name"))
         f.1 f.2 f.3 f.4 turns (type_within n j) (word_least prims None (codes "name"))
-    by a_plain_object is same =
-        of_plain (property_steps prims c n.word) (turned_steps prims (property_object prims c n.word) (property prims c n.reversed n.word)) (word_cost prims c n.word) f.0 said (own_type n (query.literal j)) (word_cost prims None (codes "name"))
-        f.1 f.2 f.3 f.4 turns (type_elsewhere prims c n j a_plain_object told named is refl) (word_least prims None (codes "name"))
+    by a_plain_object is =
+        of_plain (property_steps prims c n.word) (turned_steps prims (property_object prims c n.word) (property prims c n.reversed n.word)) (word_cost prims c n.word) f.0 said (own_type n (query.literal j)) (type_cost a_plain_object n (query.literal j)) (word_cost prims None (codes "name"))
+        f.1 f.2 f.3 f.4 turns (type_apart n (λ j. type_cost a_plain_object n (query.literal j)) (λ t. refl) j) (word_least prims None (codes "name"))
 
 plus_nothing : (a b m : ℕ) → a + b ≤ m → a + b + 0 ≤ m
 plus_nothing a b m le = omega (arith, le)
 
 -- a member that asks for a property, with its sets
-asking_room : (prims : List Primitive) (c : Option ℕ) (n : query.Name) (f : query.Form) (p : Property) → expects_types prims ≡ true → IsNamed n → IsRight n f → is_some (defs.own_of n.word) ≡ false → IsFound prims c n p
+asking_room : (prims : List Primitive) (c : Option ℕ) (n : query.Name) (f : query.Form) (p : Property) → IsNamed n → IsRight n f → is_some (defs.own_of n.word) ≡ false → IsFound prims c n p
     → member_looks prims c n f + own_type n f + set_steps f (expects_of p.expected) ≤ 64 * member_cost prims c n f
-asking_room prims c n (query.literal j) p told named right asks found = by (is_some (defs.own_of n.word)) (query.is_computed n.word || query.is_link n.word) asks (sym (words_same n) ∙ asks)
+asking_room prims c n (query.literal j) p named right asks found = by (is_some (defs.own_of n.word)) (query.is_computed n.word || query.is_link n.word) asks (sym (words_same n) ∙ asks)
   where
     by : (a b : Bool) → a ≡ false → b ≡ false
         → (if a then Rattle.gd_compile.specs.Looks.computed_looks prims (defs.own_of n.word) n.operator (query.literal j) else member_steps prims c n.reversed n.word + form_looks prims (expected_of (property prims c n.reversed n.word)) (query.literal j))
         + own_type n (query.literal j) + two_sets (expects_of p.expected)
-        ≤ 64 * (if b then Rattle.gd_defs.specs.Cost.own_cost n (query.literal j) else word_cost prims c n.word + form_cost prims (expected_of (property prims c n.reversed n.word)) (query.literal j))
-    by false false one two = literal_room prims c n j p told named found
+        ≤ 64 * (if b then Rattle.gd_defs.specs.Cost.own_cost n (query.literal j) else word_cost prims c n.word + (form_cost prims (expected_of (property prims c n.reversed n.word)) (query.literal j) + type_cost (expects_of (expected_of (property prims c n.reversed n.word))) n (query.literal j)))
+    by false false one two = literal_room prims c n j p found
     by true b one two = absurd (false≢true (sym one))
     by false true one two = absurd (false≢true (sym two))
-asking_room prims c n query.ask p told named right asks found = plus_nothing _ _ _ (one_paid prims c n query.ask told named (form_paid prims told (expected_of (property prims c n.reversed n.word)) n query.ask right))
-asking_room prims c n query.ask_all p told named right asks found = plus_nothing _ _ _ (one_paid prims c n query.ask_all told named (form_paid prims told (expected_of (property prims c n.reversed n.word)) n query.ask_all right))
-asking_room prims c n (query.operand j) p told named right asks found = plus_nothing _ _ _ (one_paid prims c n (query.operand j) told named (form_paid prims told (expected_of (property prims c n.reversed n.word)) n (query.operand j) right))
-asking_room prims c n (query.one d ms) p told named right asks found = plus_nothing _ _ _ (one_paid prims c n (query.one d ms) told named (form_paid prims told (expected_of (property prims c n.reversed n.word)) n (query.one d ms) right))
-asking_room prims c n (query.many d ms) p told named right asks found = plus_nothing _ _ _ (one_paid prims c n (query.many d ms) told named (form_paid prims told (expected_of (property prims c n.reversed n.word)) n (query.many d ms) right))
+asking_room prims c n query.ask p named right asks found = plus_nothing _ _ _ (one_paid prims c n query.ask named (form_paid prims (expected_of (property prims c n.reversed n.word)) n query.ask right))
+asking_room prims c n query.ask_all p named right asks found = plus_nothing _ _ _ (one_paid prims c n query.ask_all named (form_paid prims (expected_of (property prims c n.reversed n.word)) n query.ask_all right))
+asking_room prims c n (query.operand j) p named right asks found = plus_nothing _ _ _ (one_paid prims c n (query.operand j) named (form_paid prims (expected_of (property prims c n.reversed n.word)) n (query.operand j) right))
+asking_room prims c n (query.one d ms) p named right asks found = plus_nothing _ _ _ (one_paid prims c n (query.one d ms) named (form_paid prims (expected_of (property prims c n.reversed n.word)) n (query.one d ms) right))
+asking_room prims c n (query.many d ms) p named right asks found = plus_nothing _ _ _ (one_paid prims c n (query.many d ms) named (form_paid prims (expected_of (property prims c n.reversed n.word)) n (query.many d ms) right))
 
 -- ---- the members of a clause
 
@@ -249,15 +243,15 @@ no_sets : (a m : ℕ) → a ≤ m → a ≤ 0 + m
 no_sets a m le = omega (arith, le)
 
 -- LAW: the cost of the members of a clause pays for looking them up, the context type, and choosing among the sets of links that they name
-pub members_room : (prims : List Primitive) → expects_types prims ≡ true → (c : Option ℕ) (path : List (List ℕ)) (ms : query.Members) (d : defs.Clause) → AreRight ms → defs.asked prims c path ms ≡ Ok d
+pub members_room : (prims : List Primitive) (c : Option ℕ) (path : List (List ℕ)) (ms : query.Members) (d : defs.Clause) → AreRight ms → defs.asked prims c path ms ≡ Ok d
     → looks prims c ms + context_steps (defs.type_text ms) + choosing prims d.0 ≤ 64 * members_cost prims c ms
-members_room prims told c path query.no_members d right is = subst (λ (d : defs.Clause). looks prims c query.no_members + context_steps (defs.type_text query.no_members) + choosing prims d.0 ≤ 64 * members_cost prims c query.no_members) (ok_same (defs.no_members, []) d is) (omega arith)
-members_room prims told c path (query.sort_by ws ms) d right is =
+members_room prims c path query.no_members d right is = subst (λ (d : defs.Clause). looks prims c query.no_members + context_steps (defs.type_text query.no_members) + choosing prims d.0 ≤ 64 * members_cost prims c query.no_members) (ok_same (defs.no_members, []) d is) (omega arith)
+members_room prims c path (query.sort_by ws ms) d right is =
     let one = steps (defs.sort_keys prims c (path ++ codes "sort" ∷ []) ws) (λ ks. defs.asked prims c path ms >>= λ d. Ok (d.0, ks)) d is in
     let more = steps (defs.asked prims c path ms) (λ d. Ok (d.0, one.value)) d one.then_gave in
     subst (λ (d : defs.Clause). looks prims c (query.sort_by ws ms) + context_steps (defs.type_text (query.sort_by ws ms)) + choosing prims d.0 ≤ 64 * members_cost prims c (query.sort_by ws ms)) (ok_same (more.value.0, one.value) d more.then_gave)
-    (sort_room (sum_by (sort_steps prims c) ws) (looks prims c ms) (context_steps (defs.type_text ms)) (sum_by (Rattle.gd_defs.specs.Cost.sort_cost prims c) ws) (members_cost prims c ms) (choosing prims more.value.0) (sorts_paid prims c ws) (members_room prims told c path ms more.value right more.gave))
-members_room prims told c path (query.member n f ms) d right is = by (λ e behind. members_room prims told c path ms e right.2 behind) (defs.own_of n.word) refl is
+    (sort_room (sum_by (sort_steps prims c) ws) (looks prims c ms) (context_steps (defs.type_text ms)) (sum_by (Rattle.gd_defs.specs.Cost.sort_cost prims c) ws) (members_cost prims c ms) (choosing prims more.value.0) (sorts_paid prims c ws) (members_room prims c path ms more.value right more.gave))
+members_room prims c path (query.member n f ms) d right is = by (λ e behind. members_room prims c path ms e right.2 behind) (defs.own_of n.word) refl is
   where
     below : List (List ℕ)
     below = path ++ n.spelled ∷ []
@@ -277,26 +271,26 @@ members_room prims told c path (query.member n f ms) d right is = by (λ e behin
         → looks prims c (query.member n f ms) + context_steps (defs.type_text (query.member n f ms)) + choosing prims d.0 ≤ 64 * members_cost prims c (query.member n f ms)
     by others (Some o) word made =
         let found = computed below n o f (defs.own_test prims below o n.operator) (defs.asked prims c path ms) d (λ t. Unit {0}) tt (λ j t given. tt) made in
-        front others 0 found.behind (plus_nothing _ _ _ (one_paid prims c n f told right.0 (form_paid prims told (expected_of (property prims c n.reversed n.word)) n f right.1))) found.gave
+        front others 0 found.behind (plus_nothing _ _ _ (one_paid prims c n f right.0 (form_paid prims (expected_of (property prims c n.reversed n.word)) n f right.1))) found.gave
         (subst (λ (d : defs.Clause). choosing prims d.0 ≤ 0 + choosing prims found.behind.0) found.is (omega arith))
     by others None word made =
         let one = steps (defs.member_property prims c below n) (λ p. defs.asked_form prims below n p f >>= λ g. defs.asked prims c path ms >>= λ c. Ok (g c.0, c.1)) d made in
         let two = steps (defs.asked_form prims below n one.value f) (λ g. defs.asked prims c path ms >>= λ c. Ok (g c.0, c.1)) d one.then_gave in
         let three = steps (defs.asked prims c path ms) (λ (c : defs.Clause). Ok (two.value c.0, c.1)) d two.then_gave in
-        front others (set_steps f (expects_of one.value.expected)) three.value (asking_room prims c n f one.value told right.0 right.1 (ap is_some word) (property_found prims c below n one.value one.gave)) three.gave
+        front others (set_steps f (expects_of one.value.expected)) three.value (asking_room prims c n f one.value right.0 right.1 (ap is_some word) (property_found prims c below n one.value one.gave)) three.gave
         (subst (λ (d : defs.Clause). choosing prims d.0 ≤ set_steps f (expects_of one.value.expected) + choosing prims three.value.0) (ok_same (two.value three.value.0, three.value.1) d three.then_gave) (form_sets prims below n one.value f two.value three.value.0 two.gave))
 
 -- ---- a query
 
 -- LAW: what a query costs pays for looking it up, and for choosing among the sets of links that it names
-pub query_room : (prims : List Primitive) (written : query.Query) (q : defs.Asked) → expects_types prims ≡ true → AreRight written.members → defs.asked_query prims written ≡ Ok q
+pub query_room : (prims : List Primitive) (written : query.Query) (q : defs.Asked) → AreRight written.members → defs.asked_query prims written ≡ Ok q
     → clause_looks prims None written.members + choosing prims q.members ≤ 64 * resolving prims written
-query_room prims written q told right is =
+query_room prims written q right is =
     let one = steps (defs.context_of prims None (defs.type_text written.members)) (λ t. defs.asked prims t [] written.members >>= λ c. Ok (made c)) q is in
     let two = steps (defs.asked prims one.value [] written.members) (λ c. Ok (made c)) q one.then_gave in
     let same : context prims None written.members ≡ one.value = context_is prims None (defs.type_text written.members) written.members one.value refl one.gave in
     let gave : defs.asked prims (context prims None written.members) [] written.members ≡ Ok two.value = subst (λ t. defs.asked prims t [] written.members ≡ Ok two.value) (sym same) two.gave in
-    let all = members_room prims told (context prims None written.members) [] written.members two.value right gave in
+    let all = members_room prims (context prims None written.members) [] written.members two.value right gave in
     subst (λ (q : defs.Asked). clause_looks prims None written.members + choosing prims q.members ≤ 64 * resolving prims written) (ok_same (made two.value) q two.then_gave)
     (turned_round (context_steps (defs.type_text written.members)) (looks prims (context prims None written.members) written.members) (choosing prims two.value.0) (64 * resolving prims written) all)
   where
@@ -314,8 +308,8 @@ query_room prims written q told right is =
     turned_round a b n m le = omega (arith, le)
 
 -- LAW: it pays for looking it up, whatever that comes to
-pub query_paid : (prims : List Primitive) (written : query.Query) → expects_types prims ≡ true → AreRight written.members → clause_looks prims None written.members ≤ 64 * resolving prims written
-query_paid prims written told right = turned_round (context_steps (defs.type_text written.members)) (looks prims (context prims None written.members) written.members) (64 * resolving prims written) (members_paid prims told (context prims None written.members) written.members right)
+pub query_paid : (prims : List Primitive) (written : query.Query) → AreRight written.members → clause_looks prims None written.members ≤ 64 * resolving prims written
+query_paid prims written right = turned_round (context_steps (defs.type_text written.members)) (looks prims (context prims None written.members) written.members) (64 * resolving prims written) (members_paid prims (context prims None written.members) written.members right)
   where
     turned_round : (a b m : ℕ) → b + a ≤ m → a + b ≤ m
     turned_round a b m le = omega (arith, le)
@@ -328,10 +322,10 @@ looked a b l m one two = omega (arith, one, two)
 -- a plan that was made leaves room for choosing
 pub plan_room : (prims : List Primitive) (written : query.Query) (q : Found) (r : Result Found Unknown) (a b : ℕ) (asked : query.Query) → AreRight written.members → written ≡ asked → defs.asked_query prims written ≡ Ok (asked_view q)
     → b ≤ a + clause_looks prims None written.members → MatchResult r (λ plan. plan ≡ q) (λ refused. refused ≡ fault.Memory)
-    → IfOk r (λ plan. expects_types prims ≡ true → b + 24 * length (sets_by_link prims (asked_view plan).members) ≤ a + 64 * resolving prims asked)
-plan_room prims written q (Ok plan) a b asked right same is looks made = λ told.
+    → IfOk r (λ plan. b + 24 * length (sets_by_link prims (asked_view plan).members) ≤ a + 64 * resolving prims asked)
+plan_room prims written q (Ok plan) a b asked right same is looks made =
     subst (λ (w : query.Query). b + 24 * length (sets_by_link prims (asked_view plan).members) ≤ a + 64 * resolving prims w) same
-    (subst (λ (p : Found). b + 24 * length (sets_by_link prims (asked_view p).members) ≤ a + 64 * resolving prims written) (sym made) (go _ _ _ looks (query_room prims written (asked_view q) told right is)))
+    (subst (λ (p : Found). b + 24 * length (sets_by_link prims (asked_view p).members) ≤ a + 64 * resolving prims written) (sym made) (go _ _ _ looks (query_room prims written (asked_view q) right is)))
   where
     go : (l n m : ℕ) → b ≤ a + l → l + n ≤ m → b + n ≤ a + m
     go l n m one two = omega (arith, one, two)

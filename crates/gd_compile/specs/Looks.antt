@@ -1,11 +1,11 @@
 -- How many steps looking up the words and ids of a query takes at most, part by part as the walk goes.
-use Rattle.std.specs.Prelude.{ℕ, ◌+◌, ◌*◌, List, Bool, true, false, ◌&&◌, Option, Some, None, is_some, sum_by, if◌then◌else◌, codes, bytes_eq}
+use Rattle.std.specs.Prelude.{ℕ, ◌+◌, ◌*◌, List, Bool, ◌&&◌, Option, Some, None, is_some, sum_by, if◌then◌else◌, codes, bytes_eq}
 use Rattle.gd_prim.specs.declared.Primitive.{Primitive}
 use Rattle.gd_tree.specs.Json.{Json, text}
 use Rattle.gd_defs.specs.Ids.{object_of}
 use Rattle.gd_defs.specs.Cost.{said_of, id_cost, ids_cost, context, expected_of}
 use Rattle.gd_defs.specs.Query as query
-use Rattle.gd_defs.specs.Property.{Property, Expects, a_value, a_key, an_object_of_system, expects_of, holds_values, property, property_object}
+use Rattle.gd_defs.specs.Property.{Property, Expects, a_value, a_key, expects_of, holds_values, property, property_object}
 use Rattle.gd_defs.specs.Asked.{Own, its_link, its_namespace, its_lang, own_of, own_expects, takes, has_namespace, has_lang, type_text}
 use Rattle.gd_defs.specs.Asked.Tests.{tested_as}
 use Rattle.gd_resolve.specs.Asked.{property_steps}
@@ -125,12 +125,3 @@ clause_looks prims above ms = context_steps (type_text ms) + looks prims (contex
 -- a form below a property with this expected type
 abbrev pub below_looks : List Primitive → Option ℕ → query.Members → ℕ
 below_looks prims expected ms = if holds_values (expects_of expected) then value_looks prims (expects_of expected) ms else clause_looks prims expected ms
-
--- the answers are objects of a system type
-abbrev pub is_system : Expects → Bool
-is_system an_object_of_system = true
-is_system _ = false
-
--- the property `type` expects objects of a system type, as it does by the built-in list
-abbrev pub expects_types : List Primitive → Bool
-expects_types prims = is_system (expects_of (expected_of (property prims None false (codes "type"))))

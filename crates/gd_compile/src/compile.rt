@@ -13,7 +13,7 @@ ghost use Rattle.gd_runs.specs.RootSets.{sets_by_link};
 ghost use Rattle.gd_template_laws.specs.Laws.{TemplateMeans};
 ghost use Rattle.gd_compile.specs.declared.fault.Unknown.TheVariants as fault;
 ghost use Rattle.gd_compile.specs.Fault.{Finds};
-ghost use Rattle.gd_compile.specs.Looks.{clause_looks, expects_types};
+ghost use Rattle.gd_compile.specs.Looks.{clause_looks};
 ghost use Rattle.gd_compile.specs.Walk.{asks_property};
 
 use crate::asking::{asks_single, limit_from};
@@ -93,10 +93,10 @@ pub fn compile<L>(
 
     // What its words and ids cost pays for looking them up; and where it has a meaning, for 24 steps
     // more for each set of links that its literals name.
-    ensures work { expects_types (prims_of view.now) ≡ true → steps.new
-        ≤ steps.old + 64 * resolving (prims_of view.now) (read_view request.now).query }
-    ensures room { IfOk result (λ plan. expects_types (prims_of view.now) ≡ true
-        → steps.new + 24 * length (sets_by_link (prims_of view.now) (asked_view plan).members)
+    ensures work { steps.new ≤ steps.old + 64 * resolving (prims_of view.now)
+        (read_view request.now).query }
+    ensures room { IfOk result (λ plan. steps.new + 24 * length
+        (sets_by_link (prims_of view.now) (asked_view plan).members)
         ≤ steps.old + 64 * resolving (prims_of view.now) (read_view request.now).query) }
     ensures later { steps.old ≤ steps.new }
 

@@ -1,27 +1,28 @@
 -- The bound on beginning a read pays for what its query costs, and for choosing among the sets that it names.
-use Rattle.std.proofs.Common.{◌≡◌, ◌∙◌, ℕ, ◌+◌, ◌*◌, ◌≤◌, ◌<◌, suc, List, [], ◌∷◌, ◌++◌, length, map, take, get_or, Bool, true, false, ◌&&◌, Option, Some, None, Result, Ok, Err, refl, sym, ap, subst, arith}
-use Rattle.std.specs.Prelude.{filter_map, sum_by, if◌then◌else◌, option_map}
+use Rattle.std.proofs.Common.{◌≡◌, ◌∙◌, ℕ, ◌+◌, ◌*◌, ◌≤◌, ◌<◌, suc, List, [], ◌∷◌, ◌++◌, length, map, take, get_or, Bool, true, false, ◌&&◌, Option, Some, None, Result, Ok, refl, sym, ap, subst, arith}
+use Rattle.std.specs.Prelude.{filter_map, sum_by, if◌then◌else◌}
 use Rattle.std.proofs.Math.Seq.{take-suc}
 use Rattle.std.proofs.lemmas.List.Sums.{sum_by-cons, sum_by_push, sum_by-take-le}
 use Rattle.gd_prim.specs.declared.Primitive.{Primitive}
 use Rattle.gd_prim.specs.declared.Batch.{Batch}
-use Rattle.gd_prim.specs.History.{prims_of, prims_at}
+use Rattle.gd_prim.specs.History.{prims_of}
 use Rattle.gd_defs.specs.Cost.{resolving}
+use Rattle.gd_defs.specs.Lines.{Refusal}
 use Rattle.gd_defs.specs.Query as query
 use Rattle.gd_defs.specs.Asked.{Asked, asked_query}
 use Rattle.gd_defs.specs.Plan.{clauses_of}
 use Rattle.gd_defs.specs.Template.{Clauses, no_clauses, clause, links_by, end_here, is_required, is_literal}
+use Rattle.gd_bytes.specs.Cursor.{Cursor}
 use Rattle.gd_runs.specs.Pace.{begin_steps, begin_all_steps}
-use Rattle.gd_runs.specs.Request.{ReadRequest, ReadSet, one_query, queries}
-use Rattle.gd_runs.specs.RootSets.{RootSet, sets_by_link}
+use Rattle.gd_runs.specs.Request.{ReadRequest, one_query}
+use Rattle.gd_runs.specs.RootSets.{sets_by_link}
 use Rattle.gd_work_laws.specs.Sources.{Source, sources, source_of, links_asked}
 use Rattle.gd_work_laws.proofs.Laws.{sources_are_sets}
 use Rattle.gd_roots.specs.Sets.{numbered}
-use Rattle.gd_compile.specs.Looks.{expects_types}
 use Rattle.gd_mql.specs.Requests.{read_view}
 use Rattle.gd_mql.specs.declared.request.ReadRequest.{ReadRequest as Written}
 use Rattle.gd_read.specs.Begun.{asked_from, dateline_from}
-use Rattle.gd_read.specs.Start.{start_prims, StartsWithin, BeginsWithin}
+use Rattle.gd_read.specs.Start.{start_prims, start_steps}
 
 -- ---- the sets that are chosen among
 
@@ -59,15 +60,15 @@ chosen_few prims written q is =
 
 -- LAW: what its words and ids cost pays for looking it up and for choosing
 pub starts_paid : (prims : List Primitive) (written : query.Query) (q : Asked) (before mid after : ℕ) → asked_query prims written ≡ Ok q
-    → (expects_types prims ≡ true → mid + 24 * length (sets_by_link prims q.members) ≤ before + 64 * resolving prims written) → after ≤ mid + 24 * length (numbered prims 0 (clauses_of q.sort q.members))
-    → StartsWithin prims (begin_steps prims written) before after
-starts_paid prims written q before mid after is room more told = by (length (sets_by_link prims q.members)) (length (numbered prims 0 (clauses_of q.sort q.members))) (resolving prims written) (chosen_few prims written q is) (room told) more
+    → mid + 24 * length (sets_by_link prims q.members) ≤ before + 64 * resolving prims written → after ≤ mid + 24 * length (numbered prims 0 (clauses_of q.sort q.members))
+    → after ≤ before + begin_steps prims written
+starts_paid prims written q before mid after is room more = by (length (sets_by_link prims q.members)) (length (numbered prims 0 (clauses_of q.sort q.members))) (resolving prims written) (chosen_few prims written q is) room more
   where
     by : (s n r : ℕ) → n ≤ s → mid + 24 * s ≤ before + 64 * r → after ≤ mid + 24 * n → after ≤ before + 64 * (1 + r)
     by s n r few room more = omega (arith, few, room, more)
 
-pub looked_paid : (prims : List Primitive) (written : query.Query) (before after : ℕ) → (expects_types prims ≡ true → after ≤ before + 64 * resolving prims written) → StartsWithin prims (begin_steps prims written) before after
-looked_paid prims written before after work told = by (resolving prims written) (work told)
+pub looked_paid : (prims : List Primitive) (written : query.Query) (before after : ℕ) → after ≤ before + 64 * resolving prims written → after ≤ before + begin_steps prims written
+looked_paid prims written before after work = by (resolving prims written) work
   where
     by : (r : ℕ) → after ≤ before + 64 * r → after ≤ before + 64 * (1 + r)
     by r le = omega (arith, le)
@@ -75,15 +76,18 @@ looked_paid prims written before after work told = by (resolving prims written) 
 -- ---- where it begins
 
 -- at the dateline of a cursor, if there is one
-pub starts_at : (batches below : List Batch) (latest line : ℕ) (r : ReadRequest) (after : Option Rattle.gd_bytes.specs.Cursor.Cursor) (before now : ℕ) → latest ≡ length batches → asked_from latest r.cursor ≡ Ok after → line ≡ dateline_from latest after → below ≡ take line batches
-    → StartsWithin (prims_of below) (begin_steps (prims_of below) r.query) before now → BeginsWithin batches (one_query r) before now
+pub starts_at : (batches below : List Batch) (latest line : ℕ) (r : ReadRequest) (after : Option Cursor) (before now : ℕ) → latest ≡ length batches → asked_from latest r.cursor ≡ Ok after → line ≡ dateline_from latest after → below ≡ take line batches
+    → now ≤ before + begin_steps (prims_of below) r.query → now ≤ before + start_steps batches (one_query r)
 starts_at batches below latest line r after before now same given at cut within =
-    subst (λ (o : Result _ _). StartsWithin (start_prims batches o) (begin_steps (start_prims batches o) r.query) before now) (sym (subst (λ n. asked_from n r.cursor ≡ Ok after) same given))
-    (subst (λ bs. StartsWithin (prims_of bs) (begin_steps (prims_of bs) r.query) before now) (cut ∙ ap (λ n. take n batches) (at ∙ ap (λ n. dateline_from n after) same)) within)
+    subst (λ (o : Result (Option Cursor) (ℕ × Refusal)). now ≤ before + begin_steps (start_prims batches o) r.query) (sym (subst (λ n. asked_from n r.cursor ≡ Ok after) same given))
+    (subst (λ bs. now ≤ before + begin_steps (prims_of bs) r.query) (cut ∙ ap (λ n. take n batches) (at ∙ ap (λ n. dateline_from n after) same)) within)
 
 -- a cursor that is refused takes no step
-pub starts_none : (batches : List Batch) (r : ReadRequest) (before : ℕ) → BeginsWithin batches (one_query r) before before
-starts_none batches r before told = omega arith
+pub starts_none : (batches : List Batch) (r : ReadRequest) (before : ℕ) → before ≤ before + start_steps batches (one_query r)
+starts_none batches r before = by (start_steps batches (one_query r))
+  where
+    by : (n : ℕ) → before ≤ before + n
+    by n = omega arith
 
 -- ---- queries, one after another
 
@@ -103,26 +107,24 @@ front_sum f items had x front few there = go (length had) few there (ap (sum_by 
         let last = ap f there in
         omega (arith, same, more, all, pushed, last)
 
+-- what queries take together, as the requests are held
+all_steps : (prims : List Primitive) (rs : List Written) → begin_all_steps prims (map read_view rs) ≡ sum_by (λ (r : Written). begin_steps prims (read_view r).query) rs
+all_steps prims rs = sum_mapped read_view (λ (r : ReadRequest). begin_steps prims r.query) rs
+
 -- a query more takes no more than all together
 pub parts_start : (prims : List Primitive) (items had : List Written) (x : Written) (a b c : ℕ) → had ≡ take (length had) items → length had < length items → x ≡ get_or items (length had) x
-    → StartsWithin prims (begin_all_steps prims (map read_view had)) a b → StartsWithin prims (begin_steps prims (read_view x).query) b c → StartsWithin prims (begin_all_steps prims (map read_view items)) a c
-parts_start prims items had x a b c front few there first one told =
+    → b ≤ a + begin_all_steps prims (map read_view had) → c ≤ b + begin_steps prims (read_view x).query → c ≤ a + begin_all_steps prims (map read_view items)
+parts_start prims items had x a b c front few there first one =
     let sum = front_sum (λ (r : Written). begin_steps prims (read_view r).query) items had x front few there in
-    by _ _ _ _ _ (first told) (one told) (mapped had) (mapped items) sum
+    by _ _ _ _ _ first one (all_steps prims had) (all_steps prims items) sum
   where
-    mapped : (rs : List Written) → begin_all_steps prims (map read_view rs) ≡ sum_by (λ (r : Written). begin_steps prims (read_view r).query) rs
-    mapped rs = sum_mapped read_view (λ (r : ReadRequest). begin_steps prims r.query) rs
-
     by : (m n s k l : ℕ) → b ≤ a + m → c ≤ b + s → m ≡ k → n ≡ l → k + s ≤ l → c ≤ a + n
     by m n s k l one two three four five = omega (arith, one, two, three, four, five)
 
 -- and is one more of those that were begun
-pub parts_more_start : (prims : List Primitive) (had : List Written) (x : Written) (a b c : ℕ) → StartsWithin prims (begin_all_steps prims (map read_view had)) a b → StartsWithin prims (begin_steps prims (read_view x).query) b c
-    → StartsWithin prims (begin_all_steps prims (map read_view (had ++ x ∷ []))) a c
-parts_more_start prims had x a b c first one told = by _ _ _ _ _ (first told) (one told) (mapped had) (mapped (had ++ x ∷ [])) (sum_by_push (λ (r : Written). begin_steps prims (read_view r).query) had x)
+pub parts_more_start : (prims : List Primitive) (had : List Written) (x : Written) (a b c : ℕ) → b ≤ a + begin_all_steps prims (map read_view had) → c ≤ b + begin_steps prims (read_view x).query
+    → c ≤ a + begin_all_steps prims (map read_view (had ++ x ∷ []))
+parts_more_start prims had x a b c first one = by _ _ _ _ _ first one (all_steps prims had) (all_steps prims (had ++ x ∷ [])) (sum_by_push (λ (r : Written). begin_steps prims (read_view r).query) had x)
   where
-    mapped : (rs : List Written) → begin_all_steps prims (map read_view rs) ≡ sum_by (λ (r : Written). begin_steps prims (read_view r).query) rs
-    mapped rs = sum_mapped read_view (λ (r : ReadRequest). begin_steps prims r.query) rs
-
     by : (m n s k l : ℕ) → b ≤ a + m → c ≤ b + s → m ≡ k → n ≡ l → l ≡ k + s → c ≤ a + n
     by m n s k l one two three four five = omega (arith, one, two, three, four, five)

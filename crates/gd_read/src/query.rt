@@ -14,7 +14,6 @@ ghost use Rattle.gd_runs.specs.Request.{page_after, one_query};
 ghost use Rattle.gd_mql.specs.Requests.{cursor_view, read_view};
 ghost use Rattle.gd_plan.specs.Asked.{asked_view};
 ghost use Rattle.gd_compile.specs.Fault.{unknown_of};
-ghost use Rattle.gd_compile.specs.Looks.{expects_types};
 ghost use Rattle.gd_runs.specs.RootSets.{sets_by_link};
 ghost use Rattle.gd_roots.specs.Sets.{numbered};
 ghost use Rattle.gd_template.specs.Built.{its_clauses};
@@ -30,7 +29,7 @@ ghost use Rattle.gd_read.specs.Stages.{IsAsked};
 ghost use Rattle.gd_read.specs.Query.{one_view, QueryGoes, owed_answer, Gives, is_unanswered};
 ghost use Rattle.gd_read.specs.Left.{IsPastIds, query_left};
 ghost use Rattle.gd_read.specs.Paid.{QueryIsPaid};
-ghost use Rattle.gd_read.specs.Start.{BeginsWithin, StartsWithin};
+ghost use Rattle.gd_read.specs.Start.{start_steps};
 
 use crate::fault::ReadFault;
 use crate::first::first_stage;
@@ -148,10 +147,10 @@ pub(crate) fn plan_at<L>(
         (λ fault. fault ≢ ReadFault.Memory → (latest : ℕ)
         → IsMeaningless (length view.now)
         (asked_query (prims_of view.now) (read_view request.now).query) (fault_at latest fault)) }
-    ensures work { expects_types (prims_of view.now) ≡ true → steps.new
-        ≤ steps.old + 64 * resolving (prims_of view.now) (read_view request.now).query }
-    ensures room { IfOk result (λ plan. expects_types (prims_of view.now) ≡ true
-        → steps.new + 24 * length (sets_by_link (prims_of view.now) (asked_view plan).members)
+    ensures work { steps.new ≤ steps.old + 64 * resolving (prims_of view.now)
+        (read_view request.now).query }
+    ensures room { IfOk result (λ plan. steps.new + 24 * length
+        (sets_by_link (prims_of view.now) (asked_view plan).members)
         ≤ steps.old + 64 * resolving (prims_of view.now) (read_view request.now).query) }
     ensures offset { IfErr result (λ fault. HasOffset fault) }
     ensures later { steps.old ≤ steps.new }
@@ -271,8 +270,8 @@ fn begin_at<L>(
         (asked_query (prims_of view.now) (read_view request).query) ≡ Err (fault_at latest fault)) }
     ensures going { IfOk result (λ reading. QueryGoes view.now reading) }
     ensures paid { IfOk result (λ reading. QueryIsPaid view.now reading) }
-    ensures work { StartsWithin (prims_of view.now)
-        (begin_steps (prims_of view.now) (read_view request).query) steps.old steps.new }
+    ensures work { steps.new ≤ steps.old + begin_steps (prims_of view.now)
+        (read_view request).query }
     ensures offset { IfErr result (λ fault. HasOffset fault) }
     ensures later { steps.old ≤ steps.new }
 {
@@ -318,7 +317,8 @@ impl QueryReading {
 
         // It takes no more steps than the bound on beginning it, whatever it comes to: 64 for each
         // that its words and ids cost at the dateline at which it begins, and 64.
-        ensures work { BeginsWithin view.now (one_query (read_view request)) steps.old steps.new }
+        ensures work { steps.new ≤ steps.old + start_steps view.now
+            (one_query (read_view request)) }
         ensures later { steps.old ≤ steps.new }
     {
         let latest = view.dateline();

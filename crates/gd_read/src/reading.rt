@@ -9,7 +9,7 @@ ghost use Rattle.gd_read.specs.Query.{one_view, QueryGoes};
 ghost use Rattle.gd_read.specs.Reading.{reading_view, IsGoing, Replies, is_unfinished};
 ghost use Rattle.gd_read.specs.Left.{IsPastIds, query_left, reading_left};
 ghost use Rattle.gd_read.specs.Several.{asks_several};
-ghost use Rattle.gd_read.specs.Start.{BeginsWithin};
+ghost use Rattle.gd_read.specs.Start.{start_steps};
 
 use crate::fault::ReadFault;
 use crate::query::{QueryReading, Turn};
@@ -102,7 +102,7 @@ impl Reading {
 
         // It takes no more steps than the bound on beginning its query, or its queries together,
         // whatever it comes to.
-        ensures work { BeginsWithin view.now (read_set_view request) steps.old steps.new }
+        ensures work { steps.new ≤ steps.old + start_steps view.now (read_set_view request) }
         ensures later { steps.old ≤ steps.new }
     {
         match request {

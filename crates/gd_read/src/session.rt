@@ -8,7 +8,7 @@ ghost use Rattle.gd_read.specs.Left.{IsPastIds};
 ghost use Rattle.gd_read.specs.Reading.{reading_view, Replies, is_unfinished};
 ghost use Rattle.gd_read.specs.Session.{reads, GoesOn, HoldsGoing, left_of, session_left, BeginsAs};
 ghost use Rattle.gd_read.specs.Session.{SlicesAs, holds_several};
-ghost use Rattle.gd_read.specs.Start.{BeginsWithin};
+ghost use Rattle.gd_read.specs.Start.{start_steps};
 
 use crate::fault::ReadFault;
 use crate::reading::{Progress, Reading};
@@ -110,8 +110,8 @@ impl SessionState {
 
         // It takes no more steps than the bound on beginning its query, or its queries together,
         // over the requests that are shown.
-        ensures work { BeginsWithin (take shown store.now) (read_set_view request) steps.old
-            steps.new }
+        ensures work { steps.new ≤ steps.old + start_steps (take shown store.now)
+            (read_set_view request) }
         ensures later { steps.old ≤ steps.new }
     {
         let view = store.view(shown);

@@ -10,7 +10,6 @@ ghost use Rattle.gd_mql.specs.Requests.{read_view};
 ghost use Rattle.gd_read.specs.Left.{IsPastIds, part_left, several_left};
 ghost use Rattle.gd_read.specs.Paid.{PartIsPaid};
 ghost use Rattle.gd_read.specs.Reading.{Replies, is_unfinished};
-ghost use Rattle.gd_read.specs.Start.{BeginsWithin, StartsWithin};
 ghost use Rattle.gd_read.specs.Several.{part_request, several_view, text_among, PartGoes};
 ghost use Rattle.gd_read.specs.Several.{is_answered, SeveralGo};
 
@@ -55,8 +54,8 @@ fn begun_part<L>(
     ensures goes { IfOk result (λ part. PartGoes view.now part) }
     ensures paid { IfOk result (λ part. PartIsPaid view.now part) }
     ensures request { IfOk result (λ part. part_request part ≡ read_view request) }
-    ensures work { StartsWithin (prims_of view.now)
-        (begin_steps (prims_of view.now) (read_view request).query) steps.old steps.new }
+    ensures work { steps.new ≤ steps.old + begin_steps (prims_of view.now)
+        (read_view request).query }
     ensures later { steps.old ≤ steps.new }
 {
     match plan_at(alloc, view, &request, steps) {
@@ -82,8 +81,8 @@ fn begun_parts<L>(
     ensures paid { IfOk result (λ parts. All (PartIsPaid view.now) parts.items) }
     ensures requests { IfOk result (λ parts. map part_request parts.items
         ≡ map read_view requests.items) }
-    ensures work { StartsWithin (prims_of view.now)
-        (begin_all_steps (prims_of view.now) (map read_view requests.items)) steps.old steps.new }
+    ensures work { steps.new ≤ steps.old + begin_all_steps (prims_of view.now)
+        (map read_view requests.items) }
     ensures later { steps.old ≤ steps.new }
 {
     let mut parts = Vec::new(alloc);
@@ -267,8 +266,8 @@ impl SeveralReading {
         ensures first { IfOk result (λ reading. (n : ℕ) (due : DueOf)
             → several_left n (take (several_view reading).dateline view.now) reading
             ≤ first_number due view.now (several_view reading)) }
-        ensures work { BeginsWithin view.now (queries (map read_view requests.items)) steps.old
-            steps.new }
+        ensures work { steps.new ≤ steps.old + begin_all_steps (prims_of view.now)
+            (map read_view requests.items) }
         ensures later { steps.old ≤ steps.new }
     {
         let dateline = view.dateline();

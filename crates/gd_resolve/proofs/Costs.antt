@@ -14,7 +14,7 @@ use Rattle.gd_defs.specs.Cost.{said_of, key_count, word_cost}
 use Rattle.gd_defs.specs.Ids.{path_keys, is_slash, is_key}
 use Rattle.gd_defs.specs.Property.{first, first_right, links_from, has_type, word_object, property_object}
 use Rattle.gd_resolve.specs.Asked.{word_keys, stated_steps, property_steps}
-use Rattle.gd_resolve.specs.Found.{is_found, is_link, gives_type, first_found}
+use Rattle.gd_resolve.specs.Found.{is_found, is_link, gives_type}
 use Rattle.gd_resolve.specs.declared.property.Wanted.TheVariants as wanted
 use Rattle.gd_resolve.proofs.Lefts.{found_left}
 use Rattle.gd_resolve.proofs.Scans.{has_type-found, first-live_where}

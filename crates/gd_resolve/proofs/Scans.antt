@@ -30,7 +30,7 @@ first-filter_map f [] = refl
 first-filter_map f (x ∷ xs) = one_more f x (filter_map f xs) (filter (λ x. is_some (f x)) xs) (f x) refl (first-filter_map f xs)
 
 -- the first live place whose primitive passes
-first-live_where : (test : Primitive → Bool) (prims : List Primitive) → first (live_where test prims) ≡ first_found test prims
+pub first-live_where : (test : Primitive → Bool) (prims : List Primitive) → first (live_where test prims) ≡ first_found test prims
 first-live_where test prims = ap first (live_where-places test prims) ∙ first-filter (is_found test prims) (range_with_len 0 (length prims))
 
 regrouped : (a b l c : Bool) → ((a && (l && c)) && b) ≡ ((a && b) && (l && c))

@@ -25,17 +25,17 @@ returns-clause-means g c =
     plan_means prims written c.in_ok-asked.asked c.plan_of.result c.end-end.ensures.held c.in_ok-asked.ensures.asked c.plan_of.ensures
 
 pub returns-clause-work : goal.returns-clause-work
-returns-clause-work g c = λ told.
+returns-clause-work g c =
     let prims = prims_of c.args.view.now in
     let written = query_view c.query.result in
-    let paid = query_paid prims written told (spelled_right c.query.result.root.root (members_view c.query.result.root.members.now)) in
+    let paid = query_paid prims written (spelled_right c.query.result.root.root (members_view c.query.result.root.members.now)) in
     subst (λ (q : Query). c.asked_query.new.steps ≤ c.args.steps.now + 64 * resolving prims q) c.query.ensures.shown (looked _ _ _ _ c.asked_query.ensures.looks paid)
 
 pub returns-in_err-asked-clause-work : goal.returns-in_err-asked-clause-work
-returns-in_err-asked-clause-work g c = λ told.
+returns-in_err-asked-clause-work g c =
     let prims = prims_of c.args.view.now in
     let written = query_view c.query.result in
-    let paid = query_paid prims written told (spelled_right c.query.result.root.root (members_view c.query.result.root.members.now)) in
+    let paid = query_paid prims written (spelled_right c.query.result.root.root (members_view c.query.result.root.members.now)) in
     subst (λ (q : Query). c.asked_query.new.steps ≤ c.args.steps.now + 64 * resolving prims q) c.query.ensures.shown (looked _ _ _ _ c.asked_query.ensures.looks paid)
 
 pub returns-clause-room : goal.returns-clause-room

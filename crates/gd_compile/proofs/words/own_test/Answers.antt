@@ -1,6 +1,5 @@
 use Rattle.std.proofs.Common.{sym, map, Bor, List, ℕ}
 use Rattle.gd_prim.specs.History.{prims_of}
-use Rattle.gd_defs.specs.Asked as defs
 use Rattle.gd_json.specs.View.{view as json_of}
 use Rattle.gd_tree.specs.Look.{item_count}
 use Rattle.gd_mql.specs.Names.{operator_view}

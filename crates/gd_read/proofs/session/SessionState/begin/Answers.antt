@@ -1,7 +1,7 @@
-use Rattle.std.proofs.Common.{List, subst}
+use Rattle.std.proofs.Common.{◌≤◌, ◌+◌, List, subst}
 use Rattle.gd_prim.specs.declared.Batch.{Batch}
 use Rattle.gd_mql.specs.Requests.{read_set_view}
-use Rattle.gd_read.specs.Start.{BeginsWithin}
+use Rattle.gd_read.specs.Start.{start_steps}
 use Rattle.gd_read.proofs.States.{has_begun, is_refused, goes_front, first_over}
 use Rattle.gd_read.proofs.session.SessionState.begin.Goals as goal
 
@@ -20,7 +20,7 @@ returns-in-Err-clause-begins g c =
     is_refused c.args.store.now c.view-view.result c.args.shown (read_set_view c.args.request) c.in-Err.fault c.view-view.ensures c.requires.shown c.in-Err.ensures.begun c.in-Err.ensures.offset
 
 pub returns-in-Ok-clause-work : goal.returns-in-Ok-clause-work
-returns-in-Ok-clause-work g c = subst (λ (bs : List Batch). BeginsWithin bs (read_set_view c.args.request) c.args.steps.now c.begin.new.steps) c.view-view.ensures c.begin.ensures.work
+returns-in-Ok-clause-work g c = subst (λ (bs : List Batch). c.begin.new.steps ≤ c.args.steps.now + start_steps bs (read_set_view c.args.request)) c.view-view.ensures c.begin.ensures.work
 
 pub returns-in-Err-clause-work : goal.returns-in-Err-clause-work
-returns-in-Err-clause-work g c = subst (λ (bs : List Batch). BeginsWithin bs (read_set_view c.args.request) c.args.steps.now c.begin.new.steps) c.view-view.ensures c.begin.ensures.work
+returns-in-Err-clause-work g c = subst (λ (bs : List Batch). c.begin.new.steps ≤ c.args.steps.now + start_steps bs (read_set_view c.args.request)) c.view-view.ensures c.begin.ensures.work
