@@ -1,6 +1,6 @@
 //! Leaves.
 ghost use Rattle.std.specs.Prelude.{◌≡◌, ◌+◌, ◌-◌, ◌^◌, ◌<◌, ◌≤◌, length, true, false, max, IfSome};
-ghost use Rattle.std.specs.Prelude.{IfOk, IsTrue, refl, List, ℕ, ◌&&◌, nat_lt};
+ghost use Rattle.std.specs.Prelude.{IfOk, refl, List, ℕ, ◌&&◌, nat_lt};
 ghost use Rattle.gd_prim.specs.declared.Batch.{Batch};
 ghost use Rattle.gd_prim.specs.End.{places_with};
 ghost use Rattle.gd_prim.specs.History.{prims_of};
@@ -8,10 +8,9 @@ ghost use Rattle.gd_postings.specs.Postings.{first_from};
 ghost use Rattle.gd_store.specs.Valued.{places_of_number};
 ghost use Rattle.gd_iter_core.specs.Owed.{ids_from, has_id, NextGives, IsLow, Reaches, IsAt};
 ghost use Rattle.gd_iter_core.specs.Positions.{Moves, at_place};
-ghost use Rattle.gd_store.specs.Lefts.{rises_from};
+ghost use Rattle.gd_store.specs.Lefts.{LeftsRise};
 ghost use Rattle.gd_leaf.specs.Known.{IsKnown};
 ghost use Rattle.gd_leaf.specs.Leaf.{all_places, leaf_set, leaf_walk};
-ghost use Rattle.gd_leaf.specs.Lefts.{lefts_at};
 ghost use Rattle.gd_leaf.specs.Rising.{leaf_rises, leaf_owed_rises};
 
 use crate::kind::{Kind, first_of_all};
@@ -92,16 +91,16 @@ impl Leaf {
         })
     }
 
-    /// Whether it is known that the left ends of the primitives at its places rise: so it may be of
-    /// those that name a node. False says nothing. It takes no steps.
-    #[tactic(auto, using(crate::proofs::Lefts::lefts_found))]
+    /// Whether it is known that the left ends of the primitives at its places rise, as it may be of
+    /// those that name a node or have a value. False says nothing. It takes no steps.
     pub fn lefts_rise(&self, view: &View<'_>) -> bool
-        ensures { result ≡ true → IsTrue (rises_from 0
-            (lefts_at (prims_of view.now) (leaf_set self.now.kind view.now))) }
+        ensures { result ≡ true
+            → LeftsRise (prims_of view.now) (leaf_set self.now.kind view.now) }
     {
         match &self.kind {
             Kind::Linkage(end, node) => view.lefts_rise(*end, *node),
-            Kind::All | Kind::Value(_) | Kind::Fixed(_) => false,
+            Kind::Value(number) => view.value_lefts_rise(*number),
+            Kind::All | Kind::Fixed(_) => false,
         }
     }
 

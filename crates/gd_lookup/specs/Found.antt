@@ -1,5 +1,5 @@
 -- Which reply to a read is found in a cache.
-use Rattle.std.specs.Prelude.{◌≡◌, ℕ, ◌≤◌, List, length, nat_le, Option, None, Some, option_and_then, if◌then◌else◌}
+use Rattle.std.specs.Prelude.{◌≡◌, ℕ, ◌≤◌, List, length, nat_le, Option, None, Some, option_and_then, slice_get, if◌then◌else◌}
 use Rattle.std.specs.Map.{lookup}
 use Rattle.gd_prim.specs.declared.Batch.{Batch}
 use Rattle.gd_defs.specs.Reply.{max_reply}
@@ -21,6 +21,10 @@ found_line s text dateline k = option_and_then (λ kept. within_reply (kept_text
 -- the reply line k of what is kept under a text, for a read of this dateline
 abbrev pub found_reply : Shown → List ℕ → Option ℕ → ℕ → Option (List ℕ)
 found_reply s text dateline k = option_and_then (λ n. found_line s text n k) dateline
+
+-- so it is of what the session with a number keeps, if replies are kept and the read has a text
+abbrev pub reply_kept : List Shown → ℕ → Option (List ℕ) → Option ℕ → ℕ → Option (List ℕ)
+reply_kept caches session key dateline k = option_and_then (λ s. option_and_then (λ text. found_reply s text dateline k) key) (slice_get caches session)
 
 -- these bytes are the reply line k to whatever read has this text, wherever it has this dateline, over all batches over which what is kept is right
 abbrev pub IsReplyAt : Shown → List ℕ → ℕ → ℕ → List ℕ → Type 0

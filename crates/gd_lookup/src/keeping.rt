@@ -4,11 +4,11 @@ ghost use Rattle.std.specs.Prelude.{sum, min, option_map, IfOk, IfSome};
 ghost use Rattle.gd_prim.specs.declared.Batch.{Batch};
 ghost use Rattle.gd_runs.specs.Request.{ReadSet as Asked, reply_of};
 ghost use Rattle.gd_mql.specs.Requests.{read_set_view};
-ghost use Rattle.gd_cache.specs.Asked.{IsKeyOf};
+ghost use Rattle.gd_cache.specs.Asked.{IsKeyOf, dateline_at};
 ghost use Rattle.gd_cache.specs.declared.key.Kept.{Kept};
 ghost use Rattle.gd_cache.specs.Line.{kept_text};
 ghost use Rattle.gd_cache.specs.Right.{is_ok, IsPlainKept};
-ghost use Rattle.gd_lookup.specs.Found.{IsReplyFor};
+ghost use Rattle.gd_lookup.specs.Found.{IsReplyFor, reply_kept};
 ghost use Rattle.gd_lookup.specs.Laws.{first_kept, none_kept};
 ghost use Rattle.gd_lookup.specs.Keeping.{AllRight, CountsOne, CountsReply, IsCountedAs};
 
@@ -132,6 +132,9 @@ impl Keeping {
         line: u64,
         request: &ReadSet,
     ) -> Result<Option<Vec<u8>>, Memory>
+        ensures found { IfOk result (λ found. option_map (λ bytes. bytes.items) found
+            ≡ reply_kept self.now.caches session key.now
+            (dateline_at at (read_set_view request.now)) line) }
         ensures right { IfOk result (λ found. IfSome found (λ bytes. (batches : List Batch)
             → AllRight batches self.now.caches
             → IfSome key.now (λ text. IsKeyOf text (read_set_view request.now))
