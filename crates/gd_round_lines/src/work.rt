@@ -184,7 +184,25 @@ fn read_line(alloc: Global, line: u64, text: &RoundLine, keyed: bool) -> Asked
     }
 }
 
+/// The sessions that have a line, as bits of a number, with one more.
+fn with_session(sessions: u64, session: u32) -> u64 {
+    sessions | 1 << (session % 64)
+}
+
 impl Works {
+    /// How many of the 64 sessions have a line. It says nothing that an answer could rest on: it
+    /// tells how many workers are worth hiring.
+    pub fn session_count(&self) -> u32 {
+        let mut sessions = 0u64;
+        for read in &self.reads {
+            sessions = with_session(sessions, read.session);
+        }
+        for write in &self.writes {
+            sessions = with_session(sessions, write.session);
+        }
+        sessions.count_ones()
+    }
+
     /// No line yet, with room for the replies to so many lines. `Memory`: an allocation was
     /// refused.
     fn new(alloc: Global, count: usize) -> Result<Works, Memory>

@@ -55,15 +55,17 @@ const MOST_STEPS: u64 = 1_000_000;
 /// The fewest lines that are worth a third worker, and each further one.
 const LEAST_LINES: usize = 16;
 
-/// How many workers are worth hiring for so many lines: at most `most`, and of more than two each
-/// has `LEAST_LINES` lines at least.
-fn crew_size(most: NonZeroU32, lines: usize) -> u32
+/// How many workers are worth hiring for so many lines of so many sessions: at most `most`, no more
+/// than there are sessions, since each runs whole sessions, and of more than two each has
+/// `LEAST_LINES` lines at least.
+fn crew_size(most: NonZeroU32, lines: usize, sessions: u32) -> u32
     ensures some { 0 < result }
     ensures most { result ≤ most.value }
+    ensures manned { 1 < result → result ≤ sessions }
     ensures worth { 2 < result → result * 16 ≤ lines }
 {
     let worth = (lines / LEAST_LINES).max(2).min(most.get() as usize);
-    worth as u32
+    (worth as u32).min(sessions.max(1))
 }
 
 /// A run that is served round by round, by so many workers: the write side, the seats from which
@@ -279,7 +281,7 @@ impl<D: Disk + Send, C: Clock + Send> Rounds<D, C> {
         let begun = show(rt, &mut self.side);
         let hired = hire(
             alloc,
-            crew_size(self.workers, lines.len()),
+            crew_size(self.workers, lines.len(), works.session_count()),
             self.budget,
             &self.side,
             &works,
