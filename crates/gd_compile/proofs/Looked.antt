@@ -1,9 +1,11 @@
 -- What was looked up so far, and what is left of it.
-use Rattle.std.proofs.Common.{◌≡◌, ◌∙◌, ℕ, ◌+◌, ◌*◌, ◌≤◌, ◌<◌, suc, List, ◌∷◌, length, drop, get_or, Vec, Global, add-one, drop-cons, Bool, true, false, ◌&&◌, ◌||◌, Option, Some, None, Ok, sym, ap, subst, arith, rules, codes}
+use Rattle.std.proofs.Common.{◌≡◌, ◌∙◌, ℕ, ◌+◌, ◌*◌, ◌≤◌, ◌<◌, suc, List, [], ◌∷◌, ◌++◌, append_assoc, length, drop, get_or, Vec, Global, add-one, drop-cons, Bool, true, false, ◌&&◌, ◌||◌, Option, Some, None, Result, Ok, Err, refl, sym, ap, subst, arith, rules, codes}
 use Rattle.std.specs.Prelude.{sum_by, is_some, if◌then◌else◌, bytes_eq}
 use Rattle.std.proofs.lemmas.Bool.{false≢true}
 use Rattle.std.proofs.lemmas.List.Sums.{sum_by-cons}
+use Rattle.gd_grammar.specs.Chain.{◌>>=◌}
 use Rattle.gd_grammar.proofs.Steps.{steps, ok_same, some_given}
+use Rattle.gd_base.specs.declared.datum.Datum.{Datum}
 use Rattle.gd_prim.specs.declared.Primitive.{Primitive}
 use Rattle.gd_tree.specs.Json.{Json, null, boolean, number, text, list, object, Items, item}
 use Rattle.gd_defs.specs.Data.{Test}
@@ -12,7 +14,8 @@ use Rattle.gd_defs.specs.Ids.{object_of}
 use Rattle.gd_defs.specs.Query as query
 use Rattle.gd_defs.specs.Query.{is_word}
 use Rattle.gd_defs.specs.Property.{Property, Expects, a_value, a_key, an_object_of_system, a_plain_object, expects_of, holds_values, property}
-use Rattle.gd_defs.specs.Asked.{Own, its_id, its_guid, its_timestamp, its_link, its_value, its_namespace, its_lang, own_of, own_expects, takes, has_namespace, has_lang, asked_object, test_of, context_of, type_text, place_named}
+use Rattle.gd_defs.specs.Asked.{Own, its_id, its_guid, its_timestamp, its_link, its_value, its_namespace, its_lang, own_of, own_expects, takes, has_namespace, has_lang, asked_object, test_of, context_of, type_text, place_named, Unknown}
+use Rattle.gd_defs.specs.Asked.Tests.{operand_data, operand_datum}
 use Rattle.gd_json.specs.View.{view, items_view}
 use Rattle.gd_json.specs.declared.value.Json.{Json as Written, List as List', Text as Text', the_lemmas}
 use Rattle.gd_json.proofs.Parts.{view-List}
@@ -27,6 +30,21 @@ use Rattle.gd_compile.proofs.Spoken.{test_named}
 -- the operands that are left, with the next of them
 pub operand_there : (ops : List Written) (k : ℕ) (j : Written) → k < length ops → j ≡ get_or ops k j → items_view (drop k ops) ≡ item (view j) (items_view (drop (k + 1) ops))
 operand_there ops k j there at = rw add-one (ap items_view (drop-cons ops k j there) ∙ ap (λ (x : Written). item (view x) (items_view (drop (suc k) ops))) (sym at))
+
+-- a datum behind those before it
+data_more : (r : Result (List Datum) Unknown) (had : List Datum) (d : Datum) → ((r >>= λ ds. Ok (d ∷ ds)) >>= λ ds. Ok (had ++ ds)) ≡ (r >>= λ ds. Ok ((had ++ d ∷ []) ++ ds))
+data_more (Err e) had d = refl
+data_more (Ok ds) had d = ap Ok (sym (append_assoc had (d ∷ []) ds))
+
+-- one operand more was read
+pub operand_taken : (prims : List Primitive) (e : Expects) (path : List (List ℕ)) (ops : List Written) (k : ℕ) (j : Written) (d : Datum) (had after : List Datum) (all : Result (List Datum) Unknown) → k < length ops → j ≡ get_or ops k j
+    → all ≡ (operand_data prims e path (items_view (drop k ops)) >>= λ ds. Ok (had ++ ds)) → operand_datum prims e path (view j) ≡ Ok d → after ≡ had ++ d ∷ []
+    → all ≡ (operand_data prims e path (items_view (drop (k + 1) ops)) >>= λ ds. Ok (after ++ ds))
+operand_taken prims e path ops k j d had after all there at left found grown =
+    left ∙ (ap (λ (js : Items). operand_data prims e path js >>= λ ds. Ok (had ++ ds)) (operand_there ops k j there at)
+    ∙ (ap (λ (x : Result Datum Unknown). (x >>= λ d. operand_data prims e path (items_view (drop (k + 1) ops)) >>= λ ds. Ok (d ∷ ds)) >>= λ ds. Ok (had ++ ds)) found
+    ∙ (data_more (operand_data prims e path (items_view (drop (k + 1) ops))) had d
+    ∙ ap (λ (front : List Datum). operand_data prims e path (items_view (drop (k + 1) ops)) >>= λ ds. Ok (front ++ ds)) (sym grown))))
 
 view-Text : (t : List ℕ) → view (Text' t) ≡ text t
 view-Text t = search (rules, the_lemmas)

@@ -1,5 +1,5 @@
 -- How much is looked at for the language that an operand names.
-use Rattle.std.specs.Prelude.{ℕ, ◌+◌, ◌*◌, List, Option, Some, None}
+use Rattle.std.specs.Prelude.{ℕ, ◌+◌, ◌*◌, List, Option, None}
 use Rattle.gd_prim.specs.declared.Primitive.{Primitive}
 use Rattle.gd_tree.specs.Json.{Json, text}
 use Rattle.gd_defs.specs.Ids.{object_of}

@@ -16,7 +16,7 @@ loop-part-preserved g c =
     let e = expects_view c.args.expects in
     let path = map (λ (n : Bor (List ℕ)). n.now) c.args.path.now in
     record {
-      left = c.loop-part.invariant.left
+      whole = c.loop-part.invariant.whole
           ∙ (ap (λ (ms : query.Members). defs.value_members prims e path ms >>= λ d. Ok (in_front c.loop-part.gathered d)) c.in-Some.ensures
           ∙ c.in_ok-add_value_part.ensures.part (left c.in-Some.others));
       looks = parts_next (value_looks prims e) (left c.loop-part.rest) (with_part c.in-Some.part (left c.in-Some.others)) (left c.in-Some.others) c.loop-part.steps c.add_value_part.new.steps (c.args.steps.now + value_looks prims e (left c.args.members.now))

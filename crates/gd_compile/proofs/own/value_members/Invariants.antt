@@ -10,7 +10,7 @@ use Rattle.gd_compile.proofs.own.value_members.Given as goal
 
 abbrev pub invariant-loop-part : goal.invariant-loop-part
 invariant-loop-part g l = record {
-  left : defs.value_members (prims_of l.view) (expects_view l.expects) (map (λ (n : Bor (List ℕ)). n.now) l.path) (left l.members)
+  whole : defs.value_members (prims_of l.view) (expects_view l.expects) (map (λ (n : Bor (List ℕ)). n.now) l.path) (left l.members)
       ≡ (defs.value_members (prims_of l.view) (expects_view l.expects) (map (λ (n : Bor (List ℕ)). n.now) l.path) (left l.rest) >>= λ c. Ok (in_front l.gathered c));
   looks : l.steps + value_looks (prims_of l.view) (expects_view l.expects) (left l.rest) ≤ l.initial.steps + value_looks (prims_of l.view) (expects_view l.expects) (left l.members);
   later : l.initial.steps ≤ l.steps;

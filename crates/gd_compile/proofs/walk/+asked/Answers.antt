@@ -123,8 +123,8 @@ pub asked_member-returns-in-Some-clause-looks : goal.asked_member-returns-in-Som
 asked_member-returns-in-Some-clause-looks g t c =
     own_looked (prims_of c.args.view.now) c.args.context (name_view c.args.name.now) (form_view c.args.form.now) (own_view c.in-Some.own) c.args.steps.now c.own_member.new.steps c.in-Some.ensures c.own_member.ensures.looks
 
-pub asked_member-returns-in-None-clause-looks : goal.asked_member-returns-in-None-clause-looks
-asked_member-returns-in-None-clause-looks g t c =
+pub asked_member-returns-in_ok-property-in-None-clause-looks : goal.asked_member-returns-in_ok-property-in-None-clause-looks
+asked_member-returns-in_ok-property-in-None-clause-looks g t c =
     asks_looked (prims_of c.args.view.now) c.args.context (name_view c.args.name.now) (form_view c.args.form.now) c.in_ok-property-in-None.property c.args.steps.now c.member_property.new.steps c.asked_form.new.steps
     c.in-None.ensures c.in_ok-property-in-None.ensures.named c.member_property.ensures.looks c.asked_form.ensures.looks
 
