@@ -28,7 +28,7 @@ operand_steps e j = 30 * ids_cost j
 -- an operand by its operator: only `|=` takes a list
 abbrev pub test_steps : Expects → query.Operator → Json → ℕ
 test_steps e query.one_of j = operand_steps e j
-test_steps e operator j = item_steps e j
+test_steps e o j = item_steps e j
 
 -- what a computed word asks of the text that it was given: of `lang` whether that names a language
 abbrev pub language_looks : List Primitive → Own → Json → ℕ
@@ -37,15 +37,15 @@ language_looks prims w j = 0
 
 -- the operand of a computed word, if it takes the operator
 abbrev pub own_steps : List Primitive → Own → query.Operator → Json → ℕ
-own_steps prims w operator j = if takes w operator then test_steps (own_expects w) operator j + language_looks prims w j else 0
+own_steps prims w o j = if takes w o then test_steps (own_expects w) o j + language_looks prims w j else 0
 
 -- ---- members that are computed, and those of forms on values and keys
 
 -- a computed member, by its form
 abbrev pub own_looks : List Primitive → Own → query.Operator → query.Form → ℕ
-own_looks prims w operator (query.literal j) = own_steps prims w operator j
-own_looks prims w operator (query.operand j) = own_steps prims w operator j
-own_looks prims w operator f = 0
+own_looks prims w o (query.literal j) = own_steps prims w o j
+own_looks prims w o (query.operand j) = own_steps prims w o j
+own_looks prims w o f = 0
 
 -- the member `value`, by its form
 abbrev pub itself_looks : Expects → query.Form → ℕ
@@ -90,8 +90,8 @@ context_steps (Some t) = 30 * id_cost t
 
 -- a member that tells by itself, if its word is computed
 abbrev pub computed_looks : List Primitive → Option Own → query.Operator → query.Form → ℕ
-computed_looks prims None operator f = 0
-computed_looks prims (Some w) operator f = own_looks prims w operator f
+computed_looks prims None o f = 0
+computed_looks prims (Some w) o f = own_looks prims w o f
 
 abbrev mutual
   -- the members of a clause in its context type
