@@ -255,6 +255,7 @@ pub(crate) fn planned<L>(
 }
 
 /// The reading of a request at the view's dateline, from behind a cursor if there is one.
+#[tactic(auto, using(crate::proofs::Starts::starts_paid, crate::proofs::Starts::looked_paid))]
 fn begin_at<L>(
     alloc: Global,
     view: &View<'_>,

@@ -45,6 +45,7 @@ pub struct SeveralReading {
 
 /// A query among others at the view's dateline. Its words are looked up here; where it has no
 /// meaning, that is its answer. `Memory`: an allocation was refused.
+#[tactic(auto, using(crate::proofs::Starts::starts_paid, crate::proofs::Starts::looked_paid))]
 fn begun_part<L>(
     alloc: Global,
     view: &View<'_>,
