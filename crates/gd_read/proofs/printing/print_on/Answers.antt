@@ -7,13 +7,13 @@ use Rattle.gd_read.proofs.Going.{goes_answer}
 use Rattle.gd_read.proofs.Printed.{prints_answer}
 use Rattle.gd_read.proofs.printing.print_on.Goals as goal
 
-pub returns-in_ok-page_answer : goal.returns-in_ok-page_answer
-returns-in_ok-page_answer g c =
+pub returns-in_ok-page_answer-in-Ok-Reply : goal.returns-in_ok-page_answer-in-Ok-Reply
+returns-in_ok-page_answer-in-Ok-Reply g c =
     let told = rw c.in-Ok-Reply.field-0-is at c.in-Ok-Reply.ensures.reply in
     goes_answer (λ n. shape_due (prims_of c.args.view.now) c.resume.new.self)
-    (subst (λ e. Tells e c.in_ok-page_answer.field-0)
+    (subst (λ e. Tells e c.in_ok-page_answer-in-Ok-Reply.field-0)
     (prints_answer c.args.view.now c.args.subject.now c.args.shape c.args.window.now c.requires.prints)
-    (c.in_ok-page_answer.ensures (page_of (prims_of c.args.view.now) c.args.shape) told))
+    (c.in_ok-page_answer-in-Ok-Reply.ensures (page_of (prims_of c.args.view.now) c.args.shape) told))
     (λ n high. c.resume.ensures.due) (omega arith) c.resume.ensures.later
 
 pub returns-in_ok-page_answer-in-Err-NotUnique : goal.returns-in_ok-page_answer-in-Err-NotUnique
