@@ -4,8 +4,9 @@
     build.py [--jobs N]      afterwards crates/graphd/out/graphd is there
 
 The crates below it are proved side by side by the toolchain's gate, over a copy that has these crates alone: as many as there are
-processors, or N, as far as their chain and the memory allow. What was proved is kept, by the gate and for it, so a run that was stopped
-goes on where it was. What each crate took is kept too, in crates/graphd/out/seconds.json; from that the next run says how long it is to go.
+processors, or N, as far as their chain and the memory allow. Where the gate keeps what it has proved, as that of some toolchains does, a
+run that was stopped goes on where it was. What each crate took is kept in crates/graphd/out/seconds.json; from that the next run says how
+long it is to go.
 
 The status is 0 where the program is built, 1 where it was stopped, and else that of the toolchain.
 """
@@ -229,7 +230,7 @@ def main() -> int:
     if shutil.which("rt") is None:
         sys.exit("graphd: the command rt of the Rattle toolchain is not on the PATH")
     progress, ended = Progress(jobs or side_by_side(), jobs is not None), threading.Event()
-    sys.stderr.write("graphd: proving %d crates, %d at a time, and building the program; what is proved is kept, so it starts at once the next time\n"
+    sys.stderr.write("graphd: proving %d crates, %d at a time, and building the program, which starts at once the next time\n"
                      % (len(progress.needs), progress.jobs))
     ticker = threading.Thread(target=progress.tick, args=(ended,), daemon=True)
     ticker.start()
@@ -254,7 +255,7 @@ def main() -> int:
 
 def stopped(_number, _frame):
     """Ends this run, and the command that it waits for."""
-    sys.exit("\ngraphd: stopped; what was proved is kept")
+    sys.exit("\ngraphd: stopped")
 
 
 if __name__ == "__main__":
