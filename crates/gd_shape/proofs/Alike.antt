@@ -31,15 +31,22 @@ answer-same prims a c r ws = by a.style refl
     by as_id is = rw is refl
     by as_clause is = rw is refl
 
+-- an item in front of those that are printed behind it
+abbrev put : Json → Items × List Walk → Printed Items
+put j js = Ok (item j js.0, js.1)
+
+abbrev more : (List Walk → Printed Items) → Json × List Walk → Printed Items
+more rest j = rest j.1 >>= put j.0
+
 -- answers that print the same one by one do so one after another
 each-same : (f g : Ranked → List Walk → Printed Json) (rs : List Ranked) (ws : List Walk) → ((r : Ranked) (vs : List Walk) → f r vs ≡ g r vs) → each_shape f rs ws ≡ each_shape g rs ws
 each-same f g [] ws same = refl
-each-same f g (r ∷ rs) ws same = ap (λ x. x >>= λ j. each_shape f rs j.1 >>= λ js. Ok (item j.0 js.0, js.1)) (same r ws) ∙ by (g r ws) (λ vs. each-same f g rs vs same)
+each-same f g (r ∷ rs) ws same = ap (λ (x : Printed Json). x >>= more (each_shape f rs)) (same r ws) ∙ by (g r ws) (λ vs. each-same f g rs vs same)
   where
     by : (h : Printed Json) → ((vs : List Walk) → each_shape f rs vs ≡ each_shape g rs vs)
         → (h >>= λ j. each_shape f rs j.1 >>= λ js. Ok (item j.0 js.0, js.1)) ≡ (h >>= λ j. each_shape g rs j.1 >>= λ js. Ok (item j.0 js.0, js.1))
     by (Err e) rest = refl
-    by (Ok j) rest = ap (λ x. x >>= λ js. Ok (item j.0 js.0, js.1)) (rest j.1)
+    by (Ok j) rest = ap (λ (x : Printed Items). x >>= put j.0) (rest j.1)
 
 answers-same : (a : Asking) (f : Ranked → List Walk → Printed Json) (found : ℕ) (rs : List Ranked) (ws : List Walk)
     → answers_shape a f found rs ws ≡ given_or (operand_of a.style) ws (found_print a.single a.listed found (each_shape f rs ws))
@@ -69,7 +76,7 @@ rows-same prims ms (tree o ls ∷ ts) ws = by (object_shape prims ms 0 o ls ws) 
     by : (h : Printed JsonMembers) → ((vs : List Walk) → rows_shape prims ms ts vs ≡ rows_print prims ms ts vs)
         → (h >>= λ m. rows_shape prims ms ts m.1 >>= λ js. Ok (item (object m.0) js.0, js.1)) ≡ (as_object h >>= λ j. rows_print prims ms ts j.1 >>= λ js. Ok (item j.0 js.0, js.1))
     by (Err e) rest = refl
-    by (Ok m) rest = ap (λ x. x >>= λ js. Ok (item (object m.0) js.0, js.1)) (rest m.1)
+    by (Ok m) rest = ap (λ (x : Printed Items). x >>= put (object m.0)) (rest m.1)
 
 -- what is written of a page's rows is what the page prints
 pub page_written : (prims : List Primitive) (q : Asked) (ts : List Tree) (ms : Members) (listed : Bool) (old : List Token) (ws : List Walk) (r : Now) → q.listed ≡ listed → ms ≡ q.members

@@ -9,5 +9,5 @@ pub mod Members
 pub mod Prints
 pub mod Ranks
 pub mod Rows
-pub mod Spelt
+pub mod Walked
 pub mod Written

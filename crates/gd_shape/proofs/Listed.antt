@@ -1,7 +1,6 @@
 -- The objects whose ids are printed, one member, answer or row at a time.
-use Rattle.std.proofs.Common.{◌≡◌, ◌≤◌, ◌<◌, ◌+◌, inl, inr, ℕ, zero, suc, List, [], ◌∷◌, ◌++◌, true, false, Vec, Global, Option, Some, None, map, drop, length, get_or, refl, sym, ap, subst, ◌∙◌}
+use Rattle.std.proofs.Common.{◌≡◌, ◌≤◌, ◌<◌, ◌+◌, inl, inr, ℕ, zero, suc, List, [], ◌∷◌, ◌++◌, true, false, Vec, Global, Option, Some, None, map, drop, length, get_or, refl, sym, ap, subst, ◌∙◌, arith}
 use Rattle.std.proofs.lemmas.List.{append-nil, append_assoc}
-use Rattle.std.specs.Prelude.{slice_get}
 use Rattle.gd_prim.specs.declared.Primitive.{Primitive}
 use Rattle.gd_prim.specs.Live.{object_datum}
 use Rattle.gd_tree.specs.Json.{Json}
@@ -50,10 +49,10 @@ lacks_same os all l same lacks = subst (λ xs. LacksOf xs l) same lacks
 
 -- ---- one of objects at a place
 
-pub is_in : (xs : List ℕ) (i x : ℕ) → slice_get xs i ≡ Some x → In x xs
-is_in [] i x is = cc
-is_in (y ∷ xs) zero x is = let same : y ≡ x = cc in inl (sym same)
-is_in (y ∷ xs) (suc i) x is = inr (is_in xs i x is)
+pub is_in : (xs : List ℕ) (i x : ℕ) → i < length xs → x ≡ get_or xs i x → In x xs
+is_in [] i x within is = absurd (omega (arith, within))
+is_in (y ∷ xs) zero x within is = inl (sym is)
+is_in (y ∷ xs) (suc i) x within is = inr (is_in xs i x (omega (arith, within)) is)
 
 -- ---- nothing behind others
 

@@ -106,11 +106,11 @@ members_all prims ms i link o ls old new told all end ended was =
     ap (λ ts. Ok (ts, told)) ended ∙ ap (λ ks. members_written old (object_shape prims (members_view ks) link o ls told)) (sym (past ms i end)) ∙ was
 
 -- what a member that asks a property is written as is that of its answers, below its name
-pub asks_written : (prims : List Primitive) (m : Member) (name : List ℕ) (asking : Asking) (clause : Vec Member Global) (ms : List Member) (ts : List trees.Tree) (link o : ℕ) (ls : TreeLists) (old out : List Token) (told left : List Walk) (printed outcome : Outcome)
-    → m ≡ Asks name asking clause → ms ≡ clause.items → ts ≡ first_list ls → seen (λ _. (out, left)) outcome ≡ under name (seen (λ _. (out, left)) printed)
-    → seen (λ _. (out, left)) printed ≡ written old (asks_print prims (asking_view asking) (members_view ms) ts told)
-    → seen (λ _. (out, left)) outcome ≡ written old (first_print prims (put m defs.no_members) link o ls told)
-asks_written prims m name asking clause ms ts link o ls old out told left printed outcome is same first below here =
+pub asks_written : (prims : List Primitive) (m : Member) (name : List ℕ) (asking : Asking) (clause : Vec Member Global) (ms : List Member) (ts : List trees.Tree) (link o : ℕ) (ls : TreeLists) (old : List Token) (now : List Token × List Walk) (told : List Walk) (printed outcome : Outcome)
+    → m ≡ Asks name asking clause → ms ≡ clause.items → ts ≡ first_list ls → seen (λ _. now) outcome ≡ under name (seen (λ _. now) printed)
+    → seen (λ _. now) printed ≡ written old (asks_print prims (asking_view asking) (members_view ms) ts told)
+    → seen (λ _. now) outcome ≡ written old (first_print prims (put m defs.no_members) link o ls told)
+asks_written prims m name asking clause ms ts link o ls old now told printed outcome is same first below here =
     let a = asking_view asking in
     below ∙ ap (under name) here ∙ under_name old name (asks_print prims a (members_view ms) ts told)
     ∙ ap (λ ks. written old (under name (asks_print prims a (members_view ks) ts told))) same

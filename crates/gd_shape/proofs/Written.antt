@@ -21,7 +21,7 @@ Now = Result (List Token × List Walk) Path
 
 -- both of a pair are the same
 both : (a c : List Token) (b d : List Walk) → ◌≡◌ {A = Now} (Ok (a, b)) (Ok (c, d)) → (a ≡ c) × (b ≡ d)
-both a c b d is = let e : (a, b) ≡ (c, d) = cc in (ap (λ (p : List Token × List Walk). p.0) e, ap (λ (p : List Token × List Walk). p.1) e)
+both a c b d is = let e : ◌≡◌ {A = List Token × List Walk} (a, b) (c, d) = cc in (ap (λ (p : List Token × List Walk). p.0) e, ap (λ (p : List Token × List Walk). p.1) e)
 
 -- ---- objects
 

@@ -52,15 +52,14 @@ count_or (Some n) page = Ok (count_json n)
 abbrev pub page_of : List Primitive → Shape → Result tree.Json Path
 page_of prims s = count_or s.count (page_shape prims (asked_of s) (trees_in s) (walks_in s))
 
--- what a body prints of a query, over a list: its trees, or the count
-abbrev pub body_print : List Primitive → Asked → PageBody → Result tree.Json Path
-body_print prims q (body.Trees trees) = page_shape prims q (list_of (trees_view trees)) []
-body_print prims q (body.Count n) = Ok (count_json n)
-
--- the same where walks tell the first of its ids
+-- what a body prints of a query, over a list, where walks tell the first of its ids: its trees, or the count
 abbrev pub body_told : List Primitive → Asked → PageBody → List Walk → Result tree.Json Path
 body_told prims q (body.Trees trees) ws = page_shape prims q (list_of (trees_view trees)) ws
 body_told prims q (body.Count n) ws = Ok (count_json n)
+
+-- the same where none is told
+abbrev pub body_print : List Primitive → Asked → PageBody → Result tree.Json Path
+body_print prims q b = body_told prims q b []
 
 -- the places of a body: those of its trees
 abbrev pub body_places : PageBody → ℕ

@@ -163,7 +163,7 @@ fn write_walk(
 }
 
 /// Writes the id of an object: as the next walk spells it, if one is left, else as it is known.
-#[tactic(auto, using(crate::proofs::Spelt::by_walk, crate::proofs::Spelt::walk_left, crate::proofs::Spelt::by_id, crate::proofs::Spelt::none_left))]
+#[tactic(auto, using(crate::proofs::Walked::by_walk, crate::proofs::Walked::walk_left, crate::proofs::Walked::by_id, crate::proofs::Walked::none_left))]
 fn write_id(
     alloc: Global,
     out: &mut Writer,

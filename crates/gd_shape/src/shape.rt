@@ -144,9 +144,10 @@ fn unknown(objects: &[Id], next: &mut usize, ids: &Known) -> Option<Id>
     ensures unknown { IfSome result (λ object. IsNone (known_at ids.now object)) }
     ensures listed { IfSome result (λ object. In object objects.now) }
 {
-    while let Some(object) = objects.get(*next) {
-        if ids.at(*object).is_none() {
-            return Some(*object);
+    while *next < objects.len() {
+        let object = objects[*next];
+        if ids.at(object).is_none() {
+            return Some(object);
         }
         *next += 1;
     }

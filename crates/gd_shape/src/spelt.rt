@@ -27,6 +27,7 @@ fn push_link(text: &mut String, sight: &Sight<'_>, link: Id) -> Result<(), Memor
 }
 
 /// The id that key links spell, from an object up: the texts of the links, from the last one on.
+#[tactic(auto, using(crate::proofs::Walked::link_last, crate::proofs::Walked::link_more))]
 fn links_spelt(alloc: Global, sight: &Sight<'_>, links: &[Id]) -> Result<JsonText, Memory>
     ensures { IfOk result (λ text. text ≡ links_text sight.now links.now []) }
 {
@@ -34,7 +35,8 @@ fn links_spelt(alloc: Global, sight: &Sight<'_>, links: &[Id]) -> Result<JsonTex
     let mut left = links.len();
     while left > 0 {
         left -= 1;
-        push_link(&mut text, sight, links[left])?;
+        let link = links[left];
+        push_link(&mut text, sight, link)?;
     }
     Ok(JsonText::new(text))
 }

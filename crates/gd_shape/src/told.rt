@@ -1,5 +1,5 @@
 //! Walks that are told of the ids that a page prints.
-ghost use Rattle.std.specs.Prelude.{◌≡◌, ◌∷◌, [], map, IfSome, IsNone};
+ghost use Rattle.std.specs.Prelude.{◌≡◌, ◌∷◌, [], map, IfNone, IfSome};
 ghost use Rattle.gd_frozen.specs.Meaning.{walk_of};
 
 use gd_frozen::frozen::Walk;
@@ -33,8 +33,8 @@ impl<'a> Told<'a> {
     /// Takes the next walk, if one is left.
     pub(crate) fn next(&mut self) -> Option<&'a Walk>
         ensures some { IfSome result (λ walk. self.old ≡ walk_of walk.now ∷ self.new) }
-        ensures none { IsNone result → self.old ≡ [] }
-        ensures left { IsNone result → self.new ≡ [] }
+        ensures none { IfNone result (self.old ≡ []) }
+        ensures left { IfNone result (self.new ≡ []) }
     {
         let (walk, rest) = self.walks.split_first()?;
         self.walks = rest;

@@ -1,5 +1,7 @@
-use Rattle.std.proofs.Common.{◌≡◌, true, false, map, ap}
+use Rattle.std.proofs.Common.{◌≡◌, List, true, false, map, ap}
 use Rattle.std.proofs.lemmas.Result.{IfOk-weaker}
+use Rattle.json.specs.Token.{Token}
+use Rattle.gd_bytes.specs.Frozen.{Walk}
 use Rattle.gd_plan.specs.Asked.{asked_view, members_view}
 use Rattle.gd_runs.specs.Shape.{list_shape, rows_shape}
 use Rattle.gd_trees.specs.View.{view as tree_view}
@@ -12,7 +14,7 @@ pub returns-then-asked-clause-printed : goal.returns-then-asked-clause-printed
 returns-then-asked-clause-printed c =
     let old = c.args.out.now.tokens in
     let ws = c.args.told.now in
-    let new = (c.write_rows.new.out.tokens, c.write_rows.new.told) in
+    let new : List Token × List Walk = (c.write_rows.new.out.tokens, c.write_rows.new.told) in
     let q = asked_view c.args.asked.now in
     let ts = map tree_view c.args.trees.now in
     let ms = members_view c.as_slice-members.result.now in
@@ -23,7 +25,7 @@ pub returns-clause-printed : goal.returns-clause-printed
 returns-clause-printed c =
     let old = c.args.out.now.tokens in
     let ws = c.args.told.now in
-    let new = (c.write_first_row.new.out.tokens, c.write_first_row.new.told) in
+    let new : List Token × List Walk = (c.write_first_row.new.out.tokens, c.write_first_row.new.told) in
     let q = asked_view c.args.asked.now in
     let ts = map tree_view c.args.trees.now in
     let ms = members_view c.as_slice-members.result.now in

@@ -41,5 +41,5 @@ write_member-returns-in_err-outcome-in-Asks-clause-listed t c =
 pub write_member-returns-in_ok-under-in-Asks-clause-printed : goal.write_member-returns-in_ok-under-in-Asks-clause-printed
 write_member-returns-in_ok-under-in-Asks-clause-printed t c =
     asks_written c.args.sight.now c.args.member.now c.in-Asks.name c.in-Asks.asking c.in-Asks.clause c.deref.result.now (map tree_view c.first_trees.result.now) c.args.at.now.link c.args.at.now.object (lists_view c.args.lists.now)
-    c.args.out.now.tokens c.write_asks.new.out.tokens c.args.told.now c.write_asks.new.told c.in_ok-outcome-in-Asks.outcome c.in_ok-under-in-Asks.field-0 c.in-Asks.is c.deref.ensures.value c.first_trees.ensures
+    c.args.out.now.tokens (c.write_asks.new.out.tokens, c.write_asks.new.told) c.args.told.now c.in_ok-outcome-in-Asks.outcome c.in_ok-under-in-Asks.field-0 c.in-Asks.is c.deref.ensures.value c.first_trees.ensures
     (c.in_ok-under-in-Asks.ensures (c.write_asks.new.out.tokens, c.write_asks.new.told)) c.in_ok-outcome-in-Asks.ensures.printed

@@ -11,7 +11,7 @@ use Rattle.gd_defs.specs.Ids.{id_text}
 use Rattle.gd_json.specs.Tokens.{tokens_of}
 use Rattle.gd_runs.specs.Shape.{links_text, walk_text, id_json}
 use Rattle.gd_shape.specs.Spelt.{link_text}
-use Rattle.gd_shape.proofs.Left.{left_at}
+use Rattle.gd_shape.proofs.Left.{left_at, past}
 
 -- ---- links
 
@@ -22,6 +22,10 @@ links-behind prims (k ∷ ks) below =
     links-behind prims ks (link_text prims k ++ below)
     ∙ sym (append_assoc (links_text prims ks []) (link_text prims k) below)
     ∙ ap (λ t. t ++ below) (ap (λ t. links_text prims ks [] ++ t) (sym (append-nil (link_text prims k))) ∙ sym (links-behind prims ks (link_text prims k ++ [])))
+
+-- behind the last one nothing is spelled
+pub link_last : (prims : List Primitive) (ks : List ℕ) (left : ℕ) (spelled : List ℕ) → left ≡ length ks → spelled ≡ [] → spelled ≡ links_text prims (drop left ks) []
+link_last prims ks left spelled end none = none ∙ ap (λ xs. links_text prims xs []) (sym (past ks left (omega (arith, end))))
 
 -- the link before those that were spelled is spelled behind them
 pub link_more : (prims : List Primitive) (ks : List ℕ) (left k : ℕ) (old new : List ℕ) → 0 < left → left - 1 < length ks → k ≡ get_or ks (left - 1) k
