@@ -44,7 +44,7 @@ each-same f g [] ws same = refl
 each-same f g (r ∷ rs) ws same = ap (λ (x : Printed Json). x >>= more (each_shape f rs)) (same r ws) ∙ by (g r ws) (λ vs. each-same f g rs vs same)
   where
     by : (h : Printed Json) → ((vs : List Walk) → each_shape f rs vs ≡ each_shape g rs vs)
-        → (h >>= λ j. each_shape f rs j.1 >>= λ js. Ok (item j.0 js.0, js.1)) ≡ (h >>= λ j. each_shape g rs j.1 >>= λ js. Ok (item j.0 js.0, js.1))
+        → ◌≡◌ {A = Printed Items} (h >>= more (each_shape f rs)) (h >>= more (each_shape g rs))
     by (Err e) rest = refl
     by (Ok j) rest = ap (λ (x : Printed Items). x >>= put j.0) (rest j.1)
 
@@ -74,7 +74,7 @@ rows-same prims ms [] ws = refl
 rows-same prims ms (tree o ls ∷ ts) ws = by (object_shape prims ms 0 o ls ws) (λ vs. rows-same prims ms ts vs)
   where
     by : (h : Printed JsonMembers) → ((vs : List Walk) → rows_shape prims ms ts vs ≡ rows_print prims ms ts vs)
-        → (h >>= λ m. rows_shape prims ms ts m.1 >>= λ js. Ok (item (object m.0) js.0, js.1)) ≡ (as_object h >>= λ j. rows_print prims ms ts j.1 >>= λ js. Ok (item j.0 js.0, js.1))
+        → ◌≡◌ {A = Printed Items} (h >>= λ m. more (rows_shape prims ms ts) (object m.0, m.1)) (as_object h >>= more (rows_print prims ms ts))
     by (Err e) rest = refl
     by (Ok m) rest = ap (λ (x : Printed Items). x >>= put (object m.0)) (rest m.1)
 
