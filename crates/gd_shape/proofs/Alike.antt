@@ -12,7 +12,7 @@ use Rattle.gd_defs.specs.Reply.{operand_of, is_clause}
 use Rattle.gd_runs.specs.Shape.{Printed, plain_shape, each_shape, list_shape, answers_shape, object_shape, rows_shape}
 use Rattle.gd_runs.specs.Shape.Answers.{Ranked, cut}
 use Rattle.gd_shape.specs.Outcome.{written}
-use Rattle.gd_shape.specs.Printed.{given_or, found_print, cut_of, as_object, answer_print, asks_print, rows_print}
+use Rattle.gd_shape.specs.Printed.{given_or, found_print, as_object, answer_print, asks_print, rows_print}
 use Rattle.gd_shape.proofs.Written.{Now}
 
 -- ---- answers

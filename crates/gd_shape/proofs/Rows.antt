@@ -1,5 +1,5 @@
 -- Rows of a page, one after another.
-use Rattle.std.proofs.Common.{◌≡◌, ◌≤◌, ◌<◌, ◌+◌, ℕ, List, [], ◌∷◌, ◌++◌, Result, Ok, Err, map, drop, length, get_or, false, refl, sym, ap, ◌∙◌, arith}
+use Rattle.std.proofs.Common.{◌≡◌, ◌≤◌, ◌<◌, ◌+◌, ℕ, List, [], ◌∷◌, ◌++◌, Ok, Err, map, drop, length, get_or, false, refl, sym, ap, ◌∙◌, arith}
 use Rattle.gd_prim.specs.declared.Primitive.{Primitive}
 use Rattle.json.specs.Token.{Token, end_array, null}
 use Rattle.gd_bytes.specs.Frozen.{Walk}

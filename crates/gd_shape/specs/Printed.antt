@@ -1,5 +1,5 @@
 -- What is printed from trees with the walks that are left: the definitions of a page, one member or answer at a time.
-use Rattle.std.specs.Prelude.{ℕ, List, [], ◌∷◌, length, map, take, Bool, Option, Some, None, Result, Ok, Err, if◌then◌else◌}
+use Rattle.std.specs.Prelude.{ℕ, List, [], ◌∷◌, length, map, take, Bool, Option, Some, None, Ok, Err, if◌then◌else◌}
 use Rattle.gd_prim.specs.declared.Primitive.{Primitive}
 use Rattle.gd_grammar.specs.Chain.{◌>>=◌}
 use Rattle.gd_tree.specs.Json.{Json, object, Items, no_items, item, Members as JsonMembers, member as json_member}

@@ -1,4 +1,4 @@
-use Rattle.std.proofs.Common.{[], map, ap, sym, ◌∙◌}
+use Rattle.std.proofs.Common.{map, ap, sym, ◌∙◌}
 use Rattle.gd_plan.specs.Asked.{asked_view}
 use Rattle.gd_runs.specs.Shape.{list_shape, rows_shape}
 use Rattle.gd_trees.specs.View.{view as tree_view}

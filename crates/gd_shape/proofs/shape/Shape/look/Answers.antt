@@ -1,4 +1,3 @@
-use Rattle.gd_shape.proofs.Due.{counted_on}
 use Rattle.gd_shape.proofs.shape.Shape.look.Goals as goal
 
 pub returns-in-IdOf-clause-still : goal.returns-in-IdOf-clause-still
