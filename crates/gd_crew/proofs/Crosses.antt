@@ -5,6 +5,7 @@ use Rattle.std.proofs.Crossing.{crosses}
 use Rattle.gd_cache.proofs.cache.ReplyCache.TheSendSync as reply_cache
 use Rattle.gd_cache.proofs.key.ReplyText.TheSendSync as reply_text
 use Rattle.gd_frozen.proofs.cursor.Cursor.TheSendSync as cursor_sent
+use Rattle.gd_frozen.proofs.frozen.Walk.TheSendSync as told_walk
 use Rattle.gd_json.proofs.value.Json.TheLaws.TheKnot as json_knot
 use Rattle.gd_json.proofs.value.JsonText.TheSendSync as text
 use Rattle.gd_match.proofs.matcher.MatchFault.TheSendSync as match_fault
@@ -82,7 +83,7 @@ plan_field : IsSend (plan.the_field).row
 plan_field = search (sendable, template_field, asked_field) depth 40
 
 shape_field : IsSend (shape.the_field).row
-shape_field = search (sendable, crosses, asked_field, known.the_send, text.the_send, tree_knot.crosses) depth 40 fits 5000
+shape_field = search (sendable, crosses, asked_field, known.the_send, told_walk.the_send, text.the_send, tree_knot.crosses) depth 40 fits 5000
 
 subject_field : IsSend (subject.the_field).row
 subject_field = search (sendable, crosses, request_field, cursor_sent.the_field_send) depth 40 fits 5000

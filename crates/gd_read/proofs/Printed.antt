@@ -18,7 +18,7 @@ use Rattle.gd_plan.specs.declared.asked.Asked.{Asked as Found}
 use Rattle.gd_read.specs.Marked.{mark_of}
 use Rattle.gd_reply.specs.Answers.{told_of}
 use Rattle.gd_shape.specs.Outcome.{text_of}
-use Rattle.gd_shape.specs.Shaping.{page_of, body_print, body_due, shape_due, IsOf, IsBodyOf, IsSamePage, count_or, asked_of, trees_in}
+use Rattle.gd_shape.specs.Shaping.{page_of, body_print, body_due, shape_due, IsOf, IsBodyOf, IsSamePage, count_or, asked_of, trees_in, walks_in}
 use Rattle.gd_shape.specs.declared.shape.PageBody.TheVariants as bodies
 use Rattle.gd_shape.specs.declared.shape.PageBody.{PageBody}
 use Rattle.gd_shape.specs.declared.shape.Shape.{Shape}
@@ -115,9 +115,10 @@ module _ (batches : List Batch) (s : Subject) where
     asked = prints.asked;
     kept = prints.kept;
     one = prints.one;
-    prints = ap (λ n. count_or n (page_shape (prims_of batches) (asked_of new) (trees_in new) [])) same.count
-        ∙ ap (λ q. count_or shape.count (page_shape (prims_of batches) q (trees_in new) [])) same.asked
-        ∙ ap (λ ts. count_or shape.count (page_shape (prims_of batches) (asked_of shape) ts [])) same.trees
+    prints = ap (λ n. count_or n (page_shape (prims_of batches) (asked_of new) (trees_in new) (walks_in new))) same.count
+        ∙ ap (λ q. count_or shape.count (page_shape (prims_of batches) q (trees_in new) (walks_in new))) same.asked
+        ∙ ap (λ ts. count_or shape.count (page_shape (prims_of batches) (asked_of shape) ts (walks_in new))) same.trees
+        ∙ ap (λ ws. count_or shape.count (page_shape (prims_of batches) (asked_of shape) (trees_in shape) ws)) same.walks
         ∙ prints.prints;
     known = known;
     owes = prints.owes;

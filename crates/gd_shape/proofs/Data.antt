@@ -1,5 +1,6 @@
 -- Data that primitives hold, as they print.
-use Rattle.std.proofs.Common.{◌≡◌, ◌≤◌, ℕ, true, false, IsTrue, refl, pos, rules, arith, List}
+use Rattle.std.proofs.Common.{◌≡◌, ◌≤◌, ◌++◌, ℕ, true, false, IsTrue, refl, sym, ap, ◌∙◌, pos, rules, arith, List}
+use Rattle.json.specs.Token.{Token}
 use Rattle.gd_base.specs.declared.datum.Datum.{Datum}
 use Rattle.gd_base.specs.declared.datum.Datum.TheVariants as datum
 use Rattle.gd_prim.specs.declared.Primitive.{Primitive}
@@ -8,16 +9,25 @@ use Rattle.gd_prim.specs.Live.{value_at, object_datum}
 use Rattle.gd_defs.specs.Data.{datum_json}
 use Rattle.gd_defs.specs.Plan.{answers_of}
 use Rattle.gd_defs.specs.Property.{Property, answer_datum, far_end, holds_values, Expects, a_value, a_key, an_object_of_system, a_plain_object}
-use Rattle.gd_defs.specs.Reply.{id_json}
+use Rattle.gd_bytes.specs.Frozen.{Walk}
+use Rattle.gd_json.specs.Tokens.{tokens_of}
+use Rattle.gd_tree.specs.Json.{Json}
+use Rattle.gd_runs.specs.Shape.{id_json}
 
--- a value that is held is no object
-pub no_id : (prims : List Primitive) (d : Datum) → IsTrue (may_hold d) → datum_json d ≡ id_json prims d
-no_id prims (datum.Bool b) held = refl
-no_id prims (datum.Int n) held = refl
-no_id prims (datum.Moment ms precision) held = refl
-no_id prims (datum.Text t) held = refl
-no_id prims (datum.Object o) held = cc
-no_id prims datum.Empty held = refl
+-- a value that is held is no object, and prints without a walk
+plain : (prims : List Primitive) (d : Datum) (told : List Walk) → IsTrue (may_hold d) → id_json prims d told ≡ (datum_json d, told)
+plain prims (datum.Bool b) told held = refl
+plain prims (datum.Int n) told held = refl
+plain prims (datum.Moment ms precision) told held = refl
+plain prims (datum.Text t) told held = refl
+plain prims (datum.Object o) told held = cc
+plain prims datum.Empty told held = refl
+
+pub no_id : (prims : List Primitive) (d : Datum) (told : List Walk) (old new : List Token) → IsTrue (may_hold d) → new ≡ old ++ tokens_of (datum_json d) → new ≡ old ++ tokens_of (id_json prims d told).0
+no_id prims d told old new held printed = printed ∙ ap (λ (p : Json × List Walk). old ++ tokens_of p.0) (sym (plain prims d told held))
+
+pub no_walk : (prims : List Primitive) (d : Datum) (told : List Walk) → IsTrue (may_hold d) → told ≡ (id_json prims d told).1
+no_walk prims d told held = ap (λ (p : Json × List Walk). p.1) (sym (plain prims d told held))
 
 -- the answers of a property that holds values are values
 pub values_here : (prims : List Primitive) (p : Property) (link : ℕ) → holds_values (answers_of p) ≡ true → answer_datum prims p link ≡ value_at prims link

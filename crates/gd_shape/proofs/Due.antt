@@ -1,5 +1,5 @@
 -- The steps of a page's body are those that the work of its rows pays for.
-use Rattle.std.proofs.Common.{◌≡◌, ◌∙◌, ◌≤◌, ◌+◌, ◌*◌, ℕ, List, [], ◌∷◌, length, map, refl, sym, ap, arith}
+use Rattle.std.proofs.Common.{◌≡◌, ◌∙◌, ◌≤◌, ◌<◌, ◌+◌, ◌-◌, ◌*◌, ℕ, List, [], ◌∷◌, length, map, min, refl, sym, ap, subst, arith}
 use Rattle.std.specs.Prelude.{sum_by}
 use Rattle.std.proofs.lemmas.List.Sums.{sum_by-cons}
 use Rattle.gd_prim.specs.declared.Primitive.{Primitive}
@@ -13,7 +13,7 @@ use Rattle.gd_match_laws.specs.Walks.{rows_listed}
 use Rattle.gd_trees.specs.View.{view, trees_view}
 use Rattle.gd_trees.specs.declared.tree.Trees.{Trees, out-Trees}
 use Rattle.gd_work_laws.specs.Reading.{printing_most}
-use Rattle.gd_shape.specs.Shaping.{body_due, IsBodyOf}
+use Rattle.gd_shape.specs.Shaping.{body_due, AreCounted, IsBodyOf}
 use Rattle.gd_shape.specs.declared.shape.PageBody.{PageBody}
 use Rattle.gd_shape.specs.declared.shape.PageBody.TheVariants as body
 use Rattle.gd_shape.proofs.InTrees.{list_seen}
@@ -57,3 +57,29 @@ due_paid prims q b rows due is less = more _ _ _ less (body_paid prims q b rows 
   where
     more : (i j k : ℕ) → i ≤ j → j ≤ k → i ≤ k
     more i j k one two = omega (arith, one, two)
+
+-- ---- places that are counted
+
+-- of trees of which some were counted
+pub trees_counted : (ts : Trees) (count most printed places : ℕ) → count ≡ min (trees_count (trees_view ts)) 18_446_744_073_709_551_615 → most ≡ min count 262_144 → places ≡ most - printed
+    → printed ≤ trees_count (trees_view ts) → AreCounted (map view (out-Trees ts).items.items) printed places
+trees_counted ts count most printed places count_is most_is places_is held =
+    let same : trees_count (trees_view ts) ≡ sum_by tree_count (map view (out-Trees ts).items.items) = places_of (trees_view ts) ∙ ap (sum_by tree_count) (list_seen ts) in
+    record { left = few _ _ count most printed places same count_is most_is places_is; held = subst (λ n. printed ≤ n) same held }
+  where
+    few : (m n count most printed places : ℕ) → m ≡ n → count ≡ min m 18_446_744_073_709_551_615 → most ≡ min count 262_144 → places ≡ most - printed → places ≡ min n 262_144 - printed
+    few m n count most printed places same count_is most_is places_is = omega (arith, same, count_is, most_is, places_is)
+
+-- of none
+pub none_counted : (ts : List trees.Tree) (printed : ℕ) → ts ≡ [] → printed ≤ 0 → AreCounted ts printed 0
+none_counted ts printed none few = subst (λ (us : List trees.Tree). AreCounted us printed 0) (sym none) (record { left = omega (arith, few); held = few })
+
+-- one more is counted
+pub counted_on : (ts : List trees.Tree) (printed places now left : ℕ) → AreCounted ts printed places → 0 < places → now ≡ min (printed + 1) 4_294_967_295 → left ≡ places - 1 → AreCounted ts now left
+counted_on ts printed places now left counted some now_is left_is = record { left = on _ counted.left some now_is left_is; held = held _ counted.left counted.held some now_is }
+  where
+    on : (m : ℕ) → places ≡ min m 262_144 - printed → 0 < places → now ≡ min (printed + 1) 4_294_967_295 → left ≡ places - 1 → left ≡ min m 262_144 - now
+    on m is some now_is left_is = omega (arith, is, some, now_is, left_is)
+
+    held : (m : ℕ) → places ≡ min m 262_144 - printed → printed ≤ m → 0 < places → now ≡ min (printed + 1) 4_294_967_295 → now ≤ m
+    held m is below some now_is = omega (arith, is, below, some, now_is)

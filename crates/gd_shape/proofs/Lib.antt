@@ -1,3 +1,4 @@
+pub mod Alike
 pub mod Data
 pub mod Due
 pub mod InTrees
@@ -8,5 +9,5 @@ pub mod Members
 pub mod Prints
 pub mod Ranks
 pub mod Rows
-pub mod Untold
+pub mod Walked
 pub mod Written

@@ -1,5 +1,5 @@
 -- The objects whose ids are printed, one member, answer or row at a time.
-use Rattle.std.proofs.Common.{◌≡◌, ◌≤◌, ◌<◌, ◌+◌, inl, inr, ℕ, zero, suc, List, [], ◌∷◌, ◌++◌, true, false, Vec, Global, Option, Some, None, map, drop, length, get_or, refl, sym, ap, subst, ◌∙◌}
+use Rattle.std.proofs.Common.{◌≡◌, ◌≤◌, ◌<◌, ◌+◌, inl, inr, ℕ, zero, suc, List, [], ◌∷◌, ◌++◌, true, false, Vec, Global, Option, Some, None, map, drop, length, get_or, refl, sym, ap, subst, ◌∙◌, arith}
 use Rattle.std.proofs.lemmas.List.{append-nil, append_assoc}
 use Rattle.gd_prim.specs.declared.Primitive.{Primitive}
 use Rattle.gd_prim.specs.Live.{object_datum}
@@ -47,14 +47,12 @@ lacks_among os all lack.Memory among here = here
 pub lacks_same : (os all : List ℕ) (l : Lack) → os ≡ all → LacksOf os l → LacksOf all l
 lacks_same os all l same lacks = subst (λ xs. LacksOf xs l) same lacks
 
--- ---- the last of objects is taken from them
+-- ---- one of objects at a place
 
--- what it was taken from has it, and those that are left
-pub last_among : (old left : List ℕ) (x : ℕ) → old ≡ left ++ x ∷ [] → In x old
-last_among old left x is = subst (λ os. In x os) (sym is) (in_second left (x ∷ []) x (inl refl))
-
-pub left_among : (old left all : List ℕ) (x : ℕ) → old ≡ left ++ x ∷ [] → AreAmong old all → AreAmong left all
-left_among old left all x is among y here = among y (subst (λ os. In y os) (sym is) (in_first left (x ∷ []) y here))
+pub is_in : (xs : List ℕ) (i x : ℕ) → i < length xs → x ≡ get_or xs i x → In x xs
+is_in [] i x within is = absurd (omega (arith, within))
+is_in (y ∷ xs) zero x within is = inl (sym is)
+is_in (y ∷ xs) (suc i) x within is = inr (is_in xs i x (omega (arith, within)) is)
 
 -- ---- nothing behind others
 

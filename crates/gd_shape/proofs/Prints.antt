@@ -1,5 +1,5 @@
 -- What answers print, one after another.
-use Rattle.std.proofs.Common.{◌≡◌, ◌≤◌, ◌<◌, ◌+◌, ℕ, List, [], ◌∷◌, ◌++◌, Bool, true, false, Option, Some, None, Result, Ok, Err, map, drop, length, get_or, refl, sym, ap, ◌∙◌, option_map, arith}
+use Rattle.std.proofs.Common.{◌≡◌, ◌≤◌, ◌<◌, ◌+◌, ℕ, List, [], ◌∷◌, ◌++◌, Bool, true, false, Option, Some, None, Ok, Err, map, drop, length, get_or, refl, sym, ap, ◌∙◌, option_map, arith}
 use Rattle.std.specs.Prelude.{if◌then◌else◌}
 use Rattle.gd_prim.specs.declared.Primitive.{Primitive}
 use Rattle.gd_prim.specs.Live.{value_at}
@@ -11,16 +11,17 @@ use Rattle.gd_tree.specs.Trees.{place_of, first_list, TreeLists}
 use Rattle.gd_defs.specs.Asked as defs
 use Rattle.gd_defs.specs.Data.{datum_json}
 use Rattle.gd_defs.specs.Property.{first}
-use Rattle.gd_defs.specs.Reply.{Path, is_ambiguous, operand_of, as_list}
-use Rattle.gd_runs.specs.Shape.{name_shape}
+use Rattle.gd_bytes.specs.Frozen.{Walk}
+use Rattle.gd_defs.specs.Reply.{Path, is_ambiguous, operand_of}
+use Rattle.gd_runs.specs.Shape.{Printed, name_shape, each_shape, list_shape}
 use Rattle.gd_runs.specs.Shape.Answers as shape
 use Rattle.gd_json.specs.Tokens.{tokens_of}
 use Rattle.gd_shape.specs.Outcome.{seen, written, items_written, beside}
-use Rattle.gd_shape.specs.Printed.{each_print, given_or, found_print, cut_of, answer_print, asks_print}
+use Rattle.gd_shape.specs.Printed.{given_or, found_print, cut_of, answer_print, asks_print}
 use Rattle.gd_shape.specs.Ranking.{ranked_view}
 use Rattle.gd_shape.specs.declared.ranked.Ranked.{Ranked}
 use Rattle.gd_shape.proofs.Left.{left_at, past}
-use Rattle.gd_shape.proofs.Written.{Outcome, item_written, item_path, first_beside, first_path}
+use Rattle.gd_shape.proofs.Written.{Now, Outcome, item_written, item_path, first_beside, first_path}
 
 -- ---- the name of an object
 
@@ -53,77 +54,81 @@ unnamed prims ls is = by (first (first_list ls)) is ∙ sym (name-first prims ls
 
 -- ---- answers of a member
 
-each-left : (f : shape.Ranked → Result Json Path) (rows : List Ranked) (i : ℕ) (row : Ranked) → i < length rows → row ≡ get_or rows i row
-    → each_print f (map ranked_view (drop i rows)) ≡ (f (ranked_view row) >>= λ j. each_print f (map ranked_view (drop (i + 1) rows)) >>= λ js. Ok (item j js))
-each-left f rows i row within is = ap (λ rs. each_print f (map ranked_view rs)) (left_at rows i row within is)
+each-left : (f : shape.Ranked → List Walk → Printed Json) (rows : List Ranked) (i : ℕ) (row : Ranked) (ws : List Walk) → i < length rows → row ≡ get_or rows i row
+    → each_shape f (map ranked_view (drop i rows)) ws ≡ (f (ranked_view row) ws >>= λ j. each_shape f (map ranked_view (drop (i + 1) rows)) j.1 >>= λ js. Ok (item j.0 js.0, js.1))
+each-left f rows i row ws within is = ap (λ rs. each_shape f (map ranked_view rs) ws) (left_at rows i row within is)
 
 -- an answer that prints is written
-pub each_more : (f : shape.Ranked → Result Json Path) (rows : List Ranked) (i : ℕ) (row : Ranked) (old new : List Token) (all : Result (List Token) Path) → i < length rows → row ≡ get_or rows i row
-    → Ok new ≡ written old (f (ranked_view row)) → items_written old (each_print f (map ranked_view (drop i rows))) ≡ all
-    → items_written new (each_print f (map ranked_view (drop (i + 1) rows))) ≡ all
-each_more f rows i row old new all within is prints was =
-    item_written old new (f (ranked_view row)) (each_print f (map ranked_view (drop (i + 1) rows))) prints
-    ∙ ap (items_written old) (sym (each-left f rows i row within is)) ∙ was
+pub each_more : (f : shape.Ranked → List Walk → Printed Json) (rows : List Ranked) (i : ℕ) (row : Ranked) (old new : List Token) (told left : List Walk) (all : Now) → i < length rows → row ≡ get_or rows i row
+    → Ok (new, left) ≡ written old (f (ranked_view row) told) → items_written old (each_shape f (map ranked_view (drop i rows)) told) ≡ all
+    → items_written new (each_shape f (map ranked_view (drop (i + 1) rows)) left) ≡ all
+each_more f rows i row old new told left all within is prints was =
+    item_written old new left (f (ranked_view row) told) (λ ws. each_shape f (map ranked_view (drop (i + 1) rows)) ws) prints
+    ∙ ap (items_written old) (sym (each-left f rows i row told within is)) ∙ was
 
 -- an answer that does not
-pub each_path : (f : shape.Ranked → Result Json Path) (rows : List Ranked) (i : ℕ) (row : Ranked) (old : List Token) (path : Path) (all : Result (List Token) Path) → i < length rows → row ≡ get_or rows i row
-    → Err path ≡ written old (f (ranked_view row)) → items_written old (each_print f (map ranked_view (drop i rows))) ≡ all → Err path ≡ all
-each_path f rows i row old path all within is fails was =
-    item_path old (f (ranked_view row)) (each_print f (map ranked_view (drop (i + 1) rows))) path fails
-    ∙ ap (items_written old) (sym (each-left f rows i row within is)) ∙ was
+pub each_path : (f : shape.Ranked → List Walk → Printed Json) (rows : List Ranked) (i : ℕ) (row : Ranked) (old : List Token) (told : List Walk) (path : Path) (all : Now) → i < length rows → row ≡ get_or rows i row
+    → Err path ≡ written old (f (ranked_view row) told) → items_written old (each_shape f (map ranked_view (drop i rows)) told) ≡ all → Err path ≡ all
+each_path f rows i row old told path all within is fails was =
+    item_path old (f (ranked_view row) told) (λ ws. each_shape f (map ranked_view (drop (i + 1) rows)) ws) path fails
+    ∙ ap (items_written old) (sym (each-left f rows i row told within is)) ∙ was
 
 -- all answers are written
-pub each_all : (f : shape.Ranked → Result Json Path) (rows : List Ranked) (i : ℕ) (old new : List Token) (all : Result (List Token) Path) → length rows ≤ i → new ≡ old ++ end_array ∷ []
-    → items_written old (each_print f (map ranked_view (drop i rows))) ≡ all → Ok new ≡ all
-each_all f rows i old new all end ended was = ap (λ ts. Ok ts) ended ∙ ap (λ rs. items_written old (each_print f (map ranked_view rs))) (sym (past rows i end)) ∙ was
+pub each_all : (f : shape.Ranked → List Walk → Printed Json) (rows : List Ranked) (i : ℕ) (old new : List Token) (told : List Walk) (all : Now) → length rows ≤ i → new ≡ old ++ end_array ∷ []
+    → items_written old (each_shape f (map ranked_view (drop i rows)) told) ≡ all → Ok (new, told) ≡ all
+each_all f rows i old new told all end ended was = ap (λ ts. Ok (ts, told)) ended ∙ ap (λ rs. items_written old (each_shape f (map ranked_view rs) told)) (sym (past rows i end)) ∙ was
 
 -- the first answer is written, and those behind it beside it
-pub first_more : (f : shape.Ranked → Result Json Path) (rows rest : List Ranked) (row : Ranked) (old new : List Token) (o : Outcome) → rows ≡ row ∷ rest → Ok new ≡ written old (f (ranked_view row))
-    → seen (λ _. new) o ≡ beside new (each_print f (map ranked_view rest)) → seen (λ _. new) o ≡ written old (as_list false (each_print f (map ranked_view rows)))
-first_more f rows rest row old new o is prints behind =
-    first_beside old new (f (ranked_view row)) (each_print f (map ranked_view rest)) o prints behind ∙ ap (λ rs. written old (as_list false (each_print f (map ranked_view rs)))) (sym is)
+pub first_more : (f : shape.Ranked → List Walk → Printed Json) (rows rest : List Ranked) (row : Ranked) (old new : List Token) (told mid left : List Walk) (o : Outcome) → rows ≡ row ∷ rest → Ok (new, mid) ≡ written old (f (ranked_view row) told)
+    → seen (λ _. (new, left)) o ≡ beside new (each_shape f (map ranked_view rest) mid) → seen (λ _. (new, left)) o ≡ written old (list_shape false (each_shape f (map ranked_view rows) told))
+first_more f rows rest row old new told mid left o is prints behind =
+    first_beside old new mid left (f (ranked_view row) told) (λ ws. each_shape f (map ranked_view rest) ws) o prints behind
+    ∙ ap (λ rs. written old (list_shape false (each_shape f (map ranked_view rs) told))) (sym is)
 
 -- two answers in the first
-pub first_fails : (f : shape.Ranked → Result Json Path) (rows rest : List Ranked) (row : Ranked) (old : List Token) (path : Path) → rows ≡ row ∷ rest → Err path ≡ written old (f (ranked_view row))
-    → Err path ≡ written old (as_list false (each_print f (map ranked_view rows)))
-first_fails f rows rest row old path is fails =
-    first_path old (f (ranked_view row)) (each_print f (map ranked_view rest)) path fails ∙ ap (λ rs. written old (as_list false (each_print f (map ranked_view rs)))) (sym is)
+pub first_fails : (f : shape.Ranked → List Walk → Printed Json) (rows rest : List Ranked) (row : Ranked) (old : List Token) (told : List Walk) (path : Path) → rows ≡ row ∷ rest → Err path ≡ written old (f (ranked_view row) told)
+    → Err path ≡ written old (list_shape false (each_shape f (map ranked_view rows) told))
+first_fails f rows rest row old told path is fails =
+    first_path old (f (ranked_view row) told) (λ ws. each_shape f (map ranked_view rest) ws) path fails ∙ ap (λ rs. written old (list_shape false (each_shape f (map ranked_view rs) told))) (sym is)
 
 -- no answers
-pub no_first : (f : shape.Ranked → Result Json Path) (rows : List Ranked) (old new : List Token) → length rows ≡ 0 → new ≡ old ++ null_token ∷ [] → Ok new ≡ written old (as_list false (each_print f (map ranked_view rows)))
-no_first f [] old new none is = ap (λ ts. Ok ts) is
-no_first f (row ∷ rows) old new none is = absurd (omega (arith, none))
+pub no_first : (f : shape.Ranked → List Walk → Printed Json) (rows : List Ranked) (old new : List Token) (told : List Walk) → length rows ≡ 0 → new ≡ old ++ null_token ∷ []
+    → Ok (new, told) ≡ written old (list_shape false (each_shape f (map ranked_view rows) told))
+no_first f [] old new told none is = ap (λ ts. Ok (ts, told)) is
+no_first f (row ∷ rows) old new told none is = absurd (omega (arith, none))
 
-pub none_beside : (f : shape.Ranked → Result Json Path) (rows : List Ranked) (out : List Token) → length rows ≡ 0 → Ok out ≡ beside out (each_print f (map ranked_view rows))
-none_beside f [] out none = refl
-none_beside f (row ∷ rows) out none = absurd (omega (arith, none))
+pub none_beside : (f : shape.Ranked → List Walk → Printed Json) (rows : List Ranked) (out : List Token) (told : List Walk) → length rows ≡ 0 → Ok (out, told) ≡ beside out (each_shape f (map ranked_view rows) told)
+none_beside f [] out told none = refl
+none_beside f (row ∷ rows) out told none = absurd (omega (arith, none))
 
 -- ---- what a member prints
 
-asks-none : (prims : List Primitive) (a : defs.Asking) (c : defs.Members) (ts : List trees.Tree) → None ≡ operand_of a.style
-    → found_print a.single a.listed (length ts) (each_print (answer_print prims a c) (cut_of prims a c ts)) ≡ asks_print prims a c ts
-asks-none prims a c ts none = ap (λ o. given_or o (found_print a.single a.listed (length ts) (each_print (answer_print prims a c) (cut_of prims a c ts)))) none
+asks-none : (prims : List Primitive) (a : defs.Asking) (c : defs.Members) (ts : List trees.Tree) (ws : List Walk) → None ≡ operand_of a.style
+    → found_print a.single a.listed (length ts) (each_shape (answer_print prims a c) (cut_of prims a c ts) ws) ≡ asks_print prims a c ts ws
+asks-none prims a c ts ws none = ap (λ o. given_or o ws (found_print a.single a.listed (length ts) (each_shape (answer_print prims a c) (cut_of prims a c ts) ws))) none
 
 -- an operand is written
-pub asks_given : (prims : List Primitive) (a : defs.Asking) (c : defs.Members) (ts : List trees.Tree) (j : Json) (old new : List Token) → Some j ≡ operand_of a.style → new ≡ old ++ tokens_of j → Ok new ≡ written old (asks_print prims a c ts)
-asks_given prims a c ts j old new some is =
-    ap (λ zs. Ok zs) is ∙ ap (λ o. written old (given_or o (found_print a.single a.listed (length ts) (each_print (answer_print prims a c) (cut_of prims a c ts))))) some
+pub asks_given : (prims : List Primitive) (a : defs.Asking) (c : defs.Members) (ts : List trees.Tree) (j : Json) (old new : List Token) (told : List Walk) → Some j ≡ operand_of a.style → new ≡ old ++ tokens_of j
+    → Ok (new, told) ≡ written old (asks_print prims a c ts told)
+asks_given prims a c ts j old new told some is =
+    ap (λ zs. Ok (zs, told)) is ∙ ap (λ o. written old (given_or o told (found_print a.single a.listed (length ts) (each_shape (answer_print prims a c) (cut_of prims a c ts) told)))) some
 
 -- two answers are one too many
-pub asks_twice : (prims : List Primitive) (a : defs.Asking) (c : defs.Members) (ts : List trees.Tree) (old : List Token) → None ≡ operand_of a.style → is_ambiguous a.single (length ts) ≡ true → Err [] ≡ written old (asks_print prims a c ts)
-asks_twice prims a c ts old none twice = by (is_ambiguous a.single (length ts)) twice ∙ ap (written old) (asks-none prims a c ts none)
+pub asks_twice : (prims : List Primitive) (a : defs.Asking) (c : defs.Members) (ts : List trees.Tree) (old : List Token) (told : List Walk) → None ≡ operand_of a.style → is_ambiguous a.single (length ts) ≡ true
+    → Err [] ≡ written old (asks_print prims a c ts told)
+asks_twice prims a c ts old told none twice = by (is_ambiguous a.single (length ts)) twice ∙ ap (written old) (asks-none prims a c ts told none)
   where
-    by : (b : Bool) → b ≡ true → Err [] ≡ written old (if b then Err [] else as_list a.listed (each_print (answer_print prims a c) (cut_of prims a c ts)))
+    by : (b : Bool) → b ≡ true → Err [] ≡ written old (if b then Err [] else list_shape a.listed (each_shape (answer_print prims a c) (cut_of prims a c ts) told))
     by true is = refl
     by false is = cc
 
 -- else the answers are written
-pub asks_found : (prims : List Primitive) (a : defs.Asking) (c : defs.Members) (ts : List trees.Tree) (rows : List shape.Ranked) (old : List Token) (r : Result (List Token) Path) → None ≡ operand_of a.style → is_ambiguous a.single (length ts) ≡ false
-    → rows ≡ cut_of prims a c ts → r ≡ written old (as_list a.listed (each_print (answer_print prims a c) rows)) → r ≡ written old (asks_print prims a c ts)
-asks_found prims a c ts rows old r none once cut is =
-    is ∙ ap (λ rs. written old (as_list a.listed (each_print (answer_print prims a c) rs))) cut
-    ∙ ap (written old) (by (is_ambiguous a.single (length ts)) once ∙ asks-none prims a c ts none)
+pub asks_found : (prims : List Primitive) (a : defs.Asking) (c : defs.Members) (ts : List trees.Tree) (rows : List shape.Ranked) (old : List Token) (told : List Walk) (r : Now) → None ≡ operand_of a.style → is_ambiguous a.single (length ts) ≡ false
+    → rows ≡ cut_of prims a c ts → r ≡ written old (list_shape a.listed (each_shape (answer_print prims a c) rows told)) → r ≡ written old (asks_print prims a c ts told)
+asks_found prims a c ts rows old told r none once cut is =
+    is ∙ ap (λ rs. written old (list_shape a.listed (each_shape (answer_print prims a c) rs told))) cut
+    ∙ ap (written old) (by (is_ambiguous a.single (length ts)) once ∙ asks-none prims a c ts told none)
   where
-    by : (b : Bool) → b ≡ false → as_list a.listed (each_print (answer_print prims a c) (cut_of prims a c ts)) ≡ (if b then Err [] else as_list a.listed (each_print (answer_print prims a c) (cut_of prims a c ts)))
+    by : (b : Bool) → b ≡ false → ◌≡◌ {A = Printed Json} (list_shape a.listed (each_shape (answer_print prims a c) (cut_of prims a c ts) told)) (if b then Err [] else list_shape a.listed (each_shape (answer_print prims a c) (cut_of prims a c ts) told))
     by false is = refl
     by true is = cc

@@ -5,3 +5,4 @@ pub mod Outcome
 pub mod Printed
 pub mod Ranking
 pub mod Shaping
+pub mod Spelt

@@ -1,8 +1,9 @@
 -- What a page that is being printed stands for.
-use Rattle.std.specs.Prelude.{◌≡◌, ◌+◌, ◌*◌, ◌<◌, ℕ, List, [], length, Option, None, Some, map, Bool, true, false, if◌then◌else◌, Result, Ok, Err, IsNone}
+use Rattle.std.specs.Prelude.{◌≡◌, ◌+◌, ◌-◌, ◌*◌, ◌<◌, ◌≤◌, min, sum_by, ℕ, List, [], length, Option, None, Some, map, Bool, true, false, if◌then◌else◌, Result, Ok, Err, IsNone}
 use Rattle.gd_prim.specs.declared.Primitive.{Primitive}
 use Rattle.gd_tree.specs.Json as tree
-use Rattle.gd_tree.specs.Trees.{Tree, list_of, trees_count}
+use Rattle.gd_tree.specs.Trees.{Tree, list_of, tree_count, trees_count}
+use Rattle.gd_bytes.specs.Frozen.{Walk}
 use Rattle.gd_defs.specs.Asked.{Asked}
 use Rattle.gd_defs.specs.Plan.{template_of}
 use Rattle.gd_defs.specs.Reply.{Path}
@@ -11,6 +12,7 @@ use Rattle.gd_defs.specs.Template.{tree_of}
 use Rattle.gd_order_laws.specs.Window.{In}
 use Rattle.gd_match_laws.specs.Walks.{rows_listed}
 use Rattle.gd_plan.specs.Asked.{asked_view}
+use Rattle.gd_frozen.specs.Meaning.{walk_of}
 use Rattle.gd_defs.specs.Lines.{count_json}
 use Rattle.gd_runs.specs.Shape.{page_shape}
 use Rattle.gd_trees.specs.View.{view as tree_view, trees_view}
@@ -37,6 +39,10 @@ asked_of s = asked_view s.asked
 abbrev pub trees_in : Shape → List Tree
 trees_in s = map tree_view s.trees.items
 
+-- the walks that spell the first of its ids
+abbrev pub walks_in : Shape → List Walk
+walks_in s = map walk_of s.walks.items
+
 -- a count as it prints, if one is asked, else the page
 abbrev pub count_or : Option ℕ → Result tree.Json Path → Result tree.Json Path
 count_or None page = page
@@ -44,12 +50,26 @@ count_or (Some n) page = Ok (count_json n)
 
 -- what a page that is being printed prints in the end, over a list
 abbrev pub page_of : List Primitive → Shape → Result tree.Json Path
-page_of prims s = count_or s.count (page_shape prims (asked_of s) (trees_in s) [])
+page_of prims s = count_or s.count (page_shape prims (asked_of s) (trees_in s) (walks_in s))
 
--- what a body prints of a query, over a list: its trees, or the count
+-- what a body prints of a query, over a list, where walks tell the first of its ids: its trees, or the count
+abbrev pub body_told : List Primitive → Asked → PageBody → List Walk → Result tree.Json Path
+body_told prims q (body.Trees trees) ws = page_shape prims q (list_of (trees_view trees)) ws
+body_told prims q (body.Count n) ws = Ok (count_json n)
+
+-- the same where none is told
 abbrev pub body_print : List Primitive → Asked → PageBody → Result tree.Json Path
-body_print prims q (body.Trees trees) = page_shape prims q (list_of (trees_view trees)) []
-body_print prims q (body.Count n) = Ok (count_json n)
+body_print prims q b = body_told prims q b []
+
+-- the places of a body: those of its trees
+abbrev pub body_places : PageBody → ℕ
+body_places (body.Trees trees) = trees_count (trees_view trees)
+body_places (body.Count n) = 0
+
+-- places that were counted, and those that are left to be counted, are those of trees, up to those of a page
+pub record AreCounted (ts : List Tree) (printed places : ℕ) : Type 0 where
+  pub left : places ≡ min (sum_by tree_count ts) 262_144 - printed
+  pub held : printed ≤ sum_by tree_count ts
 
 -- the objects whose ids the page prints, over a list
 abbrev pub listed_of : List Primitive → Shape → List ℕ
@@ -73,16 +93,18 @@ abbrev pub IsBodyOf : List Primitive → Asked → List Row → PageBody → Typ
 IsBodyOf prims q rows (body.Trees trees) = list_of (trees_view trees) ≡ map (λ (r : Row). tree_of prims (template_of q) r.object) rows
 IsBodyOf prims q rows (body.Count n) = Unit {0}
 
--- the ids that were found are of this list, and those that are to be found are printed
+-- the ids that were found are of this list, those that are to be found are printed, and the places are counted
 pub record IsOf (prims : List Primitive) (s : Shape) : Type 0 where
   pub known : IsKnownOf prims s.ids
   pub listed : AreAmong s.objects.items (listed_of prims s)
+  pub counted : AreCounted (trees_in s) s.printed s.places
 
 -- both print the same rows of the same query
 pub record IsSamePage (a b : Shape) : Type 0 where
   pub asked : asked_of b ≡ asked_of a
   pub trees : trees_in b ≡ trees_in a
   pub count : b.count ≡ a.count
+  pub walks : walks_in b ≡ walks_in a
 
 -- a place is still to be counted, or the id of the object is not known
 abbrev pub IsWanted : Shape → Wanted → Type 0

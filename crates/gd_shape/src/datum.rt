@@ -1,26 +1,32 @@
 //! Data as they print.
-ghost use Rattle.std.specs.Prelude.{◌≡◌, ℕ, [], ◌∷◌, None, IfErr, IsTrue, OnOk};
+ghost use Rattle.std.specs.Prelude.{◌≡◌, ℕ, List, [], ◌∷◌, None, IfErr, IsTrue, OnOk};
+ghost use Rattle.gd_base.specs.declared.datum.Datum.TheVariants as datum;
 ghost use Rattle.gd_tree.specs.Json.{text};
 ghost use Rattle.gd_prim.specs.Live.{value_at, end_at, object_datum, language_at};
 ghost use Rattle.gd_prim.specs.WellFormed.{is_moment, may_hold};
+ghost use Rattle.gd_bytes.specs.Frozen as defined;
 ghost use Rattle.gd_defs.specs.Data.{datum_json};
 ghost use Rattle.gd_defs.specs.Moment as defs;
 ghost use Rattle.gd_defs.specs.Ids.{id_text, guid};
 ghost use Rattle.gd_defs.specs.Property as props;
-ghost use Rattle.gd_defs.specs.Reply as reply;
 ghost use Rattle.gd_defs.specs.Rows as rows;
+ghost use Rattle.gd_frozen.specs.Meaning.{walk_of};
 ghost use Rattle.gd_match_laws.specs.Walks.{id_of, own_listed};
 ghost use Rattle.gd_plan.specs.Seen.{own_view};
+ghost use Rattle.gd_runs.specs.Shape.{id_json, own_shape, walk_text};
 ghost use Rattle.gd_shape.specs.Knowing.{IsKnownOf};
 ghost use Rattle.gd_shape.specs.Outcome.{Adds, Lacks, LacksOf};
 
 use crate::known::Known;
 use crate::sight::{Lack, Sight};
+use crate::spelt::spelt;
+use crate::told::Told;
 use gd_base::datum::{Datum, Precision};
 use gd_base::id::Id;
 use gd_base::memory::Memory;
 use gd_datum::moment::moment_text;
 use gd_fault::guid::guid;
+use gd_frozen::frozen::Walk;
 use gd_plan::asked::Own;
 use gd_plan::constraint::answers_of;
 use gd_plan::expects::holds_values;
@@ -120,8 +126,8 @@ fn write_guid(alloc: Global, out: &mut Writer, place: Id) -> Result<(), Memory>
     Ok(())
 }
 
-/// Writes the id of an object.
-fn write_id(out: &mut Writer, sight: &Sight<'_>, ids: &Known, object: Id) -> Result<(), Lack>
+/// Writes the id of an object that is known.
+fn write_known(out: &mut Writer, sight: &Sight<'_>, ids: &Known, object: Id) -> Result<(), Lack>
     requires { IsKnownOf sight.now ids.now }
     ensures printed { OnOk result (Adds out.old.tokens out.new.tokens
         (text (id_text sight.now object))) }
@@ -139,23 +145,69 @@ fn write_id(out: &mut Writer, sight: &Sight<'_>, ids: &Known, object: Id) -> Res
     }
 }
 
-/// Writes the id of an object, if there is one, else null.
-fn write_some_id(
+/// Writes the id of an object as a walk spells it.
+fn write_walk(
+    alloc: Global,
+    out: &mut Writer,
+    sight: &Sight<'_>,
+    object: Id,
+    walk: &Walk,
+) -> Result<(), Memory>
+    ensures printed { OnOk result (Adds out.old.tokens out.new.tokens
+        (text (walk_text sight.now object (walk_of walk.now)))) }
+    ensures before { out.new.before ≡ out.old.before }
+{
+    let text = spelt(alloc, sight, object, walk)?;
+    out.string(text.as_str())?;
+    Ok(())
+}
+
+/// Writes the id of an object: as the next walk spells it, if one is left, else as it is known.
+#[tactic(auto, using(crate::proofs::Walked::by_walk, crate::proofs::Walked::walk_left, crate::proofs::Walked::by_id, crate::proofs::Walked::none_left))]
+fn write_id(
+    alloc: Global,
     out: &mut Writer,
     sight: &Sight<'_>,
     ids: &Known,
+    told: &mut Told<'_>,
+    object: Id,
+) -> Result<(), Lack>
+    requires { IsKnownOf sight.now ids.now }
+    ensures printed { OnOk result (Adds out.old.tokens out.new.tokens
+        (id_json sight.now (datum.Object object) told.old).0) }
+    ensures left { OnOk result (told.new ≡ (id_json sight.now (datum.Object object) told.old).1) }
+    ensures before { out.new.before ≡ out.old.before }
+    ensures lacks { IfErr result (λ lack. Lacks ids.now lack) }
+    ensures listed { IfErr result (λ lack. LacksOf
+        (object ∷ []) lack) }
+{
+    match told.next() {
+        Some(walk) => write_walk(alloc, out, sight, object, walk)?,
+        None => write_known(out, sight, ids, object)?,
+    }
+    Ok(())
+}
+
+/// Writes the id of an object, if there is one, else null.
+fn write_some_id(
+    alloc: Global,
+    out: &mut Writer,
+    sight: &Sight<'_>,
+    ids: &Known,
+    told: &mut Told<'_>,
     object: Option<Id>,
 ) -> Result<(), Lack>
     requires { IsKnownOf sight.now ids.now }
     ensures printed { OnOk result (Adds out.old.tokens out.new.tokens
-        (reply.id_json sight.now (object_datum object))) }
+        (id_json sight.now (object_datum object) told.old).0) }
+    ensures left { OnOk result (told.new ≡ (id_json sight.now (object_datum object) told.old).1) }
     ensures before { out.new.before ≡ out.old.before }
     ensures lacks { IfErr result (λ lack. Lacks ids.now lack) }
     ensures listed { IfErr result (λ lack. LacksOf
         (id_of (object_datum object)) lack) }
 {
     match object {
-        Some(object) => write_id(out, sight, ids, object)?,
+        Some(object) => write_id(alloc, out, sight, ids, told, object)?,
         None => out.null()?,
     }
     Ok(())
@@ -248,31 +300,34 @@ pub(crate) fn write_own(
     out: &mut Writer,
     sight: &Sight<'_>,
     ids: &Known,
+    told: &mut Told<'_>,
     own: Own,
     link: Id,
     object: Id,
 ) -> Result<(), Lack>
     requires { IsKnownOf sight.now ids.now }
     ensures printed { OnOk result (Adds out.old.tokens out.new.tokens
-        (reply.own_json sight.now (own_view own) link object)) }
+        (own_shape sight.now (own_view own) None link object told.old).0) }
+    ensures left { OnOk result (told.new
+        ≡ (own_shape sight.now (own_view own) None link object told.old).1) }
     ensures before { out.new.before ≡ out.old.before }
     ensures lacks { IfErr result (λ lack. Lacks ids.now lack) }
     ensures listed { IfErr result (λ lack. LacksOf
         (own_listed sight.now (own_view own) None link object) lack) }
 {
     match own {
-        Own::Id => write_id(out, sight, ids, object)?,
+        Own::Id => write_id(alloc, out, sight, ids, told, object)?,
         Own::Guid => write_guid(alloc, out, object)?,
         Own::Timestamp => write_timestamp(alloc, out, sight, object)?,
         Own::Link => write_guid(alloc, out, link)?,
         Own::Value => write_value_at(alloc, out, sight, link)?,
         Own::Namespace => {
             let namespace = right_of(sight, link);
-            write_some_id(out, sight, ids, namespace)?;
+            write_some_id(alloc, out, sight, ids, told, namespace)?;
         }
         Own::Lang => {
             let language = language_of(sight, link);
-            write_some_id(out, sight, ids, language)?;
+            write_some_id(alloc, out, sight, ids, told, language)?;
         }
     }
     Ok(())
@@ -305,12 +360,15 @@ pub(crate) fn write_answer_id(
     out: &mut Writer,
     sight: &Sight<'_>,
     ids: &Known,
+    told: &mut Told<'_>,
     property: &Property,
     link: Id,
 ) -> Result<(), Lack>
     requires { IsKnownOf sight.now ids.now }
     ensures printed { OnOk result (Adds out.old.tokens out.new.tokens
-        (reply.id_json sight.now (props.answer_datum sight.now property.now link))) }
+        (id_json sight.now (props.answer_datum sight.now property.now link) told.old).0) }
+    ensures left { OnOk result (told.new
+        ≡ (id_json sight.now (props.answer_datum sight.now property.now link) told.old).1) }
     ensures before { out.new.before ≡ out.old.before }
     ensures lacks { IfErr result (λ lack. Lacks ids.now lack) }
     ensures listed { IfErr result (λ lack. LacksOf
@@ -321,19 +379,21 @@ pub(crate) fn write_answer_id(
         return Ok(());
     }
     let end = far_end(sight, property, link);
-    write_some_id(out, sight, ids, end)
+    write_some_id(alloc, out, sight, ids, told, end)
 }
 
 /// Writes the value at a place, which is no object, as its id.
-#[tactic(auto, using(crate::proofs::Data::no_id))]
+#[tactic(auto, using(crate::proofs::Data::no_id, crate::proofs::Data::no_walk))]
 fn write_value_id(
     alloc: Global,
     out: &mut Writer,
     sight: &Sight<'_>,
     place: Id,
 ) -> Result<(), Memory>
-    ensures printed { OnOk result (Adds out.old.tokens out.new.tokens
-        (reply.id_json sight.now (value_at sight.now place))) }
+    ensures printed { OnOk result ((told : List defined.Walk)
+        → Adds out.old.tokens out.new.tokens (id_json sight.now (value_at sight.now place) told).0) }
+    ensures left { OnOk result ((told : List defined.Walk)
+        → told ≡ (id_json sight.now (value_at sight.now place) told).1) }
     ensures before { out.new.before ≡ out.old.before }
 {
     match sight.prim(place) {

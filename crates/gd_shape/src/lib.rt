@@ -14,3 +14,5 @@ mod print;
 mod ranked;
 pub mod shape;
 pub mod sight;
+mod spelt;
+pub mod told;

@@ -2,10 +2,10 @@
 ghost use Rattle.std.specs.Prelude.{◌≡◌, List, [], true, false, IfErr, IfOk, map};
 ghost use Rattle.json.specs.Token.{Token};
 ghost use Rattle.gd_tree.specs.Trees.{place_of, lists_of};
-ghost use Rattle.gd_defs.specs.Reply as reply;
+ghost use Rattle.gd_frozen.specs.Meaning.{walk_of};
 ghost use Rattle.gd_match_laws.specs.Walks.{object_listed, rows_listed};
 ghost use Rattle.gd_plan.specs.Asked.{asked_view, members_view};
-ghost use Rattle.gd_runs.specs.Shape.{page_shape};
+ghost use Rattle.gd_runs.specs.Shape.{list_shape, object_shape, page_shape, rows_shape};
 ghost use Rattle.gd_trees.specs.View.{view as tree_view};
 ghost use Rattle.gd_shape.specs.Knowing.{IsKnownOf};
 ghost use Rattle.gd_shape.specs.Outcome.{beside, seen, text_of, written, Lacks, LacksOf};
@@ -15,7 +15,9 @@ use crate::answer::Answer;
 use crate::known::Known;
 use crate::print::{Names, write_object};
 use crate::sight::{Lack, Sight};
+use crate::told::Told;
 use gd_base::id::Id;
+use gd_frozen::frozen::Walk;
 use gd_json::value::JsonText;
 use gd_plan::asked::{Asked, Member};
 use gd_trees::tree::Tree;
@@ -32,14 +34,15 @@ fn write_row(
     out: &mut Writer,
     sight: &Sight<'_>,
     ids: &Known,
+    told: &mut Told<'_>,
     members: &[Member],
     tree: &Tree,
 ) -> Result<Result<(), Names>, Lack>
     requires { IsKnownOf sight.now ids.now }
-    ensures printed { IfOk result (λ outcome. seen (λ _. out.new.tokens) outcome
-        ≡ written out.old.tokens (print.as_object (print.object_print sight.now
+    ensures printed { IfOk result (λ outcome. seen (λ _. (out.new.tokens, told.new)) outcome
+        ≡ written out.old.tokens (print.as_object (object_shape sight.now
         (members_view members.now) 0 (place_of (tree_view tree.now))
-        (lists_of (tree_view tree.now))))) }
+        (lists_of (tree_view tree.now)) told.old))) }
     ensures before { out.new.before ≡ out.old.before }
     ensures lacks { IfErr result (λ lack. Lacks ids.now lack) }
     ensures listed { IfErr result (λ lack. LacksOf
@@ -51,7 +54,7 @@ fn write_row(
         object: tree.place,
         lists: tree.lists.as_slice(),
     };
-    write_object(alloc, out, sight, ids, members, &at)
+    write_object(alloc, out, sight, ids, told, members, &at)
 }
 
 /// Writes the list of what the rows of trees print, or finds the first path of two answers.
@@ -61,13 +64,14 @@ fn write_rows(
     out: &mut Writer,
     sight: &Sight<'_>,
     ids: &Known,
+    told: &mut Told<'_>,
     members: &[Member],
     trees: &[Tree],
 ) -> Result<Result<(), Names>, Lack>
     requires { IsKnownOf sight.now ids.now }
-    ensures printed { IfOk result (λ outcome. seen (λ _. out.new.tokens) outcome
-        ≡ written out.old.tokens (reply.as_list true
-        (print.rows_print sight.now (members_view members.now) (map tree_view trees.now)))) }
+    ensures printed { IfOk result (λ outcome. seen (λ _. (out.new.tokens, told.new)) outcome
+        ≡ written out.old.tokens (list_shape true
+        (print.rows_print sight.now (members_view members.now) (map tree_view trees.now) told.old))) }
     ensures before { out.new.before ≡ out.old.before }
     ensures lacks { IfErr result (λ lack. Lacks ids.now lack) }
     ensures listed { IfErr result (λ lack. LacksOf
@@ -75,7 +79,7 @@ fn write_rows(
 {
     out.begin_array()?;
     for tree in trees {
-        match write_row(alloc, out, sight, ids, members, tree)? {
+        match write_row(alloc, out, sight, ids, told, members, tree)? {
             Ok(()) => {}
             Err(names) => return Ok(Err(names)),
         }
@@ -90,13 +94,14 @@ fn pass_rows(
     alloc: Global,
     sight: &Sight<'_>,
     ids: &Known,
+    told: &mut Told<'_>,
     members: &[Member],
     trees: &[Tree],
 ) -> Result<Result<(), Names>, Lack>
     requires { IsKnownOf sight.now ids.now }
-    ensures printed { IfOk result (λ outcome. (out : List Token) → seen (λ _. out) outcome
+    ensures printed { IfOk result (λ outcome. (out : List Token) → seen (λ _. (out, told.new)) outcome
         ≡ beside out (print.rows_print sight.now (members_view members.now)
-        (map tree_view trees.now))) }
+        (map tree_view trees.now) told.old)) }
     ensures lacks { IfErr result (λ lack. Lacks ids.now lack) }
     ensures listed { IfErr result (λ lack. LacksOf
         (rows_listed sight.now (members_view members.now) (map tree_view trees.now)) lack) }
@@ -105,7 +110,7 @@ fn pass_rows(
         return Ok(Ok(()));
     }
     let mut aside = Writer::new(Vec::new(alloc));
-    write_rows(alloc, &mut aside, sight, ids, members, trees)
+    write_rows(alloc, &mut aside, sight, ids, told, members, trees)
 }
 
 /// Writes what the first row prints, or null where there is none. A path of two answers in those
@@ -116,13 +121,14 @@ fn write_first_row(
     out: &mut Writer,
     sight: &Sight<'_>,
     ids: &Known,
+    told: &mut Told<'_>,
     members: &[Member],
     trees: &[Tree],
 ) -> Result<Result<(), Names>, Lack>
     requires { IsKnownOf sight.now ids.now }
-    ensures printed { IfOk result (λ outcome. seen (λ _. out.new.tokens) outcome
-        ≡ written out.old.tokens (reply.as_list false
-        (print.rows_print sight.now (members_view members.now) (map tree_view trees.now)))) }
+    ensures printed { IfOk result (λ outcome. seen (λ _. (out.new.tokens, told.new)) outcome
+        ≡ written out.old.tokens (list_shape false
+        (print.rows_print sight.now (members_view members.now) (map tree_view trees.now) told.old))) }
     ensures before { out.new.before ≡ out.old.before }
     ensures lacks { IfErr result (λ lack. Lacks ids.now lack) }
     ensures listed { IfErr result (λ lack. LacksOf
@@ -132,8 +138,8 @@ fn write_first_row(
         out.null()?;
         return Ok(Ok(()));
     };
-    match write_row(alloc, out, sight, ids, members, tree)? {
-        Ok(()) => pass_rows(alloc, sight, ids, members, rest),
+    match write_row(alloc, out, sight, ids, told, members, tree)? {
+        Ok(()) => pass_rows(alloc, sight, ids, told, members, rest),
         Err(names) => Ok(Err(names)),
     }
 }
@@ -144,13 +150,14 @@ fn write_page(
     out: &mut Writer,
     sight: &Sight<'_>,
     ids: &Known,
+    told: &mut Told<'_>,
     asked: &Asked,
     trees: &[Tree],
 ) -> Result<Result<(), Names>, Lack>
     requires { IsKnownOf sight.now ids.now }
-    ensures printed { IfOk result (λ outcome. seen (λ _. out.new.tokens) outcome
-        ≡ written out.old.tokens (page_shape sight.now (asked_view asked.now)
-        (map tree_view trees.now) [])) }
+    ensures printed { IfOk result (λ outcome. seen (λ _. (out.new.tokens, told.new)) outcome
+        ≡ written out.old.tokens (list_shape (asked_view asked.now).listed
+        (rows_shape sight.now (asked_view asked.now).members (map tree_view trees.now) told.old))) }
     ensures before { out.new.before ≡ out.old.before }
     ensures lacks { IfErr result (λ lack. Lacks ids.now lack) }
     ensures listed { IfErr result (λ lack. LacksOf
@@ -158,33 +165,37 @@ fn write_page(
 {
     let members = asked.members.as_slice();
     if asked.listed {
-        return write_rows(alloc, out, sight, ids, members, trees);
+        return write_rows(alloc, out, sight, ids, told, members, trees);
     }
-    write_first_row(alloc, out, sight, ids, members, trees)
+    write_first_row(alloc, out, sight, ids, told, members, trees)
 }
 
 /// The compact text of what the root of a query prints from the trees of its page's rows: a list,
 /// an object or null; or the names of the members that lead to the first two answers where one is
-/// asked. `IdOf`: the id of an object that the page prints is not among those that are known.
+/// asked. The k-th id is spelt by the k-th of the walks; those behind them are printed as they are
+/// known. `IdOf`: the id of an object that the page prints is not among these.
 /// `Memory`: an allocation was refused.
 #[tactic(auto, using(crate::proofs::Written::page_path))]
 pub fn page_text(
     alloc: Global,
     sight: &Sight<'_>,
     ids: &Known,
+    walks: &[Walk],
     asked: &Asked,
     trees: &[Tree],
 ) -> Result<Result<Vec<u8>, Vec<JsonText>>, Lack>
     requires { IsKnownOf sight.now ids.now }
     ensures printed { IfOk result (λ outcome. seen (λ text. text.items) outcome
-        ≡ text_of (page_shape sight.now (asked_view asked.now) (map tree_view trees.now) [])) }
+        ≡ text_of (page_shape sight.now (asked_view asked.now) (map tree_view trees.now)
+        (map walk_of walks.now))) }
     ensures lacks { IfErr result (λ lack. Lacks ids.now lack) }
     ensures listed { IfErr result (λ lack. LacksOf
         (rows_listed sight.now (asked_view asked.now).members (map tree_view trees.now)) lack) }
 {
     let bytes = Vec::with_capacity(alloc, SHORT)?;
     let mut out = Writer::new(bytes);
-    match write_page(alloc, &mut out, sight, ids, asked, trees)? {
+    let mut told = Told::new(walks);
+    match write_page(alloc, &mut out, sight, ids, &mut told, asked, trees)? {
         Ok(()) => Ok(Ok(out.into_inner())),
         Err(names) => Ok(Err(names)),
     }

@@ -1,7 +1,8 @@
 //! What a clause prints of an object, written as it is found.
 ghost use Rattle.std.specs.Prelude.{◌≡◌, List, IfErr, IfOk, OnOk, map, ◌∷◌};
-ghost use Rattle.std.specs.Prelude.{option_map, true, false, unwrap_or};
+ghost use Rattle.std.specs.Prelude.{option_map, true, false};
 ghost use Rattle.json.specs.Token.{Token};
+ghost use Rattle.gd_bytes.specs.Frozen.{Walk};
 ghost use Rattle.gd_defs.specs.Asked as defs;
 ghost use Rattle.gd_defs.specs.Property.{answer_datum};
 ghost use Rattle.gd_defs.specs.Reply as reply;
@@ -10,7 +11,8 @@ ghost use Rattle.gd_match_laws.specs.Walks.{id_of, own_listed, where_id};
 ghost use Rattle.gd_match_laws.specs.Walks.{each_listed, object_listed};
 ghost use Rattle.gd_plan.specs.Asked.{asking_view, members_view, put, style_view};
 ghost use Rattle.gd_plan.specs.Seen.{own_view};
-ghost use Rattle.gd_runs.specs.Shape.{name_shape};
+ghost use Rattle.gd_runs.specs.Shape.{name_shape, own_shape};
+ghost use Rattle.gd_runs.specs.Shape.{each_shape, list_shape, object_shape};
 ghost use Rattle.gd_trees.specs.View.{view as tree_view};
 ghost use Rattle.gd_shape.specs.InTrees.{lists_view};
 ghost use Rattle.gd_shape.specs.Knowing.{IsKnownOf};
@@ -26,6 +28,7 @@ use crate::known::Known;
 use crate::lists::first_trees;
 use crate::ranked::Ranked;
 use crate::sight::{Lack, Sight};
+use crate::told::Told;
 use gd_base::memory::Memory;
 use gd_json::text::write;
 use gd_json::value::{Json, JsonText};
@@ -64,6 +67,7 @@ fn write_style(
     out: &mut Writer,
     sight: &Sight<'_>,
     ids: &Known,
+    told: &mut Told<'_>,
     property: &Property,
     style: &Style,
     row: &Ranked<'_>,
@@ -71,7 +75,10 @@ fn write_style(
     requires { IsKnownOf sight.now ids.now }
     ensures printed { OnOk result (Adds out.old.tokens out.new.tokens
         (print.style_print sight.now property.now row.now.link (lists_view row.now.lists.now)
-        (style_view style.now))) }
+        (style_view style.now) told.old).0) }
+    ensures left { OnOk result (told.new
+        ≡ (print.style_print sight.now property.now row.now.link (lists_view row.now.lists.now)
+        (style_view style.now) told.old).1) }
     ensures before { out.new.before ≡ out.old.before }
     ensures lacks { IfErr result (λ lack. Lacks ids.now lack) }
     ensures listed { IfErr result (λ lack. LacksOf
@@ -80,7 +87,7 @@ fn write_style(
     match style {
         Style::Operand(json) => write(out, json)?,
         Style::Value => write_answer_value(alloc, out, sight, property, row.link)?,
-        Style::Id => write_answer_id(alloc, out, sight, ids, property, row.link)?,
+        Style::Id => write_answer_id(alloc, out, sight, ids, told, property, row.link)?,
         Style::Name | Style::Clause => write_name(alloc, out, sight, row.lists)?,
     }
     Ok(())
@@ -121,7 +128,7 @@ fn with_name(name: &JsonText, names: Names) -> Result<Names, Memory>
 
 /// The outcome below a member, whose name begins the path of two answers.
 fn under(name: &JsonText, printed: Result<(), Names>) -> Result<Result<(), Names>, Memory>
-    ensures { IfOk result (λ outcome. (out : List Token) → seen (λ _. out) outcome
+    ensures { IfOk result (λ outcome. (out : List Token × List Walk) → seen (λ _. out) outcome
         ≡ reply.under name.now (seen (λ _. out) printed)) }
 {
     match printed {
@@ -136,14 +143,18 @@ fn write_own_or(
     out: &mut Writer,
     sight: &Sight<'_>,
     ids: &Known,
+    told: &mut Told<'_>,
     own: Own,
     operand: &Option<Json>,
     at: &Answer<'_>,
 ) -> Result<(), Lack>
     requires { IsKnownOf sight.now ids.now }
     ensures printed { OnOk result (Adds out.old.tokens out.new.tokens
-        (unwrap_or (option_map view operand.now)
-        (reply.own_json sight.now (own_view own) at.now.link at.now.object))) }
+        (own_shape sight.now (own_view own) (option_map view operand.now) at.now.link at.now.object
+        told.old).0) }
+    ensures left { OnOk result (told.new
+        ≡ (own_shape sight.now (own_view own) (option_map view operand.now) at.now.link
+        at.now.object told.old).1) }
     ensures before { out.new.before ≡ out.old.before }
     ensures lacks { IfErr result (λ lack. Lacks ids.now lack) }
     ensures listed { IfErr result (λ lack. LacksOf
@@ -152,7 +163,7 @@ fn write_own_or(
 {
     match operand {
         Some(json) => write(out, json)?,
-        None => write_own(alloc, out, sight, ids, own, at.link, at.object)?,
+        None => write_own(alloc, out, sight, ids, told, own, at.link, at.object)?,
     }
     Ok(())
 }
@@ -176,13 +187,15 @@ pub(crate) fn write_object(
     out: &mut Writer,
     sight: &Sight<'_>,
     ids: &Known,
+    told: &mut Told<'_>,
     members: &[Member],
     at: &Answer<'_>,
 ) -> Result<Result<(), Names>, Lack>
     requires { IsKnownOf sight.now ids.now }
-    ensures printed { IfOk result (λ outcome. seen (λ _. out.new.tokens) outcome
-        ≡ written out.old.tokens (print.as_object (print.object_print sight.now
-        (members_view members.now) at.now.link at.now.object (lists_view at.now.lists.now)))) }
+    ensures printed { IfOk result (λ outcome. seen (λ _. (out.new.tokens, told.new)) outcome
+        ≡ written out.old.tokens (print.as_object (object_shape sight.now
+        (members_view members.now) at.now.link at.now.object (lists_view at.now.lists.now)
+        told.old))) }
     ensures before { out.new.before ≡ out.old.before }
     ensures lacks { IfErr result (λ lack. Lacks ids.now lack) }
     ensures listed { IfErr result (λ lack. LacksOf
@@ -193,7 +206,7 @@ pub(crate) fn write_object(
     let mut lists = at.lists;
     for member in members {
         out.key(name_of(member).as_str())?;
-        match write_member(alloc, out, sight, ids, member, at, lists)? {
+        match write_member(alloc, out, sight, ids, told, member, at, lists)? {
             Ok(()) => {}
             Err(names) => return Ok(Err(names)),
         }
@@ -210,14 +223,15 @@ fn write_member(
     out: &mut Writer,
     sight: &Sight<'_>,
     ids: &Known,
+    told: &mut Told<'_>,
     member: &Member,
     at: &Answer<'_>,
     lists: &[Trees],
 ) -> Result<Result<(), Names>, Lack>
     requires { IsKnownOf sight.now ids.now }
-    ensures printed { IfOk result (λ outcome. seen (λ _. out.new.tokens) outcome
+    ensures printed { IfOk result (λ outcome. seen (λ _. (out.new.tokens, told.new)) outcome
         ≡ written out.old.tokens (print.first_print sight.now (put member.now defs.no_members)
-        at.now.link at.now.object (lists_view lists.now))) }
+        at.now.link at.now.object (lists_view lists.now) told.old)) }
     ensures before { out.new.before ≡ out.old.before }
     ensures lacks { IfErr result (λ lack. Lacks ids.now lack) }
     ensures listed { IfErr result (λ lack. LacksOf
@@ -226,7 +240,7 @@ fn write_member(
 {
     match member {
         Member::Own { own, operand, .. } => {
-            write_own_or(alloc, out, sight, ids, *own, operand, at)?;
+            write_own_or(alloc, out, sight, ids, told, *own, operand, at)?;
             Ok(Ok(()))
         }
         Member::Asks {
@@ -234,7 +248,16 @@ fn write_member(
             asking,
             clause,
         } => {
-            let outcome = write_asks(alloc, out, sight, ids, clause, asking, first_trees(lists))?;
+            let outcome = write_asks(
+                alloc,
+                out,
+                sight,
+                ids,
+                told,
+                clause,
+                asking,
+                first_trees(lists),
+            )?;
             Ok(under(name, outcome)?)
         }
     }
@@ -248,14 +271,15 @@ fn write_asks(
     out: &mut Writer,
     sight: &Sight<'_>,
     ids: &Known,
+    told: &mut Told<'_>,
     clause: &[Member],
     asking: &Asking,
     trees: &[Tree],
 ) -> Result<Result<(), Names>, Lack>
     requires { IsKnownOf sight.now ids.now }
-    ensures printed { IfOk result (λ outcome. seen (λ _. out.new.tokens) outcome
+    ensures printed { IfOk result (λ outcome. seen (λ _. (out.new.tokens, told.new)) outcome
         ≡ written out.old.tokens (print.asks_print sight.now (asking_view asking.now)
-        (members_view clause.now) (map tree_view trees.now))) }
+        (members_view clause.now) (map tree_view trees.now) told.old)) }
     ensures before { out.new.before ≡ out.old.before }
     ensures lacks { IfErr result (λ lack. Lacks ids.now lack) }
     ensures listed { IfErr result (λ lack. LacksOf
@@ -270,7 +294,16 @@ fn write_asks(
         return Ok(Err(Vec::new(alloc)));
     }
     let rows = cut(alloc, sight, asking, clause, trees)?;
-    write_answers(alloc, out, sight, ids, clause, asking, rows.as_slice())
+    write_answers(
+        alloc,
+        out,
+        sight,
+        ids,
+        told,
+        clause,
+        asking,
+        rows.as_slice(),
+    )
 }
 
 /// Writes answers as a list, or the first of them, or null where there is none.
@@ -280,15 +313,16 @@ fn write_answers(
     out: &mut Writer,
     sight: &Sight<'_>,
     ids: &Known,
+    told: &mut Told<'_>,
     clause: &[Member],
     asking: &Asking,
     rows: &[Ranked<'_>],
 ) -> Result<Result<(), Names>, Lack>
     requires { IsKnownOf sight.now ids.now }
-    ensures printed { IfOk result (λ outcome. seen (λ _. out.new.tokens) outcome
-        ≡ written out.old.tokens (reply.as_list asking.now.listed (print.each_print
+    ensures printed { IfOk result (λ outcome. seen (λ _. (out.new.tokens, told.new)) outcome
+        ≡ written out.old.tokens (list_shape asking.now.listed (each_shape
         (print.answer_print sight.now (asking_view asking.now) (members_view clause.now))
-        (map ranked_view rows.now)))) }
+        (map ranked_view rows.now) told.old))) }
     ensures before { out.new.before ≡ out.old.before }
     ensures lacks { IfErr result (λ lack. Lacks ids.now lack) }
     ensures listed { IfErr result (λ lack. LacksOf
@@ -296,9 +330,9 @@ fn write_answers(
         (map ranked_view rows.now)) lack) }
 {
     if asking.listed {
-        return write_each(alloc, out, sight, ids, clause, asking, rows);
+        return write_each(alloc, out, sight, ids, told, clause, asking, rows);
     }
-    write_first(alloc, out, sight, ids, clause, asking, rows)
+    write_first(alloc, out, sight, ids, told, clause, asking, rows)
 }
 
 /// Writes the list of answers as they print, or finds the first path of two answers.
@@ -309,15 +343,16 @@ fn write_each(
     out: &mut Writer,
     sight: &Sight<'_>,
     ids: &Known,
+    told: &mut Told<'_>,
     clause: &[Member],
     asking: &Asking,
     rows: &[Ranked<'_>],
 ) -> Result<Result<(), Names>, Lack>
     requires { IsKnownOf sight.now ids.now }
-    ensures printed { IfOk result (λ outcome. seen (λ _. out.new.tokens) outcome
-        ≡ written out.old.tokens (reply.as_list true (print.each_print
+    ensures printed { IfOk result (λ outcome. seen (λ _. (out.new.tokens, told.new)) outcome
+        ≡ written out.old.tokens (list_shape true (each_shape
         (print.answer_print sight.now (asking_view asking.now) (members_view clause.now))
-        (map ranked_view rows.now)))) }
+        (map ranked_view rows.now) told.old))) }
     ensures before { out.new.before ≡ out.old.before }
     ensures lacks { IfErr result (λ lack. Lacks ids.now lack) }
     ensures listed { IfErr result (λ lack. LacksOf
@@ -326,7 +361,7 @@ fn write_each(
 {
     out.begin_array()?;
     for row in rows {
-        match write_answer(alloc, out, sight, ids, clause, asking, row)? {
+        match write_answer(alloc, out, sight, ids, told, clause, asking, row)? {
             Ok(()) => {}
             Err(names) => return Ok(Err(names)),
         }
@@ -344,15 +379,16 @@ fn write_first(
     out: &mut Writer,
     sight: &Sight<'_>,
     ids: &Known,
+    told: &mut Told<'_>,
     clause: &[Member],
     asking: &Asking,
     rows: &[Ranked<'_>],
 ) -> Result<Result<(), Names>, Lack>
     requires { IsKnownOf sight.now ids.now }
-    ensures printed { IfOk result (λ outcome. seen (λ _. out.new.tokens) outcome
-        ≡ written out.old.tokens (reply.as_list false (print.each_print
+    ensures printed { IfOk result (λ outcome. seen (λ _. (out.new.tokens, told.new)) outcome
+        ≡ written out.old.tokens (list_shape false (each_shape
         (print.answer_print sight.now (asking_view asking.now) (members_view clause.now))
-        (map ranked_view rows.now)))) }
+        (map ranked_view rows.now) told.old))) }
     ensures before { out.new.before ≡ out.old.before }
     ensures lacks { IfErr result (λ lack. Lacks ids.now lack) }
     ensures listed { IfErr result (λ lack. LacksOf
@@ -363,8 +399,8 @@ fn write_first(
         out.null()?;
         return Ok(Ok(()));
     };
-    match write_answer(alloc, out, sight, ids, clause, asking, row)? {
-        Ok(()) => pass_each(alloc, sight, ids, clause, asking, rest),
+    match write_answer(alloc, out, sight, ids, told, clause, asking, row)? {
+        Ok(()) => pass_each(alloc, sight, ids, told, clause, asking, rest),
         Err(names) => Ok(Err(names)),
     }
 }
@@ -376,14 +412,15 @@ fn pass_each(
     alloc: Global,
     sight: &Sight<'_>,
     ids: &Known,
+    told: &mut Told<'_>,
     clause: &[Member],
     asking: &Asking,
     rows: &[Ranked<'_>],
 ) -> Result<Result<(), Names>, Lack>
     requires { IsKnownOf sight.now ids.now }
-    ensures printed { IfOk result (λ outcome. (out : List Token) → seen (λ _. out) outcome
-        ≡ beside out (print.each_print (print.answer_print sight.now (asking_view asking.now)
-        (members_view clause.now)) (map ranked_view rows.now))) }
+    ensures printed { IfOk result (λ outcome. (out : List Token) → seen (λ _. (out, told.new)) outcome
+        ≡ beside out (each_shape (print.answer_print sight.now (asking_view asking.now)
+        (members_view clause.now)) (map ranked_view rows.now) told.old)) }
     ensures lacks { IfErr result (λ lack. Lacks ids.now lack) }
     ensures listed { IfErr result (λ lack. LacksOf
         (each_listed (answer_listed sight.now (asking_view asking.now) (members_view clause.now))
@@ -393,7 +430,7 @@ fn pass_each(
         return Ok(Ok(()));
     }
     let mut aside = Writer::new(Vec::new(alloc));
-    write_each(alloc, &mut aside, sight, ids, clause, asking, rows)
+    write_each(alloc, &mut aside, sight, ids, told, clause, asking, rows)
 }
 
 /// Writes what an answer of a member prints.
@@ -403,14 +440,15 @@ fn write_answer(
     out: &mut Writer,
     sight: &Sight<'_>,
     ids: &Known,
+    told: &mut Told<'_>,
     clause: &[Member],
     asking: &Asking,
     row: &Ranked<'_>,
 ) -> Result<Result<(), Names>, Lack>
     requires { IsKnownOf sight.now ids.now }
-    ensures printed { IfOk result (λ outcome. seen (λ _. out.new.tokens) outcome
+    ensures printed { IfOk result (λ outcome. seen (λ _. (out.new.tokens, told.new)) outcome
         ≡ written out.old.tokens (print.answer_print sight.now (asking_view asking.now)
-        (members_view clause.now) (ranked_view row.now))) }
+        (members_view clause.now) (ranked_view row.now) told.old)) }
     ensures before { out.new.before ≡ out.old.before }
     ensures lacks { IfErr result (λ lack. Lacks ids.now lack) }
     ensures listed { IfErr result (λ lack. LacksOf
@@ -418,7 +456,16 @@ fn write_answer(
         (ranked_view row.now)) lack) }
 {
     if !is_clause(&asking.style) {
-        write_style(alloc, out, sight, ids, &asking.property, &asking.style, row)?;
+        write_style(
+            alloc,
+            out,
+            sight,
+            ids,
+            told,
+            &asking.property,
+            &asking.style,
+            row,
+        )?;
         return Ok(Ok(()));
     }
     let at = Answer {
@@ -426,5 +473,5 @@ fn write_answer(
         object: row.object,
         lists: row.lists,
     };
-    write_object(alloc, out, sight, ids, clause, &at)
+    write_object(alloc, out, sight, ids, told, clause, &at)
 }

@@ -1,5 +1,5 @@
 //! A page that is printed in slices.
-ghost use Rattle.std.specs.Prelude.{◌≡◌, ◌+◌, ◌-◌, ◌*◌, ◌^◌, ◌<◌, ◌≤◌, ℕ, [], List, Ok, Result, min};
+ghost use Rattle.std.specs.Prelude.{◌≡◌, ◌+◌, ◌-◌, ◌*◌, ◌^◌, ◌<◌, ◌≤◌, ℕ, List, Ok, Result, min};
 ghost use Rattle.std.specs.Prelude.{map, length, false, IfOk, IfErr, IfSome, IsNone, IsOk, IsTrue, OnOk};
 ghost use Rattle.gd_base.specs.Counts.{Rose};
 ghost use Rattle.gd_prim.specs.History.{prims_of};
@@ -8,6 +8,7 @@ ghost use Rattle.gd_tree.specs.Json as tree;
 ghost use Rattle.gd_defs.specs.Lines.{count_json};
 ghost use Rattle.gd_defs.specs.Reply.{Path};
 ghost use Rattle.gd_defs.specs.Rows.{Row};
+ghost use Rattle.gd_frozen.specs.Meaning.{walk_of};
 ghost use Rattle.gd_match_laws.specs.Walks.{rows_listed};
 ghost use Rattle.gd_order_laws.specs.Window.{In};
 ghost use Rattle.gd_plan.specs.Asked.{asked_view};
@@ -15,11 +16,11 @@ ghost use Rattle.gd_runs.specs.Shape.{page_shape};
 ghost use Rattle.gd_trees.specs.View.{view as tree_view};
 ghost use Rattle.gd_work_laws.specs.Reading.{printing_most};
 ghost use Rattle.gd_shape.specs.Knowing.{known_at, unknown_of, IsKnownOf};
-ghost use Rattle.gd_shape.specs.Listed.{AreAmong};
 ghost use Rattle.gd_shape.specs.Outcome.{seen, text_of, Lacks, LacksOf};
 ghost use Rattle.gd_shape.specs.declared.shape.Shape.{Shape};
 ghost use Rattle.gd_shape.specs.declared.shape.ShapeFault.TheVariants.{Memory as no_memory};
-ghost use Rattle.gd_shape.specs.Shaping.{asked_of, trees_in, page_of, body_print};
+ghost use Rattle.gd_shape.specs.Shaping.{asked_of, trees_in, walks_in, page_of};
+ghost use Rattle.gd_shape.specs.Shaping.{body_print, body_told, body_places, AreCounted};
 ghost use Rattle.gd_shape.specs.Shaping.{IsOf, IsSamePage, IsWanted};
 ghost use Rattle.gd_shape.specs.Shaping.{steps_due, shape_due, body_due, listed_of};
 ghost use Rattle.gd_shape.specs.Shaping.{IsBodyOf, IsDue, IsNextDue};
@@ -32,6 +33,7 @@ use crate::sight::{Lack, Sight};
 use gd_base::id::Id;
 use gd_base::memory::Memory;
 use gd_base::steps::Steps;
+use gd_frozen::frozen::Walk;
 use gd_json::text::json_text;
 use gd_json::value::{Json, JsonText};
 use gd_plan::asked::Asked;
@@ -81,19 +83,25 @@ impl From<Memory> for ShapeFault {
     }
 }
 
-/// A page that is being printed: what is asked, the trees of its rows, and the ids that were found
-/// so far.
+/// A page that is being printed: what is asked, the trees of its rows, the walks that spell the
+/// first of its ids, and the ids that were found so far.
 #[derive(Drop)]
 pub struct Shape {
     asked: Asked,
     trees: Vec<Tree>,
     /// A count is printed, and no trees.
     count: Option<u32>,
+    /// The k-th id that is printed is spelt by the k-th of these. The ids behind them are found.
+    walks: Vec<Walk>,
     ids: Known,
+    /// Places of the trees for which a step was counted.
+    printed: u32,
     /// Places of the trees for which no step was counted yet.
     places: u64,
-    /// Objects whose ids are to be found, the next one last.
+    /// Objects whose ids are printed, in the order in which they are.
     objects: Vec<Id>,
+    /// The place among these of the next one whose id is to be found.
+    next: usize,
     /// The objects were gathered.
     gathered: bool,
     /// A fault was told: nothing is printed any more.
@@ -129,17 +137,19 @@ fn lacking(lack: Lack) -> Result<Next, Memory>
     }
 }
 
-/// The next of these objects, from the last one, whose id is not known; those behind it are passed
+/// The next of these objects, from a place on, whose id is not known; those before it are passed
 /// over.
-fn unknown(objects: &mut Vec<Id>, ids: &Known) -> Option<Id>
+#[tactic(auto, using(crate::proofs::Listed::is_in))]
+fn unknown(objects: &[Id], next: &mut usize, ids: &Known) -> Option<Id>
     ensures unknown { IfSome result (λ object. IsNone (known_at ids.now object)) }
-    ensures listed { IfSome result (λ object. In object objects.old.items) }
-    ensures left { AreAmong objects.new.items objects.old.items }
+    ensures listed { IfSome result (λ object. In object objects.now) }
 {
-    while let Some(object) = objects.pop() {
+    while *next < objects.len() {
+        let object = objects[*next];
         if ids.at(object).is_none() {
             return Some(object);
         }
+        *next += 1;
     }
     None
 }
@@ -180,13 +190,24 @@ fn left_of(budget: u64, before: u64, after: u64) -> u64
     budget.saturating_sub(spent)
 }
 
-/// A shape of trees or of a count, of which nothing is looked at yet, with so many places for which
-/// a step is to be counted.
-fn begun(alloc: Global, asked: Asked, trees: Vec<Tree>, count: Option<u32>, places: u64) -> Shape
+/// A shape of trees or of a count of which so many places were counted and so many are left, with
+/// the walks of the first ids. No object was gathered yet.
+fn begun(
+    alloc: Global,
+    asked: Asked,
+    trees: Vec<Tree>,
+    count: Option<u32>,
+    walks: Vec<Walk>,
+    printed: u32,
+    places: u64,
+) -> Shape
     ensures asked { asked_of result ≡ asked_view asked }
     ensures trees { trees_in result ≡ map tree_view trees.items }
     ensures count { result.count ≡ count }
-    ensures of { (prims : List Primitive) → IsOf prims result }
+    ensures walks { walks_in result ≡ map walk_of walks.items }
+    ensures printed { result.printed ≡ printed }
+    ensures of { AreCounted (map tree_view trees.items) printed places
+        → (prims : List Primitive) → IsOf prims result }
     ensures due { (prims : List Primitive) → shape_due prims result
         ≤ places + 785 * length (rows_listed prims (asked_view asked).members
         (map tree_view trees.items)) }
@@ -196,7 +217,10 @@ fn begun(alloc: Global, asked: Asked, trees: Vec<Tree>, count: Option<u32>, plac
         asked,
         trees,
         count,
+        next: walks.len(),
+        walks,
         ids,
+        printed,
         places,
         objects: Vec::new(alloc),
         gathered: false,
@@ -207,7 +231,7 @@ fn begun(alloc: Global, asked: Asked, trees: Vec<Tree>, count: Option<u32>, plac
 impl Shape {
     /// The page of a query with this body, of which nothing is looked at yet. `Memory`: an
     /// allocation was refused.
-    #[tactic(auto, using(crate::proofs::InTrees::list_seen, crate::proofs::Due::trees_due))]
+    #[tactic(auto, using(crate::proofs::Due::due_paid))]
     pub fn start(alloc: Global, asked: Asked, body: PageBody) -> Result<Shape, Memory>
         ensures page { IfOk result (λ shape. (prims : List Primitive)
             → page_of prims shape ≡ body_print prims (asked_view asked) body) }
@@ -220,14 +244,72 @@ impl Shape {
             → IsBodyOf prims (asked_view asked) rows body
             → shape_due prims shape ≤ printing_most prims (asked_view asked) rows) }
     {
+        Shape::start_at(alloc, asked, body, 0, Vec::new(alloc))
+    }
+
+    /// The page of a query with this body, of whose trees so many places were counted, and whose
+    /// first ids are spelt by these walks: the k-th one that is printed by the k-th walk. The ids
+    /// behind them are still to be found. `Memory`: an allocation was refused.
+    #[tactic(auto, using(crate::proofs::InTrees::list_seen, crate::proofs::Due::trees_due, crate::proofs::Due::trees_counted))]
+    pub fn start_at(
+        alloc: Global,
+        asked: Asked,
+        body: PageBody,
+        printed: u32,
+        walks: Vec<Walk>,
+    ) -> Result<Shape, Memory>
+        // No more places were counted than the trees hold.
+        requires printed { printed ≤ body_places body }
+        ensures page { IfOk result (λ shape. (prims : List Primitive)
+            → page_of prims shape ≡ body_told prims (asked_view asked) body (map walk_of walks.items)) }
+        ensures of { IfOk result (λ shape. (prims : List Primitive) → IsOf prims shape) }
+        ensures due { IfOk result (λ shape. (prims : List Primitive)
+            → shape_due prims shape ≤ body_due prims (asked_view asked) body) }
+        ensures printed { IfOk result (λ shape. shape.printed ≡ printed) }
+        ensures walks { IfOk result (λ shape. walks_in shape ≡ map walk_of walks.items) }
+    {
         match body {
             PageBody::Trees(trees) => {
                 // A page of more places is refused before it is printed.
-                let places = trees.count().min(PAGE_PLACES);
-                Ok(begun(alloc, asked, trees.items, None, places))
+                let most = trees.count().min(PAGE_PLACES);
+                let places = most.saturating_sub(u64::from(printed));
+                Ok(begun(alloc, asked, trees.items, None, walks, printed, places))
             }
-            PageBody::Count(count) => Ok(begun(alloc, asked, Vec::new(alloc), Some(count), 0)),
+            PageBody::Count(count) => {
+                let no_trees = Vec::new(alloc);
+                Ok(begun(alloc, asked, no_trees, Some(count), walks, printed, 0))
+            }
         }
+    }
+
+    /// How many places of the trees were counted so far: none of a count, and never more than the
+    /// trees hold.
+    pub fn printed(&self) -> u32
+        ensures { result ≡ self.now.printed }
+    {
+        self.printed
+    }
+
+    /// The trees of the rows whose page is printed, in their order: none of a count.
+    pub fn trees(&self) -> &[Tree]
+        ensures { map tree_view result.now ≡ trees_in self.now }
+    {
+        self.trees.as_slice()
+    }
+
+    /// The count that is printed, if no trees are.
+    pub fn count(&self) -> Option<u32>
+        ensures { result ≡ self.now.count }
+    {
+        self.count
+    }
+
+    /// Walks of the first ids that the page prints, in the order in which it prints them, with which
+    /// it prints the same: those with which it was started.
+    pub fn walks(&self) -> &[Walk]
+        ensures { map walk_of result.now ≡ walks_in self.now }
+    {
+        self.walks.as_slice()
     }
 
     /// The objects whose ids are printed are gathered, if that was not done yet.
@@ -250,12 +332,21 @@ impl Shape {
     fn attempt(&self, alloc: Global, view: &View<'_>) -> Result<Next, Memory>
         requires { IsOf (prims_of view.now) self.now }
         ensures next { IfOk result (λ next. IsNext
-            (page_shape (prims_of view.now) (asked_of self.now) (trees_in self.now) []) self.now
+            (page_shape (prims_of view.now) (asked_of self.now) (trees_in self.now)
+            (walks_in self.now)) self.now
             next) }
         ensures wanted { IfOk result (λ next. IsNextDue (prims_of view.now) self.now next) }
     {
         let sight = Sight::new(view);
-        match page_text(alloc, &sight, &self.ids, &self.asked, self.trees.as_slice()) {
+        let walks = self.walks.as_slice();
+        match page_text(
+            alloc,
+            &sight,
+            &self.ids,
+            walks,
+            &self.asked,
+            self.trees.as_slice(),
+        ) {
             Ok(outcome) => Ok(Next::Printed(outcome)),
             Err(lack) => lacking(lack),
         }
@@ -265,7 +356,8 @@ impl Shape {
     fn next(&mut self, alloc: Global, view: &View<'_>) -> Result<Next, Memory>
         requires { IsOf (prims_of view.now) self.old }
         ensures next { IfOk result (λ next. IsNext
-            (page_shape (prims_of view.now) (asked_of self.old) (trees_in self.old) []) self.new
+            (page_shape (prims_of view.now) (asked_of self.old) (trees_in self.old)
+            (walks_in self.old)) self.new
             next) }
         ensures wanted { IfOk result (λ next. IsNextDue (prims_of view.now) self.new next) }
         ensures page { IsSamePage self.old self.new }
@@ -276,7 +368,7 @@ impl Shape {
             return Ok(Next::Look(Wanted::Place));
         }
         self.gather(alloc, view)?;
-        match unknown(&mut self.objects, &self.ids) {
+        match unknown(self.objects.as_slice(), &mut self.next, &self.ids) {
             Some(object) => Ok(Next::Look(Wanted::IdOf(object))),
             None => self.attempt(alloc, view),
         }
@@ -304,6 +396,7 @@ impl Shape {
         match wanted {
             Wanted::Place => {
                 self.places -= 1;
+                self.printed = self.printed.saturating_add(1);
                 steps.tick();
                 Ok(())
             }
@@ -322,9 +415,11 @@ impl Shape {
         requires budget { 0 < budget }
         requires of { IsOf (prims_of view.now) self.old }
         ensures reply { IfOk result (λ turn. Tells
-            (page_shape (prims_of view.now) (asked_of self.old) (trees_in self.old) []) turn) }
+            (page_shape (prims_of view.now) (asked_of self.old) (trees_in self.old)
+            (walks_in self.old)) turn) }
         ensures refused { IfErr result (λ fault. Refuses
-            (page_shape (prims_of view.now) (asked_of self.old) (trees_in self.old) []) fault) }
+            (page_shape (prims_of view.now) (asked_of self.old) (trees_in self.old)
+            (walks_in self.old)) fault) }
         ensures unfinished { IfOk result
             (λ turn. IsTrue (is_unfinished turn) → min (steps.old + budget) (2 ^ 64 - 1)
             ≤ steps.new) }
@@ -362,9 +457,11 @@ impl Shape {
         requires of { IsOf (prims_of view.now) self.old }
         requires going { self.old.stopped ≡ false }
         ensures reply { IfOk result (λ turn. Tells
-            (page_shape (prims_of view.now) (asked_of self.old) (trees_in self.old) []) turn) }
+            (page_shape (prims_of view.now) (asked_of self.old) (trees_in self.old)
+            (walks_in self.old)) turn) }
         ensures refused { IfErr result (λ fault. Refuses
-            (page_shape (prims_of view.now) (asked_of self.old) (trees_in self.old) []) fault) }
+            (page_shape (prims_of view.now) (asked_of self.old) (trees_in self.old)
+            (walks_in self.old)) fault) }
         ensures unfinished { IfOk result
             (λ turn. IsTrue (is_unfinished turn) → min (steps.old + budget) (2 ^ 64 - 1)
             ≤ steps.new) }

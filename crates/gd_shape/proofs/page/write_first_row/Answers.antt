@@ -14,5 +14,6 @@ returns-in_err-write_row-clause-listed c =
 pub returns-in-Ok-clause-printed : goal.returns-in-Ok-clause-printed
 returns-in-Ok-clause-printed c =
     IfOk-weaker c.pass_rows.result _ _
-    (λ outcome behind. first_row c.args.sight.now (members_view c.args.members.now) c.args.trees.now c.in-Some.rest.now c.in-Some.tree.now c.args.out.now.tokens c.write_row.new.out.tokens outcome
-    c.in-Some.ensures.cases.0 (ap (λ r. seen (λ _. c.write_row.new.out.tokens) r) (sym c.in-Ok.is) ∙ c.in_ok-write_row.ensures.printed) (behind c.write_row.new.out.tokens)) c.pass_rows.ensures.printed
+    (λ outcome behind. first_row c.args.sight.now (members_view c.args.members.now) c.args.trees.now c.in-Some.rest.now c.in-Some.tree.now c.args.out.now.tokens c.write_row.new.out.tokens
+    c.args.told.now c.write_row.new.told c.pass_rows.new.told outcome
+    c.in-Some.ensures.cases.0 (ap (λ r. seen (λ _. (c.write_row.new.out.tokens, c.write_row.new.told)) r) (sym c.in-Ok.is) ∙ c.in_ok-write_row.ensures.printed) (behind c.write_row.new.out.tokens)) c.pass_rows.ensures.printed

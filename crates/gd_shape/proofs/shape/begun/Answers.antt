@@ -7,7 +7,7 @@ use Rattle.gd_shape.proofs.Knowing.{most_due}
 use Rattle.gd_shape.proofs.shape.begun.Goals as goal
 
 pub returns-clause-of : goal.returns-clause-of
-returns-clause-of c = λ prims. record { known = c.new-ids.ensures prims; listed = λ o here. absurd (subst (λ (os : List ℕ). In o os) c.new.ensures.items here) }
+returns-clause-of c = λ counted prims. record { counted = counted; known = c.new-ids.ensures prims; listed = λ o here. absurd (subst (λ (os : List ℕ). In o os) c.new.ensures.items here) }
 
 pub returns-clause-due : goal.returns-clause-due
 returns-clause-due c = λ prims. most_due c.new-ids.result (rows_listed prims (asked_view c.args.asked).members (map tree_view c.args.trees.items)) c.args.places
