@@ -1,4 +1,4 @@
-use Rattle.std.proofs.Common.{◌≡◌, List, ℕ, reverse, sym, ◌∙◌, ap, subst}
+use Rattle.std.proofs.Common.{List, ℕ, reverse, sym, ◌∙◌, ap, subst}
 use Rattle.gd_disk.specs.Recorded.{Told, left}
 use Rattle.gd_disk.specs.Calls.{Kept, kept}
 use Rattle.gd_disk.specs.Images.{filled, filled_of, after_steps}
@@ -6,8 +6,8 @@ use Rattle.gd_disk.specs.declared.kept_file.Call.{Call}
 use Rattle.gd_disk.proofs.Images.{same_file, filled_told, filled_left}
 use Rattle.gd_disk.proofs.kept_file.KeptFile.filled.Goals as goal
 
-is_filled : (c : goal.After-redo) → c.in_ok-bytes.bytes.items ≡ filled c.args.byte c.args.self.now.first c.args.self.now.made
-is_filled c =
+pub returns-clause-value : goal.returns-clause-value
+returns-clause-value c =
     let s = c.self.inside in
     let x = c.args.byte in
     let file = same_file c.in_ok-file.file s.bytes.items c.deref.result.now s.replaced.items c.deref-2.result.now s.numbers.items c.deref-3.result.now s.stop c.in_ok-file.ensures c.deref.ensures.value c.deref-2.ensures.value c.deref-3.ensures.value in
@@ -20,12 +20,9 @@ is_filled c =
     ∙ filled_told x k (reverse s.calls.items) c.self.invariant.1 c.self.invariant.2
     ∙ ap (λ (t : Told). filled x t.first t.made) c.self.view_is
 
-pub returns-clause-value : goal.returns-clause-value
-returns-clause-value c = is_filled c
-
 pub returns-clause-left : goal.returns-clause-left
 returns-clause-left c =
     let s = c.self.inside in
     let k : Kept = kept s.bytes.items s.stop s.replaced.items s.numbers.items in
     let there = subst (λ (t : Told). left t.first t.made (filled c.args.byte t.first t.made)) c.self.view_is (filled_left c.args.byte k (reverse s.calls.items) c.self.invariant.2) in
-    subst (λ (l : List ℕ). left c.args.self.now.first c.args.self.now.made l) (sym (is_filled c)) there
+    subst (λ (l : List ℕ). left c.args.self.now.first c.args.self.now.made l) (sym (returns-clause-value c)) there
