@@ -1,8 +1,8 @@
 -- What is chosen of the images of a disk in memory is one that a stop may leave.
-use Rattle.std.proofs.Common.{◌≡◌, inl, inr, ℕ, ◌+◌, ◌-◌, ◌≤◌, List, [], ◌∷◌, ◌++◌, length, take, drop, refl, sym, ◌∙◌, ap, subst, arith, length-append, length-take, length-drop, length-take-le}
+use Rattle.std.proofs.Common.{◌≡◌, inr, ℕ, ◌+◌, ◌-◌, ◌≤◌, List, [], ◌∷◌, ◌++◌, length, take, drop, refl, sym, ◌∙◌, ap, subst, arith, length-append, length-take, length-drop}
 use Rattle.std.specs.Prelude.{min, replicate, reverse, Option, Some}
 use Rattle.std.proofs.lemmas.List.{length-replicate, reverse-append}
-use Rattle.gd_bytes.specs.Disk.{written, Torn, Cut}
+use Rattle.gd_bytes.specs.Disk.{written, Torn}
 use Rattle.gd_disk.specs.Recorded.{Made, wrote, cut_to, synced, held, left}
 use Rattle.gd_disk.specs.Calls.{Kept, kept, newest, undone, made_of, first_of}
 use Rattle.gd_disk.specs.Images.{dropped, filled, after_made, after_step, after_steps, dropped_of, filled_of, WentBack, IsInside, WasHeld}

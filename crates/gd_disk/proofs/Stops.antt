@@ -1,5 +1,5 @@
 -- Calls that fail: those from a number on.
-use Rattle.std.proofs.Common.{◌≡◌, ◌↔◌, inl, inr, ℕ, ◌+◌, ◌-◌, ◌^◌, ◌<◌, ◌≤◌, List, ◌++◌, length, sym, ◌∙◌, arith, Contains, Some, Bool, false}
+use Rattle.std.proofs.Common.{◌≡◌, ◌↔◌, inl, inr, ℕ, ◌+◌, ◌-◌, ◌^◌, ◌<◌, ◌≤◌, List, ◌++◌, sym, ◌∙◌, arith, Contains, Some, Bool, false}
 use Rattle.std.specs.List.{range_with_len}
 use Rattle.std.proofs.Math.Dec.{leb}
 use Rattle.std.specs.Bool.{Decides}
@@ -19,14 +19,14 @@ pub from_on_has : (after n : ℕ) → n < 2 ^ 64 → (Contains (from_on (Some af
 from_on_has after n less = (λ has. range_from after (2 ^ 64 - after) n has, λ le. in_range after (2 ^ 64 - after) n le (omega (arith, le, less)))
 
 pub from_on_decides : (after n : ℕ) → n < 2 ^ 64 → Decides (leb after n) (Contains (from_on (Some after)) n)
-from_on_decides after n less = (λ yes. (from_on_has after n less).1 (leb-true after n yes), λ has. le-leb after n ((from_on_has after n less).0 has))
+from_on_decides after n less = (λ is. (from_on_has after n less).1 (leb-true after n is), λ has. le-leb after n ((from_on_has after n less).0 has))
 
 -- what is not in the one list is in both where it is in the other
-pub in_other : (front behind : List ℕ) (n : ℕ) (before yes : Bool) → before ≡ false → Decides before (Contains front n) → Decides yes (Contains behind n) → Decides yes (Contains (front ++ behind) n)
-in_other front behind n before yes no first second = (
+pub in_other : (front behind : List ℕ) (n : ℕ) (b d : Bool) → b ≡ false → Decides b (Contains front n) → Decides d (Contains behind n) → Decides d (Contains (front ++ behind) n)
+in_other front behind n b d apart first second = (
   λ is. Contains-append_right front behind n (second.0 is),
   λ has. elim (Contains-append_cases front behind n has) [
-    | inl there ↦ absurd (false≢true (sym no ∙ first.1 there))
+    | inl there ↦ absurd (false≢true (sym apart ∙ first.1 there))
     | inr there ↦ second.1 there
   ],
 )

@@ -1,4 +1,4 @@
-use Rattle.std.proofs.Common.{◌≡◌, ◌++◌, List, [], ℕ, sym, ◌∙◌, ap, subst, Contains, Some, ◌↔◌, ◌≤◌}
+use Rattle.std.proofs.Common.{◌≡◌, ◌++◌, List, ℕ, sym, ◌∙◌, ap, subst, Contains, Some, ◌↔◌, ◌≤◌}
 use Rattle.std.proofs.lemmas.List.{append-nil}
 use Rattle.gd_disk.specs.Recorded.{from_on}
 use Rattle.gd_disk.proofs.Stops.{from_on_has}

@@ -1,4 +1,4 @@
-use Rattle.std.proofs.Common.{ℕ, List, Contains, ◌++◌, subst}
+use Rattle.std.proofs.Common.{ℕ, List, Contains, subst}
 use Rattle.std.specs.Bool.{Decides}
 use Rattle.gd_disk.specs.Recorded.{from_on}
 use Rattle.gd_disk.proofs.Stops.{in_other}
