@@ -57,8 +57,13 @@ impl Lines {
 
 /// How many bytes two texts begin with in common.
 fn in_common(left: &[u8], right: &[u8]) -> usize {
-    let both = left.iter().zip(right.iter());
-    both.take_while(|pair| *pair.0 == *pair.1).count()
+    let most = left.len().min(right.len());
+    for at in 0..most {
+        if left[at] != right[at] {
+            return at;
+        }
+    }
+    most
 }
 
 /// What came of a file: the status, and where it was opened how many of its bytes stayed, and what
