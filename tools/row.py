@@ -16,7 +16,7 @@ import os
 import re
 import sys
 
-from store_file import opened
+from store_file import Damaged, NotStore, opened
 
 TOP = os.path.dirname(os.path.dirname(os.path.abspath(__file__)))
 TEXTS = os.path.join(TOP, "rows")
@@ -104,10 +104,38 @@ def in_rounds(lines, mark=""):
     return out
 
 
+def merged(lines):
+    """Lines of a table, counted from 0: those that say the same, one behind the other, are one line."""
+    out, first = [], 0
+    for number, line in enumerate(lines):
+        if number + 1 == len(lines) or lines[number + 1] != line:
+            out.append("at %d-%d %s" % (first, number, line))
+            first = number + 1
+    return out
+
+
+def in_common(left, right):
+    """How many bytes two texts begin with in common."""
+    return next((at for at, pair in enumerate(zip(left, right)) if pair[0] != pair[1]), min(len(left), len(right)))
+
+
+def opening(file):
+    """What opening makes of a file, by the page of the format: the status, and where it is opened how many of its bytes
+    stay, and what stands behind them."""
+    try:
+        left = opened(file)
+    except NotStore:
+        return "6"
+    except Damaged as why:
+        return "7 %d" % why.offset
+    stays = in_common(file, left)
+    return ("0 keeps %d %s" % (stays, left[stays:].hex())).rstrip(" ")
+
+
 class Case:
     """A run of the program, or one for each number of its line `each`: what it is given, and what it is to come to."""
 
-    GIVEN = ("words", "word", "clock", "gives", "takes", "last", "fails")
+    GIVEN = ("words", "word", "clock", "gives", "takes", "last", "fails", "table")
 
     def __init__(self, name):
         self.name = name
@@ -118,9 +146,13 @@ class Case:
         self.faults = {}
         self.output = []
         self.left = None
+        self.table = None
+        self.rows = []
 
     def take(self, mark, rest):
         """Takes a line of its text, and says whether it is of the form."""
+        if mark == "table":
+            self.table = rest.split()
         if mark[0] == ">" or mark in self.GIVEN:
             self.given.append("> " + rest if mark == ">" else (mark + " " + rest).rstrip(" "))
         elif mark == "file":
@@ -131,6 +163,8 @@ class Case:
             self.output.append(b"< " + bytes_of(mark, rest))
         elif mark == "<cut":
             self.output.append(b"<cut")
+        elif mark == "at":
+            self.rows.append(rest.split())
         elif mark == "status":
             self.status = rest
         elif mark == "faults":
@@ -167,7 +201,62 @@ class Case:
             words = "words serve" + (" --workers " + name.rsplit("/", 1)[1] if on_threads else "")
             lines = ["row " + name] + ([] if named else [words])
             lines += (["file " + file.hex()] if file else []) + ([failing] if failing else []) + given
-            yield ("\n".join(lines) + "\n").encode(), self.wanted(name, file)
+            wanted = self.wanted(name, file) if self.table is None else self.tabled(name, given)
+            yield ("\n".join(lines) + "\n").encode(), wanted
+
+    def tabled(self, name, given):
+        """What the program is to print of a table."""
+        what, *bytes_set = self.table
+        out = ["row " + name]
+        if what in ("stops", "fails"):
+            for numbers, *words in self.rows:
+                first, last = (numbers.split("-") * 2)[:2]
+                out += ["at %d %s" % (number, " ".join(words)) for number in range(int(first), int(last) + 1)]
+        elif what == "cuts":
+            out += merged([opening(self.file[:count]) for count in range(len(self.file) + 1)])
+        elif what == "bytes":
+            for byte in bytes_set:
+                files = [self.file[:at] + bytes.fromhex(byte) + self.file[at + 1:] for at in range(len(self.file))]
+                out += ["byte " + byte] + merged([opening(file) for file in files])
+        else:
+            return self.wanted(name, self.file) + ("\n".join(merged(self.streamed(what, given))) + "\n").encode()
+        return ("\n".join(out) + "\n").encode()
+
+    def number_given(self, mark):
+        """The number that stands behind a mark, if it stands there."""
+        return next((int(line.split()[1]) for line in self.given if line.split()[0] == mark), None)
+
+    def streamed(self, what, given):
+        """What comes of a run of which one call of the source or of the sink fails, for each call. The source gives so many
+        bytes a call, and then the end; a round is answered once its blank line was given. The sink takes each reply and each
+        newline in pieces of so many bytes, and is flushed at the end of each round."""
+        lines = [line[2:].encode() + b"\n" for line in given if line[:2] == "> "]
+        replies = [line[2:] for line in self.output]
+        rounds, asked, answered = [], b"", []
+        for line in lines:
+            asked += line
+            if line != b"\n":
+                answered.append(replies[sum(len(before[1]) for before in rounds) + len(answered)])
+            else:
+                rounds.append((asked, answered))
+                asked, answered = b"", []
+        if what == "source":
+            size = len(b"".join(lines))
+            step = self.number_given("gives") or size
+            ends, texts = 0, [(0, 0)]
+            for text, out in rounds:
+                ends += len(text)
+                texts.append((ends, texts[-1][1] + sum(len(reply) + 1 for reply in out)))
+            given_at = [min(call * step, size) for call in range(-(-size // step) + 1)]
+            return ["3 gives %d" % max(out for end, out in texts if end <= at) for at in given_at]
+        step, calls, sent = self.number_given("takes"), [], 0
+        for _, out in rounds + [(asked, answered)]:
+            for piece in (piece for reply in out for piece in (reply, b"\n")):
+                width = step or len(piece)
+                calls += [sent + at for at in range(0, len(piece), width)]
+                sent += len(piece)
+            calls.append(sent)
+        return ["4 gives %d" % sent for sent in calls]
 
     def wanted(self, name, file):
         """What the program is to print of the run of this name, over this file."""

@@ -541,7 +541,7 @@ def compared(case, data):
 def runs_of(case):
     """The files of a case that is compared: of one without failing calls, whose words name the file."""
     words = [word for line in case.given if line.startswith("word") for word in line.split()[1:]]
-    if any(line.startswith("fails") for line in case.given) or not {"a/store", "--file=a/store"} & set(words):
+    if any(line.startswith(("fails", "table")) for line in case.given) or not {"a/store", "--file=a/store"} & set(words):
         return []
     return [(name, data) for name, data, failing in case.variants() if failing is None and case.status.split()[0] in ("0", "6", "7")]
 

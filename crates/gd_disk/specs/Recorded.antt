@@ -1,5 +1,6 @@
 -- A disk in memory: what its list of calls makes of its file, and what a stop may leave.
-use Rattle.std.specs.Prelude.{◌≡◌, ◌⊎◌, ◌↔◌, ℕ, ◌+◌, ◌-◌, ◌^◌, ◌≤◌, min, List, [], ◌∷◌, length, take, drop, Contains, Option, Some, Result, IsErr, OnErr, is_ok, if◌then◌else◌}
+use Rattle.std.specs.List.{range_with_len}
+use Rattle.std.specs.Prelude.{◌≡◌, ◌⊎◌, ◌↔◌, ℕ, ◌+◌, ◌-◌, ◌^◌, ◌≤◌, min, List, [], ◌∷◌, length, take, drop, Contains, Option, Some, None, Result, IsErr, OnErr, is_ok, if◌then◌else◌}
 use Rattle.gd_bytes.specs.Disk.{written, Torn, Cut}
 
 -- a call that did not fail: bytes at an offset, a cut to a length, a sync
@@ -25,6 +26,11 @@ left first (synced ∷ made) c = c ≡ held first made
 -- what a stop might have left when t of the calls were made, or more
 abbrev pub left_since : List ℕ → List Made → ℕ → List ℕ → Type 0
 left_since first made t c = (later : ℕ) × (t + later ≤ length made) × left first (drop later made) c
+
+-- the numbers of all calls from one on, as they are counted; none where there is no such number
+abbrev pub from_on : Option ℕ → List ℕ
+from_on None = []
+from_on (Some after) = range_with_len after (2 ^ 64 - after)
 
 -- What contracts see of a file in memory that tells its calls: what it held at first, the writes, cuts and syncs, the newest first, and the room for more.
 pub record Told : Type 0 where

@@ -2,9 +2,11 @@
 ghost use Rattle.std.specs.Prelude.{◌≡◌, ◌+◌, ◌-◌, ◌*◌, ◌<◌, ◌≤◌, ◌∷◌, ◌++◌, [], length, vec_len};
 ghost use Rattle.std.specs.Prelude.{vec_capacity, IfOk, OnOk};
 ghost use Rattle.gd_bytes.specs.Disk.{written};
-ghost use Rattle.gd_disk.specs.Recorded.{wrote, cut_to, synced, held};
+ghost use Rattle.gd_disk.specs.Recorded.{wrote, cut_to, synced, held, left};
 ghost use Rattle.gd_disk.specs.Calls.{numbers_of, IsWrite};
+ghost use Rattle.gd_disk.specs.Images.{dropped, filled};
 
+use crate::undoing::{Undoing, copied, redo};
 use gd_base::memory::Memory;
 use std::alloc::Global;
 use std::marker::Model;
@@ -13,7 +15,7 @@ use std::marker::Model;
 /// cut, or a sync.
 #[derive(Clone, Copy)]
 #[repr(u8)]
-enum Call {
+pub(crate) enum Call {
     Append,
     Within,
     Past,
@@ -43,6 +45,7 @@ impl Model for KeptFile {
     ghost use Rattle.std.specs.Prelude.{vec_capacity};
     ghost use Rattle.gd_disk.specs.Recorded.{Told, held};
     ghost use Rattle.gd_disk.specs.Calls.{kept, made_of, first_of};
+    ghost use Rattle.gd_disk.specs.Images.{WasHeld};
 
     ghost Value = { Told };
 
@@ -62,7 +65,9 @@ impl Model for KeptFile {
         (first_of (kept f.bytes.items f.stop f.replaced.items f.numbers.items)
         (reverse f.calls.items))
         (made_of (kept f.bytes.items f.stop f.replaced.items f.numbers.items)
-        (reverse f.calls.items))) };
+        (reverse f.calls.items)))
+        × WasHeld (kept f.bytes.items f.stop f.replaced.items f.numbers.items)
+        (reverse f.calls.items) };
 }
 
 impl KeptFile {
@@ -85,6 +90,28 @@ impl KeptFile {
         ensures { result.now ≡ held self.now.first self.now.made }
     {
         &self.bytes[..self.stop]
+    }
+
+    /// The content at the last sync.
+    pub(crate) fn dropped(&self, alloc: Global) -> Result<Vec<u8>, Memory>
+        ensures value { IfOk result (λ bytes. bytes.items ≡ dropped self.now.first self.now.made) }
+        ensures left { IfOk result (λ bytes. left self.now.first self.now.made bytes.items) }
+    {
+        let mut file = Undoing::new(alloc, &self.bytes, self.stop, &self.replaced, &self.numbers)?;
+        file.undo_unsynced(copied(alloc, &self.calls)?)?;
+        Ok(file.into_bytes())
+    }
+
+    /// The file as it is, but each byte that was written since the last sync is `byte`.
+    pub(crate) fn filled(&self, alloc: Global, byte: u8) -> Result<Vec<u8>, Memory>
+        ensures value { IfOk result (λ bytes. bytes.items
+            ≡ filled byte self.now.first self.now.made) }
+        ensures left { IfOk result (λ bytes. left self.now.first self.now.made bytes.items) }
+    {
+        let mut file = Undoing::new(alloc, &self.bytes, self.stop, &self.replaced, &self.numbers)?;
+        let steps = file.undo_unsynced(copied(alloc, &self.calls)?)?;
+        let bytes = redo(alloc, file.into_bytes(), steps, byte)?;
+        Ok(bytes)
     }
 
     /// Writes over what stands from an offset on, and past the end.

@@ -3,6 +3,7 @@
 #![tactic(auto)]
 
 pub mod disk;
+mod failing;
 pub mod file_disk;
 pub mod file_shelf;
 mod kept_file;
@@ -10,6 +11,7 @@ pub mod memory_disk;
 pub mod memory_shelf;
 pub mod shelf;
 pub mod steady_disk;
+mod undoing;
 
 /// The disk or the shelf failed.
 #[derive(Clone, Copy, Debug, PartialEq, Eq)]

@@ -8,21 +8,34 @@ ghost use Rattle.gd_bytes.specs.Disk.{part, written, Written, Shortened, Torn, C
 ghost use Rattle.gd_bytes.specs.Disk.{Only, Stays, Elapses};
 ghost use Rattle.gd_disk.specs.Recorded.{wrote, cut_to, synced, held, content_of, images_of};
 ghost use Rattle.gd_disk.specs.Recorded.{images_since_of, IsNumbered};
+ghost use Rattle.gd_disk.specs.Images.{image_of};
+ghost use Rattle.gd_disk.specs.declared.memory_disk.Fill.TheVariants as which;
 ghost use Rattle.gd_disk.specs.Laws.{reads_one_law, counts_now_law, only_now_law};
 
 use crate::Failed;
 use crate::disk::Disk;
+use crate::failing::Failing;
 use crate::kept_file::KeptFile;
 use gd_base::memory::Memory;
 use std::alloc::Global;
 use std::marker::Model;
+
+/// Which image of a file: as a read gives it, without what was written since the last sync, or with
+/// each byte that was written since then set to 1 or to 2.
+#[derive(Clone, Copy)]
+pub enum Fill {
+    Kept,
+    Dropped,
+    Ones,
+    Twos,
+}
 
 /// A file in memory. It can tell its writes, cuts and syncs, so that contracts can say what a stop
 /// may leave, and counts its calls from 0, `reserve` aside: those whose numbers it was given fail.
 #[derive(Drop)]
 pub struct MemoryDisk {
     file: KeptFile,
-    failing: Vec<u64>,
+    failing: Failing,
     number: u64,
     faults: u64,
 }
@@ -35,7 +48,7 @@ impl Model for MemoryDisk {
     ghost view = { λ d. record {
       first = d.file.first;
       made = d.file.made;
-      failing = d.failing.items;
+      failing = d.failing;
       calls = d.number;
       faults = d.faults;
       calls_left = d.file.calls_left;
@@ -54,10 +67,44 @@ impl MemoryDisk {
     {
         Ok(MemoryDisk {
             file: KeptFile::new(alloc, content)?,
-            failing: failing.to_vec(alloc)?,
+            failing: Failing::these(alloc, failing)?,
             number: 0,
             faults: 0,
         })
+    }
+
+    /// A file with this content, which a stop leaves. The first `after` calls work, and each later
+    /// one fails.
+    pub fn stopping(alloc: Global, content: &[u8], after: u64) -> Result<MemoryDisk, Memory>
+        ensures content { IfOk result (λ disk. disk.first ≡ content.now) }
+        ensures made { IfOk result (λ disk. disk.made ≡ []) }
+        ensures failing { IfOk result (λ disk. (n : ℕ) → n < 2 ^ 64
+            → (Contains disk.failing n ↔ after ≤ n)) }
+        ensures calls { IfOk result (λ disk. disk.calls ≡ 0) }
+        ensures faults { IfOk result (λ disk. disk.faults ≡ 0) }
+    {
+        Ok(MemoryDisk {
+            file: KeptFile::new(alloc, content)?,
+            failing: Failing::from_on(alloc, after),
+            number: 0,
+            faults: 0,
+        })
+    }
+
+    /// One of the images that a stop now may leave. `Memory`: there is no room for it.
+    pub fn image(&self, alloc: Global, fill: Fill) -> Result<Vec<u8>, Memory>
+        ensures value { IfOk result (λ bytes. bytes.items
+            ≡ image_of fill self.now.first self.now.made) }
+        ensures left { IfOk result (λ bytes. images_of self.now bytes.items) }
+        ensures kept { fill ≡ which.Kept
+            → IfOk result (λ bytes. content_of self.now ≡ Some bytes.items) }
+    {
+        match fill {
+            Fill::Kept => Ok(self.bytes().to_vec(alloc)?),
+            Fill::Dropped => self.file.dropped(alloc),
+            Fill::Ones => self.file.filled(alloc, 1),
+            Fill::Twos => self.file.filled(alloc, 2),
+        }
     }
 
     /// How many calls failed.
@@ -83,14 +130,14 @@ impl MemoryDisk {
 }
 
 /// Counts a call, and fails where its number is one of those that are to fail.
-pub(crate) fn meet(failing: &[u64], number: &mut u64, faults: &mut u64) -> Result<(), Failed>
+pub(crate) fn meet(failing: &Failing, number: &mut u64, faults: &mut u64) -> Result<(), Failed>
     ensures number { number.new ≡ min (number.old + 1) (2 ^ 64 - 1) }
     ensures fails { IsErr result ↔ Contains failing.now number.old }
     ensures faults { faults.new ≡ (if is_ok result then faults.old else min (faults.old + 1)
         (2 ^ 64 - 1)) }
     ensures cause { HasCause faults.old faults.new result }
 {
-    let fails = failing.contains(number);
+    let fails = failing.has(*number);
     *number = number.saturating_add(1);
     if fails {
         *faults = faults.saturating_add(1);

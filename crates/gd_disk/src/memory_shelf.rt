@@ -11,6 +11,7 @@ ghost use Rattle.gd_disk.specs.Laws.{slot_reads_law};
 ghost use Rattle.gd_disk.specs.Shelved.{slot_at, content_in, images_in, is_out_in, IsTried};
 
 use crate::Failed;
+use crate::failing::Failing;
 use crate::memory_disk::{MemoryDisk, meet};
 use crate::shelf::{Shelf, ShelfFault};
 use gd_base::memory::Memory;
@@ -30,7 +31,7 @@ struct Slot {
 #[derive(Drop)]
 pub struct MemoryShelf {
     slots: Vec<Slot>,
-    failing: Vec<u64>,
+    failing: Failing,
     number: u64,
     faults: u64,
     alloc: Global,
@@ -43,7 +44,7 @@ impl Model for MemoryShelf {
 
     ghost view = { λ s. record {
       slots = s.slots.items;
-      failing = s.failing.items;
+      failing = s.failing;
       opened = s.number;
       faults = s.faults;
     } };
@@ -73,7 +74,7 @@ impl MemoryShelf {
         })?;
         Ok(MemoryShelf {
             slots,
-            failing: failing.to_vec(alloc)?,
+            failing: Failing::these(alloc, failing)?,
             number: 0,
             faults: 0,
             alloc,

@@ -14,6 +14,25 @@ pub(crate) struct Failing {
     pub(crate) shelf: Vec<u64>,
 }
 
+/// How often a case is run: once, or once for each number of a table.
+#[derive(Drop)]
+pub(crate) enum Table {
+    /// Once.
+    Once,
+    /// On disks of which the first calls work and no later one, until a run meets none that fails.
+    Stops,
+    /// On disks of which one call fails, until a run meets none.
+    Fails,
+    /// Over the first bytes of the file, for each number of them.
+    Cuts,
+    /// Over the file with one byte set to each of these, for each place.
+    Bytes(Vec<u8>),
+    /// With a source of which one call fails, until a run meets none.
+    Source,
+    /// With a sink of which one call fails, until a run meets none.
+    Sink,
+}
+
 /// What a run is given.
 #[derive(Drop)]
 pub(crate) struct Setting {
@@ -24,6 +43,7 @@ pub(crate) struct Setting {
     pub(crate) gives: u64,
     pub(crate) takes: u64,
     pub(crate) last: u64,
+    pub(crate) table: Table,
     pub(crate) failing: Failing,
 }
 
@@ -48,6 +68,23 @@ fn push_numbers(numbers: &mut Vec<u64>, text: &str) -> Result<(), Trouble> {
         numbers.push(number(word)?)?;
     }
     Ok(())
+}
+
+impl Table {
+    /// What stands behind `table`.
+    fn of(alloc: Global, text: &str) -> Result<Table, Trouble> {
+        match text {
+            "stops" => Ok(Table::Stops),
+            "fails" => Ok(Table::Fails),
+            "cuts" => Ok(Table::Cuts),
+            "source" => Ok(Table::Source),
+            "sink" => Ok(Table::Sink),
+            _ => match text.strip_prefix("bytes ") {
+                Some(digits) => Ok(Table::Bytes(hex(alloc, digits)?)),
+                None => Err(Trouble::BadLine),
+            },
+        }
+    }
 }
 
 impl Failing {
@@ -87,6 +124,7 @@ impl Setting {
             "takes" => self.takes = number(rest)?,
             "last" => self.last = number(rest)?,
             "fails" => self.failing.take(rest)?,
+            "table" => self.table = Table::of(alloc, rest)?,
             _ => return Err(Trouble::BadLine),
         }
         Ok(())
@@ -104,6 +142,7 @@ impl Case {
             gives: u64::MAX,
             takes: u64::MAX,
             last: u64::MAX,
+            table: Table::Once,
             failing: Failing::new(alloc),
         };
         Ok(Case {

@@ -7,12 +7,16 @@ mod hex;
 mod input;
 mod report;
 mod served;
+mod stopped;
 mod streams;
+mod tables;
 mod trouble;
 
-use crate::case::Case;
+use crate::case::{Case, Table};
 use crate::report::report;
-use crate::served::serve;
+use crate::served::{Lent, serve};
+use crate::stopped::{Broken, stopped};
+use crate::tables::{bytes_set, cut_short, streamed};
 use crate::trouble::Trouble;
 use std::alloc::Global;
 use std::io::{self, BufRead, BufReader, BufWriter, Write};
@@ -41,6 +45,28 @@ fn cases<R: BufRead + Drop>(alloc: Global, text: R) -> Result<Vec<Case>, Trouble
     Ok(cases)
 }
 
+/// Runs a case, once or for each number of its table.
+fn run_case<R: Threads + Wait + Sync, W: Write>(
+    rt: &R,
+    alloc: Global,
+    case: &Case,
+    out: &mut W,
+) -> Result<(), Trouble> {
+    match &case.setting.table {
+        Table::Once => {
+            let lent = Lent::over(alloc, case, &case.setting.file)?;
+            let served = serve(rt, alloc, case, lent)?;
+            Ok(report(case, &served, out)?)
+        }
+        Table::Stops => stopped(rt, alloc, case, Broken::After, out),
+        Table::Fails => stopped(rt, alloc, case, Broken::At, out),
+        Table::Cuts => cut_short(rt, alloc, case, out),
+        Table::Bytes(bytes) => bytes_set(rt, alloc, case, bytes, out),
+        Table::Source => streamed(rt, alloc, case, true, out),
+        Table::Sink => streamed(rt, alloc, case, false, out),
+    }
+}
+
 /// Runs cases, one after another.
 fn run<R: Threads + Wait + Sync, W: Write>(
     rt: &R,
@@ -49,8 +75,7 @@ fn run<R: Threads + Wait + Sync, W: Write>(
     out: &mut W,
 ) -> Result<(), Trouble> {
     for case in cases {
-        let served = serve(rt, alloc, case)?;
-        report(case, &served, out)?;
+        run_case(rt, alloc, case, out)?;
     }
     out.flush()?;
     Ok(())

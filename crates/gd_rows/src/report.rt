@@ -40,24 +40,30 @@ fn lines<W: Write>(output: &[u8], most: u64, out: &mut W) -> io::Result<()> {
     Ok(())
 }
 
-/// Prints what the file holds afterwards.
-fn left<W: Write>(bytes: &[u8], out: &mut W) -> io::Result<()> {
-    write!(out, "left ")?;
+/// Prints bytes as hexadecimal digits.
+pub(crate) fn digits<W: Write>(bytes: &[u8], out: &mut W) -> io::Result<()> {
     for byte in bytes {
         write!(out, "{byte:02x}")?;
     }
+    Ok(())
+}
+
+/// Prints what the file holds afterwards.
+fn left<W: Write>(bytes: &[u8], out: &mut W) -> io::Result<()> {
+    write!(out, "left ")?;
+    digits(bytes, out)?;
     writeln!(out)
 }
 
-/// Prints a status, and the numbers that it tells.
-fn status<W: Write>(status: Status, out: &mut W) -> io::Result<()> {
+/// Prints the number of a status, and those that it tells.
+pub(crate) fn status<W: Write>(status: Status, out: &mut W) -> io::Result<()> {
     let code = status.code();
     match status {
-        Status::Damaged { offset } => writeln!(out, "status {code} {offset}"),
-        Status::BadDump { offset } => writeln!(out, "status {code} {offset}"),
-        Status::DumpFrom { asked, have } => writeln!(out, "status {code} {asked} {have}"),
-        Status::Unfit { batch } => writeln!(out, "status {code} {batch}"),
-        _ => writeln!(out, "status {code}"),
+        Status::Damaged { offset } => write!(out, "{code} {offset}"),
+        Status::BadDump { offset } => write!(out, "{code} {offset}"),
+        Status::DumpFrom { asked, have } => write!(out, "{code} {asked} {have}"),
+        Status::Unfit { batch } => write!(out, "{code} {batch}"),
+        _ => write!(out, "{code}"),
     }
 }
 
@@ -66,11 +72,13 @@ fn status<W: Write>(status: Status, out: &mut W) -> io::Result<()> {
 pub(crate) fn report<W: Write>(case: &Case, served: &Served, out: &mut W) -> io::Result<()> {
     let name = case.setting.name.as_str();
     writeln!(out, "row {name}")?;
+    write!(out, "status ")?;
     status(served.status, out)?;
+    writeln!(out)?;
     counts(served.faults, out)?;
     lines(&served.output, case.setting.last, out)?;
-    if served.left == case.setting.file {
+    if served.disk.bytes() == case.setting.file.as_slice() {
         return Ok(());
     }
-    left(&served.left, out)
+    left(served.disk.bytes(), out)
 }

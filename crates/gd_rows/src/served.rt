@@ -31,7 +31,27 @@ pub(crate) struct Served {
     pub(crate) status: Status,
     pub(crate) faults: Faults,
     pub(crate) output: Vec<u8>,
-    pub(crate) left: Vec<u8>,
+    pub(crate) disk: MemoryDisk,
+}
+
+/// What a run is lent.
+#[derive(Drop)]
+pub(crate) struct Lent {
+    pub(crate) source: Giving,
+    pub(crate) sink: Taking,
+    pub(crate) disk: MemoryDisk,
+}
+
+impl Lent {
+    /// What a case says, and a disk with this file.
+    pub(crate) fn over(alloc: Global, case: &Case, file: &[u8]) -> Result<Lent, Trouble> {
+        let failing = &case.setting.failing;
+        Ok(Lent {
+            source: Giving::new(alloc, case, &failing.source)?,
+            sink: Taking::new(alloc, &case.setting, &failing.sink)?,
+            disk: MemoryDisk::new(alloc, file, &failing.disk)?,
+        })
+    }
 }
 
 impl From<ShelfFault> for Trouble {
@@ -43,34 +63,41 @@ impl From<ShelfFault> for Trouble {
 /// The path of the file that the shelf holds.
 const PATH: &str = "a/store";
 
-/// A shelf with the file of a case.
-fn shelf_of(alloc: Global, path: &Text, setting: &Setting) -> Result<MemoryShelf, Trouble>
+/// A shelf with a disk.
+fn shelf_of(
+    alloc: Global,
+    path: &Text,
+    disk: MemoryDisk,
+    setting: &Setting,
+) -> Result<MemoryShelf, Trouble>
     ensures { IfOk result (λ shelf. (path : List ℕ) → is_out_in (slot_at shelf.slots path)
         ≡ false) }
 {
-    let disk = MemoryDisk::new(alloc, &setting.file, &setting.failing.disk)?;
     Ok(MemoryShelf::new(alloc, path, disk, &setting.failing.shelf)?)
 }
 
-/// The bytes of the file at a path.
-fn bytes_at(alloc: Global, shelf: &mut MemoryShelf, path: &Text) -> Result<Vec<u8>, Trouble>
+/// The disk at a path.
+fn disk_at(shelf: &mut MemoryShelf, path: &Text) -> Result<MemoryDisk, Trouble>
     requires { (path : List ℕ) → is_out_in (slot_at shelf.old.slots path) ≡ false }
 {
-    let device = shelf.open_at(path)?;
-    Ok(device.bytes().to_vec(alloc)?)
+    Ok(shelf.open_at(path)?)
 }
 
-/// Runs a case.
+/// Runs a case with what it is lent.
 pub(crate) fn serve<R: Threads + Wait + Sync>(
     rt: &R,
     alloc: Global,
     case: &Case,
+    lent: Lent,
 ) -> Result<Served, Trouble> {
     let setting = &case.setting;
+    let Lent {
+        mut source,
+        mut sink,
+        disk,
+    } = lent;
     let path = Text::of(alloc, PATH)?;
-    let mut source = Giving::new(alloc, case)?;
-    let mut sink = Taking::new(alloc, setting)?;
-    let mut shelf = shelf_of(alloc, &path, setting)?;
+    let mut shelf = shelf_of(alloc, &path, disk, setting)?;
     let status = graphd(
         rt,
         alloc,
@@ -86,11 +113,11 @@ pub(crate) fn serve<R: Threads + Wait + Sync>(
         sink: sink.faults(),
         shelf: shelf.faults(),
     };
-    let left = bytes_at(alloc, &mut shelf, &path)?;
+    let disk = disk_at(&mut shelf, &path)?;
     Ok(Served {
         status,
         faults,
         output: sink.into_bytes(alloc)?,
-        left,
+        disk,
     })
 }

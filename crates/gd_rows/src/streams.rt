@@ -17,12 +17,11 @@ pub(crate) struct Giving {
 }
 
 impl Giving {
-    /// The source of a case.
-    pub(crate) fn new(alloc: Global, case: &Case) -> Result<Giving, Trouble> {
-        let setting = &case.setting;
+    /// The source of a case, of which these calls fail.
+    pub(crate) fn new(alloc: Global, case: &Case, failing: &[u64]) -> Result<Giving, Trouble> {
         Ok(Giving {
-            source: MemorySource::new(alloc, case.input.as_slice(), &setting.failing.source)?,
-            most: setting.gives.max(1),
+            source: MemorySource::new(alloc, case.input.as_slice(), failing)?,
+            most: case.setting.gives.max(1),
         })
     }
 
@@ -54,10 +53,14 @@ pub(crate) struct Taking {
 }
 
 impl Taking {
-    /// The sink of a case.
-    pub(crate) fn new(alloc: Global, setting: &Setting) -> Result<Taking, Trouble> {
+    /// The sink of a case, of which these calls fail.
+    pub(crate) fn new(
+        alloc: Global,
+        setting: &Setting,
+        failing: &[u64],
+    ) -> Result<Taking, Trouble> {
         Ok(Taking {
-            sink: MemorySink::new(alloc, &setting.failing.sink)?,
+            sink: MemorySink::new(alloc, failing)?,
             most: setting.takes,
             faults: 0,
         })

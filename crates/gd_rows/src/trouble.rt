@@ -14,6 +14,9 @@ pub(crate) enum Trouble {
     /// A line is not of the form that the README describes.
     #[error("a line is of no form")]
     BadLine,
+    /// A table has more runs than any that is meant.
+    #[error("a table does not end")]
+    Endless,
     /// Standard input or output failed.
     #[error("input or output failed")]
     Failed,

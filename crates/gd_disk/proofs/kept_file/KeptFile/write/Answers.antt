@@ -2,6 +2,7 @@ use Rattle.std.proofs.Common.{◌≡◌, ◌≤◌, ℕ, List, ◌∷◌, ◌++�
 use Rattle.gd_disk.specs.Recorded.{Told, wrote, held}
 use Rattle.gd_disk.specs.Calls.{IsWrite, kept, made_of, first_of}
 use Rattle.gd_disk.proofs.Undone.{IsWritten, is_written, more_made, more_first, file_written, range_part}
+use Rattle.gd_disk.proofs.Images.{more_held}
 use Rattle.gd_disk.proofs.kept_file.KeptFile.write.Goals as goal
 
 -- the write is at an offset within the file
@@ -32,7 +33,8 @@ made_is c = more_made _ _ c.self.inside.calls.items c.note.new.calls.items c.wri
 pub invariant_of-self : goal.invariant_of-self
 invariant_of-self c =
     let s = c.self.inside in
-    file_written _ _ s.bytes.items c.overwrite-end.new.file.items c.args.bytes.now _ _ c.args.at s.stop c.max-self-inside.result (within c) c.self.invariant.0 c.self.invariant.1 c.overwrite-end.ensures.items (omega arith) (first_is c) (made_is c)
+    let file = file_written _ _ s.bytes.items c.overwrite-end.new.file.items c.args.bytes.now _ _ c.args.at s.stop c.max-self-inside.result (within c) c.self.invariant.0 c.self.invariant.1 c.overwrite-end.ensures.items (omega arith) (first_is c) (made_is c) in
+    (file.0, file.1, more_held _ _ s.calls.items c.note.new.calls.items c.write_call-call.result (wrote c.args.at c.args.bytes.now) (wrote_it c).told (wrote_it c).back c.note.ensures.items c.self.invariant.0 c.self.invariant.1 (within c) c.self.invariant.2)
 
 pub returns-clause-first : goal.returns-clause-first
 returns-clause-first c = rw (← c.self.view_is) (first_is c)
