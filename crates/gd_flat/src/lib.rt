@@ -55,9 +55,9 @@ pub fn frozen_trees(alloc: Global, trees: &Trees) -> Result<FrozenTrees, Memory>
 }
 
 /// Trees that stand one after another, as those of a frozen text.
-#[tactic(auto, using(crate::proofs::Pushed::one_tree, crate::proofs::Again::pieces_same, crate::proofs::Again::pieces_flat))]
+#[tactic(auto, using(crate::proofs::Pushed::one_tree))]
 pub fn frozen_list(alloc: Global, trees: &[Tree]) -> Result<FrozenTrees, Memory>
-    ensures same { IfOk result (λ frozen. trees_in frozen ≡ trees_of (map view trees.now)) }
+    ensures { IfOk result (λ frozen. trees_in frozen ≡ trees_of (map view trees.now)) }
 {
     let mut pieces = Vec::new(alloc);
     for tree in trees {

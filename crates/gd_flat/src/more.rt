@@ -9,7 +9,6 @@ use gd_frozen::tree::{FrozenTrees, Piece};
 use std::alloc::Global;
 
 /// These trees and behind them the tree of a place that has no lists.
-#[tactic(auto, using(crate::proofs::Leafed::grown_same, crate::proofs::Leafed::grown_flat))]
 pub fn with_place(alloc: Global, trees: &FrozenTrees, place: Id) -> Result<FrozenTrees, Memory>
     ensures { IfOk result (λ grown. trees_in grown ≡ append (trees_in trees.now)
         (and_tree (tree place no_lists) no_trees)) }
