@@ -12,12 +12,15 @@ use Rattle.gd_bytes.specs.Frozen.{IterAt, Frame, Scan}
 use Rattle.gd_runs.specs.Owed.{ScanOrder, Candidate, candidate, candidates_from, tried, owed_by, iter_fits}
 use Rattle.gd_order_laws.specs.Window.{In}
 use Rattle.gd_order_laws.proofs.Sorted.{In-filter}
-use Rattle.gd_match_laws.specs.Moves.{order_from, is_given, Ends, nothing_asked, FrameMoves, begins, passes_over, descends, takes, below_moves, below_ends, next_begins, later_moves, StackMoves, frame_moves, ScanMoves, scan_passes_over, picks, frames_move, gives, Runs, stays, moves}
+use Rattle.gd_scan_laws.specs.Ordered.{start}
+use Rattle.gd_match_laws.specs.Moves.{order_from, fresh, is_given, Ends, nothing_asked, FrameMoves, begins, passes_over, descends, takes, below_moves, below_ends, next_begins, later_moves, StackMoves, frame_moves, ScanMoves, scan_passes_over, picks, frames_move, gives, Runs, stays, moves}
 use Rattle.gd_match_laws.specs.Under.{current, current_on, last_list, with_last, under, counted}
 use Rattle.gd_match_laws.proofs.Under.{last_moves, current_moves}
 use Rattle.gd_match_laws.proofs.Scans.{run-keeps}
+use Rattle.gd_thaw_laws.specs.Alone.{standing_at}
 use Rattle.gd_thaw_laws.specs.Grown.{Grows, ListsGrow, StackGrows, IsPlaced, ListsPlaced, StackPlaced}
-use Rattle.gd_thaw_laws.specs.Told.{begun, with_tree, last_told, above_told, led, frames_told, scan_told, told, one_member, StandWithin, IsPicked, Picked, ScansToTold, ToldOwes, ToldPlaced, ToldFits}
+use Rattle.gd_thaw_laws.specs.Told.{begun, with_tree, last_told, above_told, led, frames_told, scan_told, told, one_member, StandWithin, IsPicked, Picked, ScansToTold, ToldOwes, FramesToldAlone, ToldOwesAlone, ToldPlaced, ToldFits}
+use Rattle.gd_thaw_laws.proofs.Alone.{candidates_go_alone}
 use Rattle.gd_thaw_laws.proofs.Grown.{runs_grow, grown_fit}
 use Rattle.gd_thaw_laws.proofs.Reach.{later_left, all_left}
 
@@ -243,6 +246,64 @@ told_owes prims order before t from s cs idle run picked = by s.frames refl (run
             ap (owed_by prims t order) (ap (λ (l : List Frame). scan_told s l (frames_told t l)) is ∙ ap (scan_told s (f ∷ fs)) so)
             ∙ ended_owes prims order t s f fs (frames_told t (f ∷ fs)) is so (way prims t f fs grown) (λ ds asks. light prims before t ds from s cs asks run (inl idle)) p
             ∙ ap (λ (l : List Frame). tried prims t s.weight l ++ candidates_from prims t order s.iter.place) (sym is)
+
+-- ---- a candidate that is tried by itself
+
+frames_same : (t : Template) (m : Scan) → (told t m).frames ≡ frames_told t m.frames
+frames_same t m = by m.frames refl
+  where
+    by : (l : List Frame) → m.frames ≡ l → (told t m).frames ≡ frames_told t m.frames
+    by [] is = ap (λ (l : List Frame). (scan_told m l (frames_told t m.frames)).frames) is ∙ is ∙ sym (ap (frames_told t) is)
+    by (f ∷ fs) is = ap (λ (l : List Frame). (scan_told m l (frames_told t m.frames)).frames) is ∙ with_told (frames_told t m.frames)
+      where
+        with_told : (ks : List Frame) → (scan_told m (f ∷ fs) ks).frames ≡ ks
+        with_told [] = refl
+        with_told (h ∷ hs) = refl
+
+pub frames_told_alone : FramesToldAlone
+frames_told_alone t i m = ap (scan_told (standing_at i m) m.frames) (sym (frames_same t m))
+
+module _ (prims : List Primitive) (p : ℕ) where
+  abbrev only : ScanOrder
+  only = (0, p) ∷ []
+
+  -- the first frame is that of the candidate
+  abbrev Tries : List Frame → Type 0
+  Tries [] = Unit {0}
+  Tries (f ∷ fs) = f.place ≡ p
+
+  picked_only : (t : Template) (a b : ℕ) (d : ℕ × ℕ) → order_from prims t only a ≡ d ∷ order_from prims t only b → d.1 ≡ p
+  picked_only t a b d is = by (nat_le a 0 && passes_template prims t p) (order_from prims t only b) is
+    where
+      by : (x : Bool) (rest : ScanOrder) → cond x only [] ≡ d ∷ rest → d.1 ≡ p
+      by true rest e = let same : (0, p) ≡ d = cc e in sym (ap (λ (c : ℕ × ℕ). c.1) same)
+      by false rest e = absurd (cc e)
+
+  stacks_try : (t : Template) (gs : List Frame) (d : ℕ) (hs : List Frame) → StackMoves prims t gs d hs → Tries gs → Tries hs
+  stacks_try _ _ _ _ (frame_moves ds asked f gs d i ls hs step) tries = tries
+
+  moves_try : (t : Template) (s m : Scan) (given : List Candidate) → ScanMoves prims only t s given m → Tries s.frames → Tries m.frames
+  moves_try _ _ _ _ (scan_passes_over t s i is) tries = tries
+  moves_try _ _ _ _ (picks t s c i j none is) tries = picked_only t s.iter.place i.place c is
+  moves_try _ _ _ _ (frames_move t s d fs step) tries = stacks_try t s.frames d fs step tries
+  moves_try _ _ _ _ (gives ds asked s f n o one ends) tries = tt
+
+  runs_try : (t : Template) (s m : Scan) (given : List Candidate) → Runs prims only t s given m → Tries s.frames → Tries m.frames
+  runs_try t _ _ _ (stays s) tries = tries
+  runs_try t _ _ _ (moves s m n given later step rest) tries = runs_try t m n later rest (moves_try t s m given step tries)
+
+pub told_owes_alone : ToldOwesAlone
+told_owes_alone prims order t c i s m cs f fs idle behind is run some =
+    told_owes prims order order t s (standing_at i m) cs idle (candidates_go_alone prims order t c i s m cs f fs idle is run some)
+    (subst (Picked prims order t (standing_at i m)) (sym some) (record {
+      from = s.iter.place;
+      at = c.0;
+      stands = behind;
+      picked = is ∙ ap (λ (n : ℕ). c ∷ order_from prims t order n) behind ∙ ap (λ (x : ℕ). (c.0, x) ∷ order_from prims t order (c.0 + 1)) (sym place);
+    }))
+  where
+    place : f.place ≡ c.1
+    place = subst (Tries prims c.1) some (runs_try prims c.1 t start m cs run tt)
 
 -- ---- it fits
 
