@@ -5,3 +5,4 @@ pub mod Fitting
 pub mod Deep
 pub mod Whole
 pub mod Counts
+pub mod Leafed

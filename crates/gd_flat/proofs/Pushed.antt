@@ -1,5 +1,6 @@
 -- Pieces of trees, one tree and one list at a time.
-use Rattle.std.proofs.Common.{◌≡◌, ◌∙◌, ℕ, suc, List, [], ◌∷◌, ◌++◌, drop, length, get_or, ◌<◌, ◌+◌, map, sym, ap, rules, add-one, drop-cons, append_assoc}
+use Rattle.std.proofs.Common.{◌≡◌, ◌∙◌, ℕ, zero, suc, List, [], ◌∷◌, ◌++◌, drop, length, get_or, ◌<◌, ◌≤◌, ◌+◌, map, refl, sym, ap, arith, rules, add-one, drop-cons, append_assoc}
+use Rattle.std.proofs.lemmas.List.{append-nil}
 use Rattle.gd_tree.specs.Trees as trees
 use Rattle.gd_tree.specs.Trees.{trees_of, tree_lists_of, lists_of}
 use Rattle.gd_trees.specs.View.{view, trees_view}
@@ -50,3 +51,14 @@ one_tree xs i x out all within is was =
     append_assoc out (tree_pieces (view x)) (trees_pieces (trees_of (map view (drop (i + 1) xs))))
     ∙ sym (ap (λ l. out ++ trees_pieces (trees_of (map view l))) (trees_left xs i x within is))
     ∙ was
+
+-- all trees
+pub trees_done : (xs : List Tree) (i : ℕ) (out all : List Piece) → length xs ≤ i → out ++ trees_pieces (trees_of (map view (drop i xs))) ≡ all → out ≡ all
+trees_done xs i out all past was =
+    sym (append-nil out) ∙ sym (ap (λ l. out ++ trees_pieces (trees_of (map view l))) (drop-past xs i past)) ∙ was
+  where
+    drop-past : (xs : List Tree) (i : ℕ) → length xs ≤ i → drop i xs ≡ []
+    drop-past [] zero past = refl
+    drop-past [] (suc i) past = refl
+    drop-past (x ∷ xs) zero past = absurd (omega (arith, past))
+    drop-past (x ∷ xs) (suc i) past = drop-past xs i (omega (arith, past))

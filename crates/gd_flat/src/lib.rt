@@ -8,6 +8,7 @@ ghost use Rattle.gd_frozen.specs.Pieces.{tree_pieces, trees_pieces, lists_pieces
 
 pub mod fits;
 mod growing;
+pub mod more;
 pub mod thawing;
 
 use gd_base::memory::Memory;
@@ -50,5 +51,17 @@ pub fn frozen_trees(alloc: Global, trees: &Trees) -> Result<FrozenTrees, Memory>
 {
     let mut pieces = Vec::new(alloc);
     push_trees(&mut pieces, trees)?;
+    Ok(FrozenTrees::of(pieces))
+}
+
+/// Trees that stand one after another, as those of a frozen text.
+#[tactic(auto, using(crate::proofs::Pushed::one_tree))]
+pub fn frozen_list(alloc: Global, trees: &[Tree]) -> Result<FrozenTrees, Memory>
+    ensures { IfOk result (λ frozen. trees_in frozen ≡ trees_of (map view trees.now)) }
+{
+    let mut pieces = Vec::new(alloc);
+    for tree in trees {
+        push_tree(&mut pieces, tree)?;
+    }
     Ok(FrozenTrees::of(pieces))
 }

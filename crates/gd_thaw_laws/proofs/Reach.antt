@@ -44,7 +44,7 @@ module _ (prims : List Primitive) (order : ScanOrder) where
 
 module _ (prims : List Primitive) (t : Template) where
   -- of what is left from one place on, that from a later one on
-  later_left : (a b : ℕ) (xs : ScanOrder) → a ≤ b → filter (λ c. nat_le b c.0) (order_from prims t xs a) ≡ order_from prims t xs b
+  pub later_left : (a b : ℕ) (xs : ScanOrder) → a ≤ b → filter (λ c. nat_le b c.0) (order_from prims t xs a) ≡ order_from prims t xs b
   later_left a b [] up = refl
   later_left a b (c ∷ xs) up = by (nat_le a c.0) (nat_le b c.0) (passes_template prims t c.1) refl refl (later_left a b xs up)
     where
@@ -61,7 +61,7 @@ module _ (prims : List Primitive) (t : Template) where
       by false false p ex ey rest = rest
 
   -- from an earlier place on all of it is left
-  all_left : (a b : ℕ) (xs : ScanOrder) → b ≤ a → filter (λ c. nat_le b c.0) (order_from prims t xs a) ≡ order_from prims t xs a
+  pub all_left : (a b : ℕ) (xs : ScanOrder) → b ≤ a → filter (λ c. nat_le b c.0) (order_from prims t xs a) ≡ order_from prims t xs a
   all_left a b [] up = refl
   all_left a b (c ∷ xs) up = by (nat_le a c.0) (passes_template prims t c.1) refl (all_left a b xs up)
     where
