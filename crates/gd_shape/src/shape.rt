@@ -266,6 +266,10 @@ impl Shape {
         ensures of { IfOk result (λ shape. (prims : List Primitive) → IsOf prims shape) }
         ensures due { IfOk result (λ shape. (prims : List Primitive)
             → shape_due prims shape ≤ body_due prims (asked_view asked) body) }
+
+        // No step is due for the places that were counted.
+        ensures counted { IfOk result (λ shape. (prims : List Primitive)
+            → shape_due prims shape + printed ≤ body_due prims (asked_view asked) body) }
         ensures printed { IfOk result (λ shape. shape.printed ≡ printed) }
         ensures walks { IfOk result (λ shape. walks_in shape ≡ map walk_of walks.items) }
     {
