@@ -70,6 +70,24 @@ trees_counted ts count most printed places count_is most_is places_is held =
     few : (m n count most printed places : ℕ) → m ≡ n → count ≡ min m 18_446_744_073_709_551_615 → most ≡ min count 262_144 → places ≡ most - printed → places ≡ min n 262_144 - printed
     few m n count most printed places same count_is most_is places_is = omega (arith, same, count_is, most_is, places_is)
 
+-- no steps are due for those
+pub trees_left : (prims : List Primitive) (q : Asked) (ts : Trees) (count most printed places due : ℕ) → count ≡ min (trees_count (trees_view ts)) 18_446_744_073_709_551_615 → most ≡ min count 262_144 → places ≡ most - printed
+    → printed ≤ trees_count (trees_view ts) → due ≤ places + 785 * length (rows_listed prims q.members (map view (out-Trees ts).items.items)) → due + printed ≤ body_due prims q (body.Trees ts)
+trees_left prims q ts count most printed places due count_is most_is places_is held few =
+    let same : length (rows_listed prims q.members (map view (out-Trees ts).items.items)) ≡ length (rows_listed prims q.members (list_of (trees_view ts))) = ap (λ us. length (rows_listed prims q.members us)) (sym (list_seen ts)) in
+    more _ _ _ count_is held few same
+  where
+    more : (m i j : ℕ) → count ≡ min m 18_446_744_073_709_551_615 → printed ≤ m → due ≤ places + 785 * i → i ≡ j → due + printed ≤ m + 785 * j
+    more m i j counted held few same = omega (arith, counted, most_is, places_is, held, few, same)
+
+pub none_left : (prims : List Primitive) (q : Asked) (ts : List trees.Tree) (printed due : ℕ) → ts ≡ [] → printed ≤ 0 → due ≤ 0 + 785 * length (rows_listed prims q.members ts) → due + printed ≤ 0
+none_left prims q ts printed due none few most =
+    let empty : length (rows_listed prims q.members ts) ≡ 0 = ap (λ us. length (rows_listed prims q.members us)) none in
+    less _ empty most
+  where
+    less : (i : ℕ) → i ≡ 0 → due ≤ 0 + 785 * i → due + printed ≤ 0
+    less i empty most = omega (arith, empty, most, few)
+
 -- of none
 pub none_counted : (ts : List trees.Tree) (printed : ℕ) → ts ≡ [] → printed ≤ 0 → AreCounted ts printed 0
 none_counted ts printed none few = subst (λ (us : List trees.Tree). AreCounted us printed 0) (sym none) (record { left = omega (arith, few); held = few })

@@ -9,5 +9,7 @@ pub mod Members
 pub mod Prints
 pub mod Ranks
 pub mod Rows
+pub mod Telling
+pub mod WalkUp
 pub mod Walked
 pub mod Written

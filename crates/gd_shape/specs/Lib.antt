@@ -6,3 +6,5 @@ pub mod Printed
 pub mod Ranking
 pub mod Shaping
 pub mod Spelt
+pub mod Telling
+pub mod WalkUp

@@ -391,7 +391,8 @@ fn write_value_id(
     place: Id,
 ) -> Result<(), Memory>
     ensures printed { OnOk result ((told : List defined.Walk)
-        → Adds out.old.tokens out.new.tokens (id_json sight.now (value_at sight.now place) told).0) }
+        → Adds out.old.tokens out.new.tokens (id_json sight.now
+        (value_at sight.now place) told).0) }
     ensures left { OnOk result ((told : List defined.Walk)
         → told ≡ (id_json sight.now (value_at sight.now place) told).1) }
     ensures before { out.new.before ≡ out.old.before }

@@ -71,7 +71,8 @@ fn write_rows(
     requires { IsKnownOf sight.now ids.now }
     ensures printed { IfOk result (λ outcome. seen (λ _. (out.new.tokens, told.new)) outcome
         ≡ written out.old.tokens (list_shape true
-        (print.rows_print sight.now (members_view members.now) (map tree_view trees.now) told.old))) }
+        (print.rows_print sight.now (members_view members.now) (map tree_view trees.now)
+        told.old))) }
     ensures before { out.new.before ≡ out.old.before }
     ensures lacks { IfErr result (λ lack. Lacks ids.now lack) }
     ensures listed { IfErr result (λ lack. LacksOf
@@ -99,7 +100,8 @@ fn pass_rows(
     trees: &[Tree],
 ) -> Result<Result<(), Names>, Lack>
     requires { IsKnownOf sight.now ids.now }
-    ensures printed { IfOk result (λ outcome. (out : List Token) → seen (λ _. (out, told.new)) outcome
+    ensures printed { IfOk result (λ outcome. (out : List Token)
+        → seen (λ _. (out, told.new)) outcome
         ≡ beside out (print.rows_print sight.now (members_view members.now)
         (map tree_view trees.now) told.old)) }
     ensures lacks { IfErr result (λ lack. Lacks ids.now lack) }
@@ -128,7 +130,8 @@ fn write_first_row(
     requires { IsKnownOf sight.now ids.now }
     ensures printed { IfOk result (λ outcome. seen (λ _. (out.new.tokens, told.new)) outcome
         ≡ written out.old.tokens (list_shape false
-        (print.rows_print sight.now (members_view members.now) (map tree_view trees.now) told.old))) }
+        (print.rows_print sight.now (members_view members.now) (map tree_view trees.now)
+        told.old))) }
     ensures before { out.new.before ≡ out.old.before }
     ensures lacks { IfErr result (λ lack. Lacks ids.now lack) }
     ensures listed { IfErr result (λ lack. LacksOf

@@ -418,7 +418,8 @@ fn pass_each(
     rows: &[Ranked<'_>],
 ) -> Result<Result<(), Names>, Lack>
     requires { IsKnownOf sight.now ids.now }
-    ensures printed { IfOk result (λ outcome. (out : List Token) → seen (λ _. (out, told.new)) outcome
+    ensures printed { IfOk result (λ outcome. (out : List Token)
+        → seen (λ _. (out, told.new)) outcome
         ≡ beside out (each_shape (print.answer_print sight.now (asking_view asking.now)
         (members_view clause.now)) (map ranked_view rows.now) told.old)) }
     ensures lacks { IfErr result (λ lack. Lacks ids.now lack) }

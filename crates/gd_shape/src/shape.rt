@@ -261,10 +261,15 @@ impl Shape {
         // No more places were counted than the trees hold.
         requires printed { printed ≤ body_places body }
         ensures page { IfOk result (λ shape. (prims : List Primitive)
-            → page_of prims shape ≡ body_told prims (asked_view asked) body (map walk_of walks.items)) }
+            → page_of prims shape
+            ≡ body_told prims (asked_view asked) body (map walk_of walks.items)) }
         ensures of { IfOk result (λ shape. (prims : List Primitive) → IsOf prims shape) }
         ensures due { IfOk result (λ shape. (prims : List Primitive)
             → shape_due prims shape ≤ body_due prims (asked_view asked) body) }
+
+        // No step is due for the places that were counted.
+        ensures counted { IfOk result (λ shape. (prims : List Primitive)
+            → shape_due prims shape + printed ≤ body_due prims (asked_view asked) body) }
         ensures printed { IfOk result (λ shape. shape.printed ≡ printed) }
         ensures walks { IfOk result (λ shape. walks_in shape ≡ map walk_of walks.items) }
     {
@@ -304,8 +309,8 @@ impl Shape {
         self.count
     }
 
-    /// Walks of the first ids that the page prints, in the order in which it prints them, with which
-    /// it prints the same: those with which it was started.
+    /// Walks of the first ids that the page prints, in the order in which it prints them, with
+    /// which it prints the same: those with which it was started.
     pub fn walks(&self) -> &[Walk]
         ensures { map walk_of result.now ≡ walks_in self.now }
     {

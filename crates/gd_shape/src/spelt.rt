@@ -15,7 +15,8 @@ use std::alloc::Global;
 
 /// Writes the text at a place behind a slash; where no text stands there, the slash alone.
 fn push_link(text: &mut String, sight: &Sight<'_>, link: Id) -> Result<(), Memory>
-    ensures { OnOk result (string_bytes text.new ≡ string_bytes text.old ++ link_text sight.now link) }
+    ensures { OnOk result (string_bytes text.new
+        ≡ string_bytes text.old ++ link_text sight.now link) }
 {
     text.push_str("/")?;
     if let Some(prim) = sight.prim(link) {
