@@ -91,6 +91,19 @@ impl Leaf {
         })
     }
 
+    /// The same leaf from a place on: of its set it owes the places that are not below that one,
+    /// whatever it owed before. It takes no steps.
+    pub fn from(self, place: Id) -> Leaf
+        ensures walk { ⟦<Leaf as Iter<View<'static>>>⟧.walk result
+            ≡ ⟦<Leaf as Iter<View<'static>>>⟧.walk self }
+        ensures owed { (batches : List Batch) → ⟦<Leaf as Iter<View<'static>>>⟧.owed result batches
+            ≡ ids_from place ((⟦<Leaf as Iter<View<'static>>>⟧.walk self).set batches) }
+    {
+        let mut leaf = self;
+        leaf.place = place;
+        leaf
+    }
+
     /// Whether it is known that the left ends of the primitives at its places rise, as it may be of
     /// those that name a node or have a value. False says nothing. It takes no steps.
     pub fn lefts_rise(&self, view: &View<'_>) -> bool
