@@ -44,7 +44,7 @@ fn names(found: Option<Id>, place: Id) -> bool
 
 /// Whether a hop leads from one place to another one.
 #[tactic(auto, using(crate::proofs::Fitting::leads_links, crate::proofs::Fitting::leads_end))]
-pub(crate) fn leads<L>(hop: Hop, from: Id, to: Id, store: &View<'_>, steps: &mut Steps<L>) -> bool
+pub fn leads<L>(hop: Hop, from: Id, to: Id, store: &View<'_>, steps: &mut Steps<L>) -> bool
     ensures leads { result ≡ owed.is_among (defs.led_to (prims_of store.now) (hop_of hop) from) to }
     ensures work { steps.new ≤ steps.old + 1 }
     ensures later { steps.old ≤ steps.new }
