@@ -3,3 +3,4 @@ pub mod Gone
 pub mod Grown
 pub mod Freezing
 pub mod Alone
+pub mod Spelled
