@@ -4,3 +4,4 @@ pub mod Grown
 pub mod Freezing
 pub mod Alone
 pub mod Spelled
+pub mod Standing
