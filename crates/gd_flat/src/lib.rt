@@ -52,3 +52,15 @@ pub fn frozen_trees(alloc: Global, trees: &Trees) -> Result<FrozenTrees, Memory>
     push_trees(&mut pieces, trees)?;
     Ok(FrozenTrees::of(pieces))
 }
+
+/// Trees that stand one after another, as those of a frozen text.
+#[tactic(auto, using(crate::proofs::Pushed::one_tree, crate::proofs::Again::pieces_same, crate::proofs::Again::pieces_flat))]
+pub fn frozen_list(alloc: Global, trees: &[Tree]) -> Result<FrozenTrees, Memory>
+    ensures same { IfOk result (λ frozen. trees_in frozen ≡ trees_of (map view trees.now)) }
+{
+    let mut pieces = Vec::new(alloc);
+    for tree in trees {
+        push_tree(&mut pieces, tree)?;
+    }
+    Ok(FrozenTrees::of(pieces))
+}

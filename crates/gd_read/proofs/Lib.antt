@@ -16,3 +16,4 @@ pub mod Going
 pub mod Together
 pub mod Paid
 pub mod Starts
+pub mod Freezing
