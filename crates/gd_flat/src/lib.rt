@@ -53,14 +53,24 @@ pub fn frozen_trees(alloc: Global, trees: &Trees) -> Result<FrozenTrees, Memory>
     Ok(FrozenTrees::of(pieces))
 }
 
+/// Appends the pieces of trees that stand one after another.
+#[tactic(auto, using(crate::proofs::Pushed::one_tree))]
+fn push_list(out: &mut Vec<Piece>, trees: &[Tree]) -> Result<(), Memory>
+    ensures { OnOk result (out.new.items
+        ≡ out.old.items ++ trees_pieces (trees_of (map view trees.now))) }
+{
+    for tree in trees {
+        push_tree(out, tree)?;
+    }
+    Ok(())
+}
+
 /// Trees that stand one after another, as those of a frozen text.
-#[tactic(auto, using(crate::proofs::Pushed::one_tree, crate::proofs::Again::pieces_same, crate::proofs::Again::pieces_flat))]
+#[tactic(auto, using(crate::proofs::Again::pieces_same, crate::proofs::Again::pieces_flat))]
 pub fn frozen_list(alloc: Global, trees: &[Tree]) -> Result<FrozenTrees, Memory>
     ensures same { IfOk result (λ frozen. trees_in frozen ≡ trees_of (map view trees.now)) }
 {
     let mut pieces = Vec::new(alloc);
-    for tree in trees {
-        push_tree(&mut pieces, tree)?;
-    }
+    push_list(&mut pieces, trees)?;
     Ok(FrozenTrees::of(pieces))
 }
