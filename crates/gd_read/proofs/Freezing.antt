@@ -1,6 +1,7 @@
 -- Readings that are put away.
-use Rattle.std.proofs.Common.{◌≡◌, ◌∙◌, refl, sym, ap, subst, arith, ℕ, ◌≤◌, List, [], ◌∷◌, Bool, true, false, length, map, min, take, Option, Some, None, Result, Ok}
+use Rattle.std.proofs.Common.{◌≡◌, ◌∙◌, refl, sym, ap, subst, arith, ℕ, ◌+◌, ◌≤◌, List, [], ◌∷◌, ◌++◌, Bool, true, false, length, length-append, append_assoc, map, min, take, Option, Some, None, Result, Ok}
 use Rattle.std.specs.Prelude.{nat_le, is_none}
+use Rattle.std.specs.Ordering.{nat_cmp}
 use Rattle.std.proofs.lemmas.Bool.Decides.{nat_tests}
 use Rattle.std.proofs.lemmas.List.{take_all}
 use Rattle.gd_prim.specs.declared.Batch.{Batch}
@@ -8,11 +9,15 @@ use Rattle.gd_prim.specs.declared.Primitive.{Primitive}
 use Rattle.gd_prim.specs.History.{prims_of, prims_at}
 use Rattle.gd_tree.specs.Trees.{no_trees, trees_of}
 use Rattle.gd_defs.specs.Asked.{Asked, asked_query}
+use Rattle.gd_defs.specs.Plan.{template_of}
 use Rattle.gd_defs.specs.Reply.{Mark, row_mark, answer_line}
 use Rattle.gd_bytes.specs.Frozen.{Frozen, IsFrozenText, after_in_bounds, scanning, building, Fits}
 use Rattle.gd_form_laws.specs.Faults.{query_fault}
 use Rattle.gd_runs.specs.Core as core
 use Rattle.gd_runs.specs.Fitting.{fits}
+use Rattle.gd_runs.specs.Owed.{ScanOrder}
+use Rattle.gd_order_laws.specs.Window.{Rising}
+use Rattle.gd_match.specs.Rooted.{walk_left, walk_order}
 use Rattle.gd_runs.specs.Request.{asks_page}
 use Rattle.gd_runs.specs.Scanned.{scan_order}
 use Rattle.gd_runs.specs.Thawed.{body_answer, thawed_line, thawed_reply}
@@ -26,21 +31,25 @@ use Rattle.gd_trees.specs.View.{view as tree_view}
 use Rattle.gd_window.specs.Kept.{Kept}
 use Rattle.gd_window.specs.Laws.{defined}
 use Rattle.gd_window.specs.declared.row.Row.{Row}
-use Rattle.gd_suspended_laws.specs.Standing.{marks_of, page_objects, trees_among, weight_among, IsKept}
+use Rattle.gd_suspended_laws.specs.Standing.{marks_of, page_objects, trees_among, weight_among, HasVisited, IsKept}
 use Rattle.gd_thaw_laws.specs.Spelled.{one_member}
 use Rattle.gd_thaw_laws.specs.Thawing.{between}
-use Rattle.gd_thaw_laws.specs.Standing.{Asks, KeepsRows, RowsFit, StandsFor}
+use Rattle.gd_thaw_laws.specs.Standing.{Asks, IsScanOrder, KeepsRows, RowsFit, StandsFor}
 use Rattle.gd_thaw_laws.proofs.Spelled.{fitting_are_spelled}
-use Rattle.gd_thaw_laws.proofs.Standing.{starts_stand, pages_stand, rows_stand}
-use Rattle.gd_read.specs.Freezing.{began, BodyStands, IsFrozen, ReadingFreezes, FreezesTo}
+use Rattle.gd_thaw_laws.proofs.Standing.{starts_stand, visits_stand, pages_stand, rows_stand}
+use Rattle.gd_read.specs.Come.{HasAll, HasCome, HasWalked, places_of}
+use Rattle.gd_read.specs.Freezing.{began, number_ahead, BodyStands, IsFrozen, ReadingFreezes, FreezesTo}
 use Rattle.gd_read.specs.Marked.{mark_of}
 use Rattle.gd_read.specs.Reading.{reading_view}
-use Rattle.gd_read.specs.Stages.{IsAsked, IsScanned, HasGathered, Gathers, Prints, Visits}
+use Rattle.gd_read.specs.Stages.{IsAsked, IsScanned, HasGathered, Gathers, Prints, Visits, places_ahead}
 use Rattle.gd_read.specs.Subject.{core_reading, written, answer_of}
 use Rattle.gd_read.specs.declared.gathering.Gathering.{Gathering}
 use Rattle.gd_read.specs.declared.reading.Reading.{Reading}
 use Rattle.gd_read.specs.declared.reading.Reading.TheVariants as reading
 use Rattle.gd_read.specs.declared.subject.Subject.{Subject}
+use Rattle.gd_read.specs.declared.trying.Trying.{Trying}
+use Rattle.gd_read.specs.declared.visiting.Visiting.{Visiting}
+use Rattle.gd_read.proofs.Walked.{on, on_all, on_next, on_this, same_front, same_but_last, map-places}
 use Rattle.gd_read.proofs.Begun.{asked_limited}
 
 -- ---- rows
@@ -64,6 +73,42 @@ module _ (batches : List Batch) (s : Subject) where
   pub page_stands : (q : Asked) (w : Kept) → IsAsked batches s q → IsKept (prims_of batches) q (mark_of s.after) w → RowsFit (prims_of batches) q w
       → Rattle.gd_read.specs.Stages.body_owes batches s q w (building 0 no_trees start) ≡ answer_of batches s → BodyStands batches s (marks_of w) (building 0 no_trees start)
   page_stands q w asked kept fit owes = record { query = q; asked = asked; stands = pages_stand (began batches s) q w (record { kept = kept; fit = fit; owes = owes }) }
+
+  order_is : (q : Asked) (order : ScanOrder) → IsAsked batches s q → HasAll (prims_of batches) (template_of q) order → IsScanOrder (prims_of batches) q order
+  order_is q order asked finds = record { rises = finds.rises; once = finds.once; all = finds.all; alike = finds.defined (written s) q asked.held asked.asked refl }
+
+  -- where a walk goes on from a number
+  visit_at : (q : Asked) (order left : ScanOrder) (tried : Option Trying) (last : Option ℕ) (w : Kept) (p : ℕ) → IsAsked batches s q → HasAll (prims_of batches) (template_of q) order
+      → HasCome (prims_of batches) q (mark_of s.after) (places_of order) (places_ahead tried left) w → HasWalked order left last → p ≡ number_ahead tried last → p ≤ length (prims_of batches)
+      → StandsFor (began batches s) q (marks_of w) (scanning (between p))
+  visit_at q order left None None w p asked finds come walked is within =
+      visits_stand (began batches s) q order left come.visited p w (asks q asked) (order_is q order asked finds) come.parts (sym walked ∙ sym (on_all order) ∙ ap (λ n. on n order) (sym is)) come.has within
+  visit_at q order left None (Some n) w p asked finds come walked is within =
+      visits_stand (began batches s) q order left come.visited p w (asks q asked) (order_is q order asked finds) come.parts
+      (sym (on_next walked.0 (n, walked.1.0) left (subst (λ (l : ScanOrder). Rising nat_cmp (map (λ d. d.0) l)) walked.1.1 finds.rises)) ∙ ap (on (n + 1)) (sym walked.1.1) ∙ ap (λ m. on m order) (sym is)) come.has within
+  visit_at q order left (Some r) None w p asked finds come walked is within =
+      absurd (let e = ap length (ap places_of (sym walked) ∙ come.parts) in let k = length-append come.visited (r.place ∷ places_of left) in omega (arith, e, k))
+  visit_at q order left (Some r) (Some n) w p asked finds come walked is within =
+      visits_stand (began batches s) q order ((n, walked.1.0) ∷ left) (places_of walked.0) p w (asks q asked) (order_is q order asked finds) parts
+      (sym (on_this walked.0 (n, walked.1.0) left (subst (λ (l : ScanOrder). Rising nat_cmp (map (λ d. d.0) l)) walked.1.1 finds.rises)) ∙ ap (on n) (sym walked.1.1) ∙ ap (λ m. on m order) (sym is))
+      (subst (λ os. HasVisited (prims_of batches) q (mark_of s.after) os w) before come.has) within
+    where
+      parts : places_of order ≡ places_of walked.0 ++ places_of ((n, walked.1.0) ∷ left)
+      parts = ap places_of walked.1.1 ∙ map-places walked.0 ((n, walked.1.0) ∷ left)
+
+      before : come.visited ≡ places_of walked.0
+      before = same_but_last come.visited (places_of walked.0) r.place walked.1.0
+          (same_front (come.visited ++ r.place ∷ []) (places_of walked.0 ++ walked.1.0 ∷ []) (places_of left)
+          (append_assoc come.visited (r.place ∷ []) (places_of left) ∙ sym come.parts ∙ parts ∙ sym (append_assoc (places_of walked.0) (walked.1.0 ∷ []) (places_of left))))
+
+  -- LAW: where places are visited, it stands at the next number
+  pub visit_stands : (v : Visiting) (w : Kept) (p : ℕ) → Visits batches s v w → p ≡ number_ahead v.tried v.last → p ≤ length (prims_of batches) → BodyStands batches s (marks_of w) (scanning (between p))
+  visit_stands v w p visits is within = record {
+    query = asked_view v.plan;
+    asked = visits.asked;
+    stands = visit_at (asked_view v.plan) (walk_order batches (template_of (asked_view v.plan)) v.walk) (walk_left batches (template_of (asked_view v.plan)) v.walk) v.tried v.last w p
+        visits.asked visits.finds visits.come visits.walked is within;
+  }
 
   take_min : (n : ℕ) (os : List ℕ) → take (min n (length os)) os ≡ take n os
   take_min n os = by (nat_le n (length os)) refl

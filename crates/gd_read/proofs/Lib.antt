@@ -17,3 +17,4 @@ pub mod Together
 pub mod Paid
 pub mod Starts
 pub mod Freezing
+pub mod Walked

@@ -1,5 +1,5 @@
 -- What a reading is frozen as.
-use Rattle.std.specs.Prelude.{◌≡◌, ℕ, List, Option, None, Some, option_map, Vec}
+use Rattle.std.specs.Prelude.{◌≡◌, ℕ, ◌+◌, List, Option, None, Some, option_map, Vec}
 use Rattle.std.specs.declared.alloc.Global.{Global}
 use Rattle.gd_prim.specs.declared.Batch.{Batch}
 use Rattle.gd_prim.specs.History.{prims_of}
@@ -19,6 +19,13 @@ use Rattle.gd_read.specs.Subject.{written}
 use Rattle.gd_read.specs.declared.reading.Reading.{Reading}
 use Rattle.gd_read.specs.declared.reading.Reading.TheVariants as reading
 use Rattle.gd_read.specs.declared.subject.Subject.{Subject}
+use Rattle.gd_read.specs.declared.trying.Trying.{Trying}
+
+-- the number from which on a walk goes on: that of the place that is tried, or else the one behind the last that it gave
+abbrev pub number_ahead : Option Trying → Option ℕ → ℕ
+number_ahead tried None = 0
+number_ahead None (Some n) = n + 1
+number_ahead (Some r) (Some n) = n
 
 -- ---- one query
 

@@ -31,7 +31,7 @@ use Rattle.gd_shape.specs.Shaping.{page_of, body_print, IsOf, IsBodyOf}
 use Rattle.gd_shape.specs.declared.shape.PageBody.{PageBody}
 use Rattle.gd_shape.specs.declared.shape.PageBody.TheVariants as page
 use Rattle.gd_shape.specs.declared.shape.Shape.{Shape}
-use Rattle.gd_read.specs.Come.{HasAll, HasCome, places_of}
+use Rattle.gd_read.specs.Come.{HasAll, HasCome, HasWalked, places_of}
 use Rattle.gd_read.specs.Marked.{mark_of}
 use Rattle.gd_read.specs.Subject.{written, answer_of}
 use Rattle.gd_read.specs.declared.subject.Subject.{Subject}
@@ -70,12 +70,13 @@ abbrev pub places_ahead : Option Trying → ScanOrder → List ℕ
 places_ahead None left = places_of left
 places_ahead (Some tried) left = tried.place ∷ places_of left
 
--- a reading visits the places of a walk, among which each that passes is; it has visited the first of them, and the next one may be tried
+-- a reading visits the places of a walk, among which each that passes is; it has visited the first of them, and the next one may be tried; the number of the last that the walk gave is known
 pub record Visits (batches : List Batch) (s : Subject) (v : Visiting) (w : Kept) : Type 0 where
   pub asked : IsAsked batches s (asked_view v.plan)
   pub finds : HasAll (prims_of batches) (template_of (asked_view v.plan)) (walk_order batches (template_of (asked_view v.plan)) v.walk)
   pub come : HasCome (prims_of batches) (asked_view v.plan) (mark_of s.after) (places_of (walk_order batches (template_of (asked_view v.plan)) v.walk)) (places_ahead v.tried (walk_left batches (template_of (asked_view v.plan)) v.walk)) w
   pub tried : IfSome v.tried (Tries batches (template_of (asked_view v.plan)))
+  pub walked : HasWalked (walk_order batches (template_of (asked_view v.plan)) v.walk) (walk_left batches (template_of (asked_view v.plan)) v.walk) v.last
 
 -- ---- the end of a scan
 

@@ -1,5 +1,6 @@
 //! Readings of one query, as they are put away: their rows, and how far they came.
 ghost use Rattle.std.specs.Prelude.{◌≡◌, ◌≤◌, length, map, min, option_map, IfOk};
+ghost use Rattle.std.specs.Prelude.{IfSome};
 ghost use Rattle.gd_prim.specs.declared.Batch.{Batch};
 ghost use Rattle.gd_prim.specs.History.{prims_of};
 ghost use Rattle.gd_defs.specs.Reply.{row_mark};
@@ -14,9 +15,9 @@ ghost use Rattle.gd_window.specs.Laws.{defined};
 ghost use Rattle.gd_window.specs.declared.row.Row.{Row as WindowRow};
 ghost use Rattle.gd_suspended_laws.specs.Standing.{marks_of, page_objects};
 ghost use Rattle.gd_thaw_laws.specs.Thawing.{between as scan_between};
-ghost use Rattle.gd_read.specs.Freezing.{BodyStands, IsFrozen};
+ghost use Rattle.gd_read.specs.Freezing.{BodyStands, IsFrozen, number_ahead};
 ghost use Rattle.gd_read.specs.Marked.{mark_of};
-ghost use Rattle.gd_read.specs.Stages.{Gathers, StageOwes};
+ghost use Rattle.gd_read.specs.Stages.{StageOwes, Visits};
 ghost use Rattle.gd_read.specs.declared.subject.Subject.{Subject as TheSubject};
 
 use crate::cursors::places_of;
@@ -24,6 +25,7 @@ use crate::gathering::Gathering;
 use crate::rows::page_of;
 use crate::stage::Stage;
 use crate::subject::Subject;
+use crate::visiting::Visiting;
 use gd_base::id::Id;
 use gd_base::memory::Memory;
 use gd_flat::frozen_list;
@@ -178,9 +180,50 @@ fn frozen_with(
     Ok(frozen(view, subject, rows, body))
 }
 
-/// A reading as it is put away. Where it visits places it is begun anew; of the page the trees are
-/// kept that were gathered, and where it is printed they are gathered anew. `Memory`: an allocation
-/// was refused.
+/// The number from which on a visit goes on: that of the place that is tried, which is tried anew, or
+/// else the one behind the last that was given. None: it lies past an end.
+fn next_number(visiting: &Visiting, end: Id) -> Option<Id>
+    ensures { IfSome result (λ number. (number ≡ number_ahead visiting.now.tried
+        visiting.now.last) × (number ≤ end)) }
+{
+    let last = match visiting.last {
+        Some(last) => last,
+        None => return Some(Id::new(0)),
+    };
+    if last >= end.place() as usize {
+        return None;
+    }
+    if visiting.tried.is_some() {
+        Some(Id::new(last as u32))
+    } else {
+        Some(Id::new(last as u32 + 1))
+    }
+}
+
+/// A reading that visits places, as it is put away: with the rows so far, at the next number. `Memory`:
+/// an allocation was refused.
+fn freeze_visit(
+    alloc: Global,
+    view: &View<'_>,
+    subject: &Subject,
+    window: &Window,
+    visiting: &Visiting,
+) -> Result<FrozenReading, Memory>
+    requires { Visits view.now subject.now visiting.now window.now }
+    ensures { IfOk result (λ reading. IsFrozen view.now subject.now (reading_of reading)) }
+{
+    match next_number(visiting, view.end()) {
+        Some(number) => {
+            let body = FrozenBody::Scan(scan_before(alloc, number));
+            frozen_with(alloc, view, subject, window, body)
+        }
+        None => Ok(frozen(view, subject, Vec::new(alloc), scan_again(alloc))),
+    }
+}
+
+/// A reading as it is put away. A place and a row that are tried are tried anew; of the page the trees
+/// are kept that were gathered, and where it is printed they are gathered anew. `Memory`: an
+/// allocation was refused.
 pub(crate) fn freeze_stage(
     alloc: Global,
     view: &View<'_>,
@@ -192,9 +235,7 @@ pub(crate) fn freeze_stage(
     ensures { IfOk result (λ reading. IsFrozen view.now subject.now (reading_of reading)) }
 {
     match stage {
-        Stage::Visiting(_) => {
-            Ok(frozen(view, subject, Vec::new(alloc), scan_again(alloc)))
-        }
+        Stage::Visiting(visiting) => freeze_visit(alloc, view, subject, window, visiting),
         Stage::Gathering(gathering) => {
             let body = gathered_body(alloc, gathering, window)?;
             frozen_with(alloc, view, subject, window, body)
