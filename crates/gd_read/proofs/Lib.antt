@@ -16,5 +16,5 @@ pub mod Going
 pub mod Together
 pub mod Paid
 pub mod Starts
-pub mod Freezing
+pub mod Frozen
 pub mod Walked
