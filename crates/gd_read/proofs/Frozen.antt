@@ -85,21 +85,21 @@ module _ (batches : List Batch) (s : Subject) where
       visits_stand (began batches s) q order left come.visited p w (asks q asked) (order_is q order asked finds) come.parts (sym walked ∙ sym (on_all order) ∙ ap (λ n. on n order) (sym is)) come.has within
   visit_at q order left None (Some n) w p asked finds come walked is within =
       visits_stand (began batches s) q order left come.visited p w (asks q asked) (order_is q order asked finds) come.parts
-      (sym (on_next walked.0 (n, walked.1.0) left (subst (λ (l : ScanOrder). Rising nat_cmp (map (λ d. d.0) l)) walked.1.1 finds.rises)) ∙ ap (on (n + 1)) (sym walked.1.1) ∙ ap (λ m. on m order) (sym is)) come.has within
+      (sym (on_next walked.0 (n, walked.1) left (subst (λ (l : ScanOrder). Rising nat_cmp (map (λ d. d.0) l)) walked.2 finds.rises)) ∙ ap (on (n + 1)) (sym walked.2) ∙ ap (λ m. on m order) (sym is)) come.has within
   visit_at q order left (Some r) None w p asked finds come walked is within =
       absurd (let e = ap length (ap places_of (sym walked) ∙ come.parts) in let k = length-append come.visited (r.place ∷ places_of left) in omega (arith, e, k))
   visit_at q order left (Some r) (Some n) w p asked finds come walked is within =
-      visits_stand (began batches s) q order ((n, walked.1.0) ∷ left) (places_of walked.0) p w (asks q asked) (order_is q order asked finds) parts
-      (sym (on_this walked.0 (n, walked.1.0) left (subst (λ (l : ScanOrder). Rising nat_cmp (map (λ d. d.0) l)) walked.1.1 finds.rises)) ∙ ap (on n) (sym walked.1.1) ∙ ap (λ m. on m order) (sym is))
+      visits_stand (began batches s) q order ((n, walked.1) ∷ left) (places_of walked.0) p w (asks q asked) (order_is q order asked finds) parts
+      (sym (on_this walked.0 (n, walked.1) left (subst (λ (l : ScanOrder). Rising nat_cmp (map (λ d. d.0) l)) walked.2 finds.rises)) ∙ ap (on n) (sym walked.2) ∙ ap (λ m. on m order) (sym is))
       (subst (λ os. HasVisited (prims_of batches) q (mark_of s.after) os w) before come.has) within
     where
-      parts : places_of order ≡ places_of walked.0 ++ places_of ((n, walked.1.0) ∷ left)
-      parts = ap places_of walked.1.1 ∙ map-places walked.0 ((n, walked.1.0) ∷ left)
+      parts : places_of order ≡ places_of walked.0 ++ places_of ((n, walked.1) ∷ left)
+      parts = ap places_of walked.2 ∙ map-places walked.0 ((n, walked.1) ∷ left)
 
       before : come.visited ≡ places_of walked.0
-      before = same_but_last come.visited (places_of walked.0) r.place walked.1.0
-          (same_front (come.visited ++ r.place ∷ []) (places_of walked.0 ++ walked.1.0 ∷ []) (places_of left)
-          (append_assoc come.visited (r.place ∷ []) (places_of left) ∙ sym come.parts ∙ parts ∙ sym (append_assoc (places_of walked.0) (walked.1.0 ∷ []) (places_of left))))
+      before = same_but_last come.visited (places_of walked.0) r.place walked.1
+          (same_front (come.visited ++ r.place ∷ []) (places_of walked.0 ++ walked.1 ∷ []) (places_of left)
+          (append_assoc come.visited (r.place ∷ []) (places_of left) ∙ sym come.parts ∙ parts ∙ sym (append_assoc (places_of walked.0) (walked.1 ∷ []) (places_of left))))
 
   -- LAW: where places are visited, it stands at the next number
   pub visit_stands : (v : Visiting) (w : Kept) (p : ℕ) → Visits batches s v w → p ≡ number_ahead v.tried v.last → p ≤ length (prims_of batches) → BodyStands batches s (marks_of w) (scanning (between p))
