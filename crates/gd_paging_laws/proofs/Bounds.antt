@@ -1,4 +1,4 @@
--- A query that was read has four sort keys at most, and a limit of one at least.
+-- A query that was read has four sort keys at most, and a limit of one at least and of 1,000 at most.
 use Rattle.std.proofs.Common.{◌≡◌, ◌≤◌, ◌<◌, ℕ, List, [], ◌∷◌, ◌++◌, Bool, true, false, ◌&&◌, Option, Some, None, Result, Ok, length, refl, ap, sym, subst, arith, pos}
 use Rattle.std.specs.Prelude.{if◌then◌else◌, option_map, unwrap_or, negsuc}
 use Rattle.std.specs.Option.{option_map_or}
@@ -25,10 +25,10 @@ Few query.no_members = Unit {0}
 Few (query.member n f ms) = Few ms
 Few (query.sort_by ws ms) = length ws ≤ 4
 
--- a limit that is there is one at least
+-- a limit that is there is one at least, and 1,000 at most
 abbrev Some_one : Option ℕ → Type 0
 Some_one None = Unit {0}
-Some_one (Some n) = 0 < n
+Some_one (Some n) = (0 < n) × (n ≤ 1000)
 
 record Bounded (c : Clause) : Type 0 where
   few : Few c.1
@@ -37,11 +37,14 @@ record Bounded (c : Clause) : Type 0 where
 within_one : (m : ℕ) → is_in_range 1 1000 m ≡ true → 0 < m
 within_one m within = grind (arith, nat_tests)
 
-limit_some : (j : Json) (n : ℕ) → limit_of j ≡ Some n → 0 < n
+within_all : (m : ℕ) → is_in_range 1 1000 m ≡ true → m ≤ 1000
+within_all m within = grind (arith, nat_tests)
+
+limit_some : (j : Json) (n : ℕ) → limit_of j ≡ Some n → (0 < n) × (n ≤ 1000)
 limit_some (number (pos m)) n is = by (is_in_range 1 1000 m) refl is
   where
-    by : (b : Bool) → is_in_range 1 1000 m ≡ b → (if b then Some m else None) ≡ Some n → 0 < n
-    by true within is = let least = within_one m within in let same = some_same m n is in omega arith
+    by : (b : Bool) → is_in_range 1 1000 m ≡ b → (if b then Some m else None) ≡ Some n → (0 < n) × (n ≤ 1000)
+    by true within is = let least = within_one m within in let most = within_all m within in let same = some_same m n is in (omega (arith, least, same), omega (arith, most, same))
     by false within is = absurd (cc)
 limit_some (number (negsuc m)) n is = absurd (cc)
 limit_some null n is = absurd (cc)
@@ -182,18 +185,38 @@ asked_few prims context path (query.sort_by ws ms) c few is =
 asked_few prims context path (query.member n f ms) c few is =
     member_few prims context (path ++ n.spelled ∷ []) n f (asked prims context path ms) (λ p. asked_form prims (path ++ n.spelled ∷ []) n p f) c (λ d made. asked_few prims context path ms d few made) is
 
--- THE LAW: a query that was read has four sort keys at most, and a limit of one at least
-pub read_bounded : (prims : List Primitive) (j : Json) (written : Query) (q : Asked) → query_of j ≡ Ok written → asked_query prims written ≡ Ok q → (length q.sort ≤ 4) × (0 < q.limit)
-read_bounded prims j written q spelled is =
+-- the bounds of a query whose words are looked up
+record AllBounded (q : Asked) : Type 0 where
+  few : length q.sort ≤ 4
+  some : 0 < q.limit
+  most : q.limit ≤ 1000
+
+all_bounded : (prims : List Primitive) (j : Json) (written : Query) (q : Asked) → query_of j ≡ Ok written → asked_query prims written ≡ Ok q → AllBounded q
+all_bounded prims j written q spelled is =
     let bounded = query_bounded j written spelled in
     let one = steps (context_of prims None (type_text written.members)) (λ t. asked prims t [] written.members >>= λ c. Ok (found c)) q is in
     let more = steps (asked prims one.value [] written.members) (λ c. Ok (found c)) q one.then_gave in
-    subst (λ (q : Asked). (length q.sort ≤ 4) × (0 < q.limit)) (ok_same (found more.value) q more.then_gave)
-    (asked_few prims one.value [] written.members more.value bounded.few more.gave, some_limit written.directives.limit bounded.some)
+    subst AllBounded (ok_same (found more.value) q more.then_gave) (record {
+      few = asked_few prims one.value [] written.members more.value bounded.few more.gave;
+      some = some_limit written.directives.limit bounded.some;
+      most = most_limit written.directives.limit bounded.some;
+    })
   where
     found : defs.Clause → Asked
     found c = record { listed = written.listed; single = asks_single written.listed written.directives; count = written.directives.count; limit = unwrap_or written.directives.limit 100; members = c.0; sort = c.1 }
 
     some_limit : (o : Option ℕ) → Some_one o → 0 < unwrap_or o 100
     some_limit None some = omega arith
-    some_limit (Some n) some = some
+    some_limit (Some n) some = some.0
+
+    most_limit : (o : Option ℕ) → Some_one o → unwrap_or o 100 ≤ 1000
+    most_limit None some = omega arith
+    most_limit (Some n) some = some.1
+
+-- THE LAW: a query that was read has four sort keys at most, and a limit of one at least
+pub read_bounded : (prims : List Primitive) (j : Json) (written : Query) (q : Asked) → query_of j ≡ Ok written → asked_query prims written ≡ Ok q → (length q.sort ≤ 4) × (0 < q.limit)
+read_bounded prims j written q spelled is = let all = all_bounded prims j written q spelled is in (all.few, all.some)
+
+-- THE LAW: and of 1,000 at most
+pub read_limited : (prims : List Primitive) (j : Json) (written : Query) (q : Asked) → query_of j ≡ Ok written → asked_query prims written ≡ Ok q → q.limit ≤ 1000
+read_limited prims j written q spelled is = (all_bounded prims j written q spelled is).most

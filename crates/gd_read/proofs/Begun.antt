@@ -1,7 +1,9 @@
 -- Readings that begin.
 use Rattle.std.proofs.Common.{◌≡◌, ◌≢◌, ℕ, ◌<◌, ◌≤◌, List, [], Bool, true, false, length, take, Option, Some, None, Result, Ok, Err, refl, ap, sym, subst, ◌∙◌, arith}
-use Rattle.std.specs.Prelude.{MatchResult, nat_lt, is_none, option_map}
+use Rattle.std.specs.Prelude.{◌∷◌, MatchResult, nat_lt, is_none, option_map, if◌then◌else◌}
 use Rattle.std.proofs.lemmas.List.{take_all, length-take-le}
+use Rattle.std.proofs.lemmas.Bool.{and_from, le-leb}
+use Rattle.std.specs.List.{AllByRecursion, list_all}
 use Rattle.gd_prim.specs.declared.Batch.{Batch}
 use Rattle.gd_prim.specs.declared.Primitive.{Primitive}
 use Rattle.gd_prim.specs.History.{prims_of, prims_at, AreHeld}
@@ -9,13 +11,16 @@ use Rattle.gd_tree.specs.Json.{Json}
 use Rattle.gd_defs.specs.Query as query
 use Rattle.gd_defs.specs.Query.{query_of}
 use Rattle.gd_defs.specs.Asked.{Asked, Unknown, asked_query}
-use Rattle.gd_defs.specs.Lines.{Refusal}
+use Rattle.gd_defs.specs.Lines.{Refusal, bad_cursor, cursor_ahead}
 use Rattle.gd_defs.specs.Reply.{Mark, reply, answer_line}
-use Rattle.gd_bytes.specs.Cursor.{Cursor, cursor_of}
+use Rattle.gd_bytes.specs.Cursor.{Cursor, Fits, PlaceFits, cursor_of, spelling}
+use Rattle.gd_bytes.specs.Frozen.{after_in_bounds, key_in_bounds, row_in_bounds}
+use Rattle.gd_bytes.proofs.CursorLaws.{cursor_says}
+use Rattle.gd_grammar.proofs.Scans.{Says}
 use Rattle.gd_form_laws.specs.Faults.{query_fault}
 use Rattle.gd_form_laws.specs.Spelled.{spelled_query}
 use Rattle.gd_form_laws.proofs.Clauses.{query-given}
-use Rattle.gd_paging_laws.proofs.Bounds.{read_bounded}
+use Rattle.gd_paging_laws.proofs.Bounds.{read_bounded, read_limited}
 use Rattle.gd_runs.specs.Core as core
 use Rattle.gd_runs.specs.Request.{ReadRequest, CursorAsk, no_cursor, first_page, page_after, asks_page}
 use Rattle.gd_json.specs.View.{view as json_view}
@@ -39,6 +44,14 @@ asked_bounded prims j q right is = read_bounded prims j (spelled_query j) q (que
     nothing : (o : Option query.Fault) → is_none o ≡ true → o ≡ None
     nothing None none = refl
     nothing (Some f) none = absurd (cc)
+
+-- and a limit within the bounds of texts
+pub asked_limited : (prims : List Primitive) (j : Json) (q : Asked) → is_none (query_fault j) ≡ true → asked_query prims (spelled_query j) ≡ Ok q → q.limit ≤ 1000
+asked_limited prims j q right is = read_limited prims j (spelled_query j) q (query-given j (none_is (query_fault j) right)) is
+  where
+    none_is : (o : Option query.Fault) → is_none o ≡ true → o ≡ None
+    none_is None none = refl
+    none_is (Some f) none = absurd (cc)
 
 -- the reading that begins behind a cursor, if there is one
 abbrev pub begun_behind : List Batch → ℕ → ReadRequest → Result (Option Cursor) (ℕ × Refusal) → Result core.Reading (ℕ × Refusal)
@@ -72,8 +85,8 @@ owed_is batches s k below =
 
 -- what the first slice of a reading knows of its query
 pub is_asked : (batches : List Batch) (s : Subject) (q : Asked) (end : ℕ) → s.dateline ≡ length batches → asked_query (prims_of batches) (written s) ≡ Ok q → AreHeld (prims_of batches) → end ≡ length (prims_of batches) → end ≤ 2_097_151
-    → is_none (query_fault (json_view s.request.query)) ≡ true → IsAsked batches s q
-is_asked batches s q end dateline asked held end_is few right =
+    → is_none (query_fault (json_view s.request.query)) ≡ true → after_in_bounds (mark_of s.after) ≡ true → IsAsked batches s q
+is_asked batches s q end dateline asked held end_is few right mark =
     let bounded = asked_bounded (prims_of batches) (json_view s.request.query) q right asked in
     record {
       below = sym dateline;
@@ -82,6 +95,7 @@ is_asked batches s q end dateline asked held end_is few right =
       end = subst (λ n. n ≤ 2_097_151) end_is few;
       few = bounded.0;
       some = bounded.1;
+      mark = mark;
     }
 
 with_same : (bs cs : List Batch) (r : ReadRequest) (n : ℕ) (after : Option Mark) (a : Result Asked Unknown) → core.with_meaning bs r n after a ≡ core.with_meaning cs r n after a
@@ -91,6 +105,45 @@ with_same bs cs r n after (Ok q) = refl
 marks_same : (after : Option Found) → mark_of after ≡ option_map (λ c. c.after) (option_map meant after)
 marks_same None = refl
 marks_same (Some c) = refl
+
+-- what a read begins behind, of the cursor that its text spells
+abbrev from_cursor : ℕ → Result Cursor ℕ → Result (Option Cursor) (ℕ × Refusal)
+from_cursor latest (Err offset) = Err (latest, bad_cursor offset)
+from_cursor latest (Ok c) = if nat_lt latest c.dateline then Err (latest, cursor_ahead c.dateline latest) else Ok (Some c)
+
+from_is : (latest : ℕ) (t : List ℕ) → asked_from latest (page_after t) ≡ from_cursor latest (cursor_of t)
+from_is latest t = by (cursor_of t) refl
+  where
+    by : (r : Result Cursor ℕ) → cursor_of t ≡ r → asked_from latest (page_after t) ≡ from_cursor latest r
+    by (Err offset) told = rw told refl
+    by (Ok c) told = rw told refl
+
+keys_bounded : (ks : List (Option ℕ)) → AllByRecursion PlaceFits ks → list_all key_in_bounds ks ≡ true
+keys_bounded [] fit = refl
+keys_bounded (None ∷ ks) fit = keys_bounded ks fit.1
+keys_bounded (Some p ∷ ks) fit = and_from _ _ (le-leb p 2_097_151 fit.0) (keys_bounded ks fit.1)
+
+-- the row of a cursor that fits can be spelt in a frozen reading
+row_bounded : (c : Cursor) → Fits c → row_in_bounds c.after ≡ true
+row_bounded c fit = and_from _ _ (and_from _ _ (le-leb c.after.object 2_097_151 fit.object) (le-leb (length c.after.keys) 4 fit.few)) (keys_bounded c.after.keys fit.keys)
+
+-- LAW: so can that of the cursor from which a read asks
+pub cursor_bounded : (latest : ℕ) (a : CursorAsk) (after : Option Found) → asked_from latest a ≡ Ok (option_map meant after) → after_in_bounds (mark_of after) ≡ true
+cursor_bounded latest a None is = refl
+cursor_bounded latest no_cursor (Some c) is = absurd (cc)
+cursor_bounded latest first_page (Some c) is = absurd (cc)
+cursor_bounded latest (page_after t) (Some c) is = by (cursor_of t) (cursor_says t) (sym (from_is latest t) ∙ is)
+  where
+    given : Result (Option Cursor) (ℕ × Refusal) → Type 0
+    given r = r ≡ Ok (Some (meant c))
+
+    by : (r : Result Cursor ℕ) → Says spelling Fits t r → given (from_cursor latest r) → after_in_bounds (Some (meant c).after) ≡ true
+    by (Err offset) says e = absurd (cc)
+    by (Ok d) says e = ahead (nat_lt latest d.dateline) e
+      where
+        ahead : (b : Bool) → given (if b then Err (latest, cursor_ahead d.dateline latest) else Ok (Some d)) → after_in_bounds (Some (meant c).after) ≡ true
+        ahead true e = absurd (cc)
+        ahead false e = let same : d ≡ meant c = cc in subst (λ (k : Cursor). row_in_bounds k.after ≡ true) same (row_bounded d says.0)
 
 -- LAW: a cursor that is refused
 pub begins_err : (batches : List Batch) (latest : ℕ) (r : ReadRequest) (f : ℕ × Refusal) → asked_from latest r.cursor ≡ Err f → core.query_reading batches latest r ≡ Err f

@@ -16,3 +16,5 @@ pub mod Going
 pub mod Together
 pub mod Paid
 pub mod Starts
+pub mod Frozen
+pub mod Walked

@@ -53,7 +53,7 @@ walks_smallest batches r t walk scans ahead = IfOk-weaker walk _ _ (λ u set ask
 -- LAW: a visit of a smallest set, and the page behind it
 pub visit_paid : (batches : List Batch) (plan : Found) (walk : Walk) (t : Template) → t ≡ template_of (asked_view plan)
     → ((asking : Query) (q : Asked) → length (prims_of batches) ≤ 2_097_151 → asked_query (prims_of batches) asking ≡ Ok q → template_of q ≡ t → WalksSmallest batches q walk)
-    → StageIsPaid batches plan (stage.Visiting (record { plan = plan; walk = walk; tried = None }))
+    → StageIsPaid batches plan (stage.Visiting (record { plan = plan; walk = walk; last = None; tried = None }))
 visit_paid batches plan walk t same smallest = λ n asking after asked held few.
     let least = smallest asking (asked_view plan) few asked (sym same) in
     by _ _ _ _ (least.few (visit_turns (prims_of batches) (asked_view plan))) (readings_are_paid (prims_of batches) asking (asked_view plan) held (history_some batches) asked after least.set least.smallest)

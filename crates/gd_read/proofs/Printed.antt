@@ -101,6 +101,8 @@ module _ (batches : List Batch) (s : Subject) where
     trees = body_trees body;
     asked = built.asked;
     kept = built.kept;
+    fit = built.fit;
+    begun = built.begun;
     one = one;
     prints = page ∙ ap (λ (a : Found). body_print (prims_of batches) (asked_view a) body) same ∙ built.prints;
     known = known;
@@ -114,6 +116,8 @@ module _ (batches : List Batch) (s : Subject) where
     trees = prints.trees;
     asked = prints.asked;
     kept = prints.kept;
+    fit = prints.fit;
+    begun = prints.begun;
     one = prints.one;
     prints = ap (λ n. count_or n (page_shape (prims_of batches) (asked_of new) (trees_in new) (walks_in new))) same.count
         ∙ ap (λ q. count_or shape.count (page_shape (prims_of batches) q (trees_in new) (walks_in new))) same.asked

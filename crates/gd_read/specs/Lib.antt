@@ -17,3 +17,4 @@ pub mod Start
 pub mod Lightness
 pub mod Heavy
 pub mod Paid
+pub mod Freezing

@@ -11,7 +11,7 @@ use Rattle.gd_defs.specs.Template.{is_answer, passes_template, tree_of, weight}
 use Rattle.gd_defs.specs.Lines.{count_json}
 use Rattle.gd_defs.specs.Reply.{Mark, Answer, Path, is_ambiguous}
 use Rattle.gd_defs.specs.Reply as reply
-use Rattle.gd_bytes.specs.Frozen.{Body, building, printing}
+use Rattle.gd_bytes.specs.Frozen.{Body, building, printing, after_in_bounds}
 use Rattle.gd_runs.specs.Owed.{ScanOrder}
 use Rattle.gd_runs.specs.Scanned.{scan_order}
 use Rattle.gd_runs.specs.Shape.{page_shape}
@@ -20,6 +20,7 @@ use Rattle.gd_runs.specs.Request.{asks_page}
 use Rattle.gd_scan_laws.specs.Ordered.{start}
 use Rattle.gd_match.specs.Rooted.{walk_left, walk_order}
 use Rattle.gd_suspended_laws.specs.Standing.{rows_of, marks_of, page_rows, IsKept, window_of, page_objects, trees_among, weight_among}
+use Rattle.gd_thaw_laws.specs.Standing.{RowsFit}
 use Rattle.gd_left_laws.specs.Laws.{KeepsPage}
 use Rattle.gd_mql.specs.Requests.{cursor_view}
 use Rattle.gd_plan.specs.Asked.{asked_view}
@@ -30,7 +31,7 @@ use Rattle.gd_shape.specs.Shaping.{page_of, body_print, IsOf, IsBodyOf}
 use Rattle.gd_shape.specs.declared.shape.PageBody.{PageBody}
 use Rattle.gd_shape.specs.declared.shape.PageBody.TheVariants as page
 use Rattle.gd_shape.specs.declared.shape.Shape.{Shape}
-use Rattle.gd_read.specs.Come.{HasAll, HasCome, places_of}
+use Rattle.gd_read.specs.Come.{HasAll, HasCome, HasWalked, places_of}
 use Rattle.gd_read.specs.Marked.{mark_of}
 use Rattle.gd_read.specs.Subject.{written, answer_of}
 use Rattle.gd_read.specs.declared.subject.Subject.{Subject}
@@ -48,7 +49,7 @@ use Rattle.gd_read.specs.declared.stage.Stage.TheVariants as stage
 
 -- ---- a query that is read
 
--- this is what the query asks, with few sort keys and a limit, over batches within the limits of a store
+-- this is what the query asks, with few sort keys and a limit, over batches within the limits of a store; the row after which its page begins can be spelt
 pub record IsAsked (batches : List Batch) (s : Subject) (q : Asked) : Type 0 where
   pub below : length batches ≡ s.dateline
   pub asked : asked_query (prims_of batches) (written s) ≡ Ok q
@@ -56,6 +57,7 @@ pub record IsAsked (batches : List Batch) (s : Subject) (q : Asked) : Type 0 whe
   pub end : length (prims_of batches) ≤ 2_097_151
   pub few : length q.sort ≤ 4
   pub some : 0 < q.limit
+  pub mark : after_in_bounds (mark_of s.after) ≡ true
 
 -- the answer that a body owes with the rows that a window keeps, where it no longer scans
 abbrev pub body_owes : List Batch → Subject → Asked → Kept → Body → Answer
@@ -68,12 +70,13 @@ abbrev pub places_ahead : Option Trying → ScanOrder → List ℕ
 places_ahead None left = places_of left
 places_ahead (Some tried) left = tried.place ∷ places_of left
 
--- a reading visits the places of a walk, among which each that passes is; it has visited the first of them, and the next one may be tried
+-- a reading visits the places of a walk, among which each that passes is; it has visited the first of them, and the next one may be tried; the number of the last that the walk gave is known
 pub record Visits (batches : List Batch) (s : Subject) (v : Visiting) (w : Kept) : Type 0 where
   pub asked : IsAsked batches s (asked_view v.plan)
   pub finds : HasAll (prims_of batches) (template_of (asked_view v.plan)) (walk_order batches (template_of (asked_view v.plan)) v.walk)
   pub come : HasCome (prims_of batches) (asked_view v.plan) (mark_of s.after) (places_of (walk_order batches (template_of (asked_view v.plan)) v.walk)) (places_ahead v.tried (walk_left batches (template_of (asked_view v.plan)) v.walk)) w
   pub tried : IfSome v.tried (Tries batches (template_of (asked_view v.plan)))
+  pub walked : HasWalked (walk_order batches (template_of (asked_view v.plan)) v.walk) (walk_left batches (template_of (asked_view v.plan)) v.walk) v.last
 
 -- ---- the end of a scan
 
@@ -82,6 +85,7 @@ pub record IsScanned (batches : List Batch) (s : Subject) (plan : Found) (w : Ke
   pub asked : IsAsked batches s (asked_view plan)
   pub kept : IsKept (prims_of batches) (asked_view plan) (mark_of s.after) w
   pub keeps : KeepsPage (prims_of batches) (asked_view plan) (mark_of s.after) w
+  pub fit : RowsFit (prims_of batches) (asked_view plan) w
   pub owes : body_owes batches s (asked_view plan) w (building 0 no_trees start) ≡ answer_of batches s
 
 -- ---- gathering
@@ -169,20 +173,24 @@ abbrev pub HasPage : List Primitive → Asked → Option Mark → PageBody → T
 HasPage prims q after (page.Trees ts) = ((q.count || reply.is_too_wide prims q after) ≡ false) × IsBodyOf prims q (reply.page prims q after) (page.Trees ts)
 HasPage prims q after (page.Count n) = Unit {0}
 
--- a page is to be printed from a body
+-- a page is to be printed from a body; it may still be built anew
 pub record IsBuilt (batches : List Batch) (s : Subject) (plan : Found) (body : PageBody) (w : Kept) : Type 0 where
   pub asked : IsAsked batches s (asked_view plan)
   pub kept : IsKept (prims_of batches) (asked_view plan) (mark_of s.after) w
+  pub fit : RowsFit (prims_of batches) (asked_view plan) w
+  pub begun : body_owes batches s (asked_view plan) w (building 0 no_trees start) ≡ answer_of batches s
   pub has : HasPage (prims_of batches) (asked_view plan) (mark_of s.after) body
   pub prints : body_print (prims_of batches) (asked_view plan) body ≡ page_prints (prims_of batches) (asked_view plan) w (body_trees body)
   pub owes : body_owes batches s (asked_view plan) w (printing 0 (body_trees body) []) ≡ answer_of batches s
 
--- a reading prints the page of a query from trees, or their count, and owes its answer
+-- a reading prints the page of a query from trees, or their count, and owes its answer; the page may still be built anew
 pub record Prints (batches : List Batch) (s : Subject) (shape : Shape) (w : Kept) : Type 0 where
   pub q : Asked
   pub trees : Trees
   pub asked : IsAsked batches s q
   pub kept : IsKept (prims_of batches) q (mark_of s.after) w
+  pub fit : RowsFit (prims_of batches) q w
+  pub begun : body_owes batches s q w (building 0 no_trees start) ≡ answer_of batches s
   pub one : is_ambiguous q.single (length (rows_of w)) ≡ false
   pub prints : page_of (prims_of batches) shape ≡ page_prints (prims_of batches) q w trees
   pub known : IsOf (prims_of batches) shape

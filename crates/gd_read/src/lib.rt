@@ -8,6 +8,7 @@ mod cursors;
 pub mod dateline;
 pub mod fault;
 mod first;
+mod freezing;
 mod gathering;
 pub mod keys;
 mod printing;

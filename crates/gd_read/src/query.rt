@@ -8,6 +8,7 @@ ghost use Rattle.gd_defs.specs.Asked.{asked_query};
 ghost use Rattle.gd_defs.specs.Cost.{resolving};
 ghost use Rattle.gd_defs.specs.Plan.{template_of};
 ghost use Rattle.gd_defs.specs.Reply.{unknown_refusal};
+ghost use Rattle.gd_bytes.specs.Frozen.{after_in_bounds};
 ghost use Rattle.gd_runs.specs.Core as core;
 ghost use Rattle.gd_runs.specs.Pace.{DueOf, begin_steps, first_number};
 ghost use Rattle.gd_runs.specs.Request.{page_after, one_query};
@@ -17,6 +18,7 @@ ghost use Rattle.gd_compile.specs.Fault.{unknown_of};
 ghost use Rattle.gd_runs.specs.RootSets.{sets_by_link};
 ghost use Rattle.gd_roots.specs.Sets.{numbered};
 ghost use Rattle.gd_template.specs.Built.{its_clauses};
+ghost use Rattle.gd_frozen.specs.Meaning.{reading_of};
 ghost use Rattle.gd_frozen.specs.Meant.{meant};
 ghost use Rattle.gd_window.specs.Kept.{HasSeen};
 ghost use Rattle.gd_read.specs.Marked.{mark_of};
@@ -25,6 +27,7 @@ ghost use Rattle.gd_read.specs.Begun.{fault_at, HasOffset, asked_from, dateline_
 ghost use Rattle.gd_read.specs.Begun.{IsMeaningless};
 ghost use Rattle.gd_reply.specs.Answers.{Tells};
 ghost use Rattle.gd_read.specs.Subject.{answer_of};
+ghost use Rattle.gd_read.specs.Freezing.{IsFrozen};
 ghost use Rattle.gd_read.specs.Stages.{IsAsked};
 ghost use Rattle.gd_read.specs.Query.{one_view, QueryGoes, owed_answer, Gives, is_unanswered};
 ghost use Rattle.gd_read.specs.Left.{IsPastIds, query_left};
@@ -33,6 +36,7 @@ ghost use Rattle.gd_read.specs.Start.{start_steps};
 
 use crate::fault::ReadFault;
 use crate::first::first_stage;
+use crate::freezing::freeze_stage;
 use crate::rows::window_behind;
 use crate::stage::{Round, Stage};
 use crate::subject::Subject;
@@ -41,6 +45,7 @@ use gd_base::steps::Steps;
 use gd_compile::compile::compile;
 use gd_compile::fault::Unknown;
 use gd_frozen::cursor::Cursor;
+use gd_frozen::frozen::FrozenReading;
 use gd_frozen::{FrozenFault, cursor_from};
 use gd_iter_core::budget::Budget;
 use gd_json::value::JsonText;
@@ -233,6 +238,7 @@ pub(crate) fn planned<L>(
 ) -> Result<QueryReading, Memory>
     requires planned { asked_query (prims_of view.now) (read_view request).query
         ≡ Ok (asked_view plan) }
+    requires mark { after_in_bounds (mark_of after) ≡ true }
     ensures subject { IfOk result (λ reading. reading.subject ≡ record {
       request = request;
       dateline = length view.now;
@@ -263,6 +269,7 @@ fn begin_at<L>(
     request: ReadRequest,
     steps: &mut Steps<L>,
 ) -> Result<QueryReading, ReadFault>
+    requires mark { after_in_bounds (mark_of after) ≡ true }
     ensures begun { MatchResult result
         (λ reading. core.with_meaning [] (read_view request) (length view.now) (mark_of after)
         (asked_query (prims_of view.now) (read_view request).query) ≡ Ok (one_view reading))
@@ -340,6 +347,16 @@ impl QueryReading {
         ensures { result ≡ (one_view self.now).dateline }
     {
         self.subject.dateline
+    }
+
+    /// The reading as it is put away, over a view of its dateline: a frozen reading that has a text,
+    /// fits the query and owes the same answer. `Memory`: an allocation was refused.
+    pub fn freeze(&self, alloc: Global, view: &View<'_>) -> Result<FrozenReading, Memory>
+        requires going { QueryGoes view.now self.now }
+        ensures { IfOk result (λ frozen. IsFrozen view.now self.now.subject
+            (reading_of frozen)) }
+    {
+        freeze_stage(alloc, view, &self.subject, &self.window, &self.stage)
     }
 
     /// The request, when the reading is done with.

@@ -5,6 +5,7 @@ ghost use Rattle.gd_runs.specs.Core as core;
 ghost use Rattle.gd_runs.specs.Pace.{DueOf, first_number};
 ghost use Rattle.gd_mql.specs.Requests.{read_set_view};
 ghost use Rattle.gd_read.specs.Begun.{HasOffset, Begins};
+ghost use Rattle.gd_read.specs.Freezing.{ReadingFreezes};
 ghost use Rattle.gd_read.specs.Query.{one_view, QueryGoes};
 ghost use Rattle.gd_read.specs.Reading.{reading_view, IsGoing, Replies, is_unfinished};
 ghost use Rattle.gd_read.specs.Left.{IsPastIds, query_left, reading_left};
@@ -16,6 +17,7 @@ use crate::query::{QueryReading, Turn};
 use crate::several::SeveralReading;
 use gd_base::memory::Memory;
 use gd_base::steps::Steps;
+use gd_frozen::frozen::FrozenReading;
 use gd_mql::request::ReadSet;
 use gd_store::view::View;
 use std::alloc::Global;
@@ -127,6 +129,22 @@ impl Reading {
         match self {
             Reading::One(reading) => reading.dateline(),
             Reading::Several(reading) => reading.dateline,
+        }
+    }
+
+    /// The reading as it is put away, over a view of its dateline, if it is of one query. `Memory`:
+    /// an allocation was refused.
+    pub fn freeze(
+        &self,
+        alloc: Global,
+        view: &View<'_>,
+    ) -> Result<Option<FrozenReading>, Memory>
+        requires going { IsGoing view.now self.now }
+        ensures { IfOk result (λ given. ReadingFreezes view.now self.now given) }
+    {
+        match self {
+            Reading::One(reading) => Ok(Some(reading.freeze(alloc, view)?)),
+            Reading::Several(_) => Ok(None),
         }
     }
 

@@ -4,6 +4,7 @@ ghost use Rattle.std.specs.Prelude.{min, option_map, IfOk, IfErr, IfSome};
 ghost use Rattle.gd_mql.specs.Requests.{read_set_view};
 ghost use Rattle.gd_runs.specs.Core as core;
 ghost use Rattle.gd_runs.specs.Pace.{DueOf, first_number};
+ghost use Rattle.gd_read.specs.Freezing.{FreezesTo, text_in};
 ghost use Rattle.gd_read.specs.Left.{IsPastIds};
 ghost use Rattle.gd_read.specs.Reading.{reading_view, Replies, is_unfinished};
 ghost use Rattle.gd_read.specs.Session.{reads, GoesOn, HoldsGoing, left_of, session_left, BeginsAs};
@@ -14,6 +15,7 @@ use crate::fault::ReadFault;
 use crate::reading::{Progress, Reading};
 use gd_base::memory::Memory;
 use gd_base::steps::Steps;
+use gd_frozen::frozen_text;
 use gd_mql::request::ReadSet;
 use gd_store::store::Store;
 use std::alloc::Global;
@@ -53,6 +55,23 @@ fn slice_over<L>(
     reading.slice(alloc, &view, budget, line, steps)
 }
 
+/// The text of a reading that is put away, over a store with the batches below its dateline.
+fn text_over(
+    alloc: Global,
+    store: &Store,
+    reading: &Reading,
+) -> Result<Option<Vec<u8>>, Memory>
+    requires going { GoesOn store.now (length store.now) reading.now }
+    ensures { IfOk result (λ given. FreezesTo store.now (reading_view reading.now)
+        (text_in given)) }
+{
+    let view = store.view(reading.dateline());
+    match reading.freeze(alloc, &view)? {
+        Some(frozen) => Ok(Some(frozen_text(alloc, &frozen)?)),
+        None => Ok(None),
+    }
+}
+
 impl SessionState {
     /// No reading is held.
     pub fn none() -> SessionState
@@ -79,6 +98,21 @@ impl SessionState {
             Some(reading) => reading.is_several(),
             None => false,
         }
+    }
+
+    /// The text of the reading that is held, which stays as it is, over a store with the batches
+    /// below its dateline: None where it is of several queries. It may be taken up again at what
+    /// the text says, and owes the same reply then. `Memory`: an allocation was refused.
+    pub fn freeze(&self, alloc: Global, store: &Store) -> Result<Option<Vec<u8>>, Memory>
+        requires held { reads self.now ≢ None }
+        requires going { HoldsGoing store.now (length store.now) self.now }
+        ensures { IfOk result (λ given. IfSome (reads self.now)
+            (λ r. FreezesTo store.now r (text_in given))) }
+    {
+        let Some(reading) = &self.reading else {
+            unreachable!()
+        };
+        text_over(alloc, store, reading)
     }
 
     /// Drops the reading that is held, if one is.

@@ -37,7 +37,7 @@ in_front (y ∷ xs) ys x (inl same) = inl same
 in_front (y ∷ xs) ys x (inr there) = inr (in_front xs ys x there)
 
 -- what meets constraints is a place of the list
-met_inside : (prims : List Primitive) (cs : List Constraint) (o : ℕ) → meets_constraints prims cs o ≡ true → o < length prims
+pub met_inside : (prims : List Primitive) (cs : List Constraint) (o : ℕ) → meets_constraints prims cs o ≡ true → o < length prims
 met_inside prims cs o meets =
     let live = and_parts (is_live prims o) (list_all (λ c. holds prims c o) cs) meets in
     let placed = and_parts (passes_at (λ p. p.live) prims o) (is_current prims o) live.0 in

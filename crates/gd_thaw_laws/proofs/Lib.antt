@@ -9,3 +9,5 @@ pub mod Freezing
 pub mod Few
 pub mod Alone
 pub mod Told
+pub mod Spelled
+pub mod Standing

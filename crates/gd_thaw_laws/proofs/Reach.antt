@@ -141,7 +141,7 @@ module _ (prims : List Primitive) (t : Template) where
 
 module _ {A : Type 0} where
   -- lists with one end have one front
-  same_front : (xs ys zs : List A) → xs ++ zs ≡ ys ++ zs → xs ≡ ys
+  pub same_front : (xs ys zs : List A) → xs ++ zs ≡ ys ++ zs → xs ≡ ys
   same_front [] [] zs e = refl
   same_front [] (y ∷ ys) zs e = let l = ap length e in let k = length-append (y ∷ ys) zs in absurd (omega (arith, l, k))
   same_front (x ∷ xs) [] zs e = let l = ap length e in let k = length-append (x ∷ xs) zs in absurd (omega (arith, l, k))

@@ -36,7 +36,7 @@ module _ (prims : List Primitive) (t : Template) where
       by false passes more = more
 
   -- the places of candidates
-  firsts : (xs : ScanOrder) → map (λ c. candidate prims t c.1) xs ≡ map (candidate prims t) (map (λ c. c.1) xs)
+  pub firsts : (xs : ScanOrder) → map (λ c. candidate prims t c.1) xs ≡ map (candidate prims t) (map (λ c. c.1) xs)
   firsts [] = refl
   firsts (c ∷ xs) = ap (λ (l : List Candidate). candidate prims t c.1 ∷ l) (firsts xs)
 

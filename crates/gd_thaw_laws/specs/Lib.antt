@@ -4,3 +4,5 @@ pub mod Grown
 pub mod Freezing
 pub mod Alone
 pub mod Told
+pub mod Spelled
+pub mod Standing

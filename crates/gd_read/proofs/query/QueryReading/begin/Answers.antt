@@ -1,11 +1,14 @@
 use Rattle.std.proofs.Common.{subst, sym, Err, length, option_map, ◌≡◌, ◌≤◌}
 use Rattle.gd_mql.specs.Requests.{cursor_view, read_view}
 use Rattle.gd_read.specs.Begun.{asked_from, fault_at}
-use Rattle.gd_read.proofs.Begun.{begins_err, begins_ok}
+use Rattle.gd_read.proofs.Begun.{begins_err, begins_ok, cursor_bounded}
 use Rattle.gd_frozen.specs.Meant.{meant}
 use Rattle.gd_read.proofs.Paid.{first_paid}
 use Rattle.gd_read.proofs.Starts.{starts_at, starts_none}
 use Rattle.gd_read.proofs.query.QueryReading.begin.Goals as goal
+
+pub begin_at-requires : goal.begin_at-requires
+begin_at-requires g c = record { mark = cursor_bounded c.dateline-latest.result (cursor_view c.args.request.cursor) c.in-Ok.after c.in-Ok.ensures.given }
 
 pub returns-in-Err-clause-begun : goal.returns-in-Err-clause-begun
 returns-in-Err-clause-begun g c = λ wanted.

@@ -1,0 +1,14 @@
+use Rattle.std.proofs.Common.{subst, sym}
+use Rattle.gd_bytes.specs.Frozen.{Body}
+use Rattle.gd_suspended_laws.specs.Standing.{marks_of}
+use Rattle.gd_read.specs.Freezing.{BodyStands}
+use Rattle.gd_read.specs.Stages.{StageOwes}
+use Rattle.gd_read.specs.declared.stage.Stage.{Stage}
+use Rattle.gd_read.proofs.Frozen.{gathered_stands}
+use Rattle.gd_read.proofs.freezing.freeze_stage.Goals as goal
+
+pub frozen_with-requires : goal.frozen_with-requires
+frozen_with-requires c =
+    subst (λ (b : Body). BodyStands c.args.view.now c.args.subject.now (marks_of c.args.window.now) b) (sym c.in_ok-body-in-Gathering.ensures)
+    (gathered_stands c.args.view.now c.args.subject.now c.in-Gathering.gathering c.args.window.now
+    (subst (λ (st : Stage). StageOwes c.args.view.now c.args.subject.now st c.args.window.now) c.in-Gathering.is c.requires))
