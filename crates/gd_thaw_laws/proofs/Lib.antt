@@ -8,3 +8,4 @@ pub mod Grown
 pub mod Freezing
 pub mod Few
 pub mod Alone
+pub mod Owing
