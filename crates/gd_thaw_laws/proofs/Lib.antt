@@ -9,3 +9,4 @@ pub mod Freezing
 pub mod Few
 pub mod Alone
 pub mod Owing
+pub mod Thawed
