@@ -41,7 +41,7 @@ keys_none prims sort k none first = subst (λ (n : ℕ). HasKeys prims sort (rec
 })
 
 take_next : {A : Type 0} (xs : List A) (n : ℕ) (x : A) → n < length xs → x ≡ get_or xs n x → take (n + 1) xs ≡ take n xs ++ x ∷ []
-take_next xs n x within is = rw add-one (by xs n within is)
+take_next {A = A} xs n x within is = rw add-one (by xs n within is)
   where
     by : (ys : List A) (m : ℕ) → m < length ys → x ≡ get_or ys m x → take (suc m) ys ≡ take m ys ++ x ∷ []
     by [] m inside same = absurd (omega (arith, inside))
@@ -61,20 +61,17 @@ pub keys_more : (prims : List Primitive) (sort : List SortKey) (k m : Keying) (s
     → place ≡ key_place prims k.object (sort_key_view s) → found ≡ key_at prims (sort_key_view s) place
     → m.object ≡ k.object → m.keys.items ≡ k.keys.items ++ found ∷ [] → m.next ≡ 0 → HasKeys prims sort m
 keys_more prims sort k m s place found has some at is same object more first = subst (λ (n : ℕ). HasKeys prims sort (record m { next = n })) (sym first) (record {
-  keys = more ∙ ap (λ l. l ++ found ∷ []) has.keys ∙ ap (λ x. map (own_key prims k.object) (map sort_key_view (take n sort)) ++ x ∷ []) (same ∙ ap (key_at prims (sort_key_view s)) is)
-      ∙ sym (map_next (own_key prims k.object) (map sort_key_view (take n sort)) (sort_key_view s))
-      ∙ ap (map (own_key prims k.object)) (sym (map_next sort_key_view (take n sort) s))
-      ∙ ap (λ l. map (own_key prims k.object) (map sort_key_view l)) (sym (take_next sort n s some at))
-      ∙ ap (λ o. map (own_key prims o) (map sort_key_view (take (n + 1) sort))) (sym object)
+  keys = more ∙ ap (λ l. l ++ found ∷ []) has.keys ∙ ap (λ x. map (own_key prims k.object) (map sort_key_view (take (length k.keys.items) sort)) ++ x ∷ []) (same ∙ ap (key_at prims (sort_key_view s)) is)
+      ∙ sym (map_next (own_key prims k.object) (map sort_key_view (take (length k.keys.items) sort)) (sort_key_view s))
+      ∙ ap (map (own_key prims k.object)) (sym (map_next sort_key_view (take (length k.keys.items) sort) s))
+      ∙ ap (λ l. map (own_key prims k.object) (map sort_key_view l)) (sym (take_next sort (length k.keys.items) s some at))
+      ∙ ap (λ o. map (own_key prims o) (map sort_key_view (take (length k.keys.items + 1) sort))) (sym object)
       ∙ ap (λ l. map (own_key prims m.object) (map sort_key_view (take l sort))) (sym count);
   few = let c = count in omega (arith, some, c);
   looked = none_looked prims m.object (slice_get sort (length m.keys.items));
 })
   where
-    abbrev n : ℕ
-    n = length k.keys.items
-
-    count : length m.keys.items ≡ n + 1
+    count : length m.keys.items ≡ length k.keys.items + 1
     count = ap length more ∙ length_next k.keys.items found
 
 at_index : {A : Type 0} (xs : List A) (n : ℕ) (x : A) → n < length xs → x ≡ get_or xs n x → slice_get xs n ≡ Some x

@@ -1,5 +1,5 @@
 -- Readings that print their page.
-use Rattle.std.proofs.Common.{◌≡◌, ℕ, ◌-◌, List, [], ◌∷◌, Bool, true, false, length, map, take, Some, None, Result, Ok, Err, refl, ap, sym, ◌∙◌, arith, Option}
+use Rattle.std.proofs.Common.{◌≡◌, ℕ, ◌-◌, List, [], ◌∷◌, Bool, true, false, length, map, take, Some, None, Result, Ok, Err, refl, ap, sym, subst, ◌∙◌, arith, Option}
 use Rattle.std.specs.Prelude.{nat_lt, slice_get, if◌then◌else◌, codes}
 use Rattle.std.specs.List.{last_or}
 use Rattle.gd_prim.specs.declared.Batch.{Batch}

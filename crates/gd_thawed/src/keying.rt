@@ -59,7 +59,8 @@ fn place_of<L>(
 impl Keying {
     /// None of an object's keys was found.
     pub(crate) fn begin(alloc: Global, object: Id) -> Keying
-        ensures { result ≡ record { object = object; keys = result.keys; next = 0 } }
+        ensures object { result.object ≡ object }
+        ensures first { result.next ≡ 0 }
         ensures none { result.keys.items ≡ [] }
     {
         Keying {
@@ -95,11 +96,14 @@ impl Keying {
         ensures later { steps.old ≤ steps.new }
     {
         let key = &asked.sort[self.keys.len()];
-        if let Some(place) = place_of(view, key, self.object, &mut self.next, budget, steps) {
-            self.keys.push(key_at(view.primitives(), key, place)?)?;
-            self.next = 0;
+        match place_of(view, key, self.object, &mut self.next, budget, steps) {
+            Some(place) => {
+                self.keys.push(key_at(view.primitives(), key, place)?)?;
+                self.next = 0;
+                Ok(())
+            }
+            None => Ok(()),
         }
-        Ok(())
     }
 
     /// The row, once all keys are known.
