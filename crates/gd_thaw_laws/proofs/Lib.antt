@@ -11,3 +11,5 @@ pub mod Alone
 pub mod Told
 pub mod Spelled
 pub mod Standing
+pub mod Owing
+pub mod Thawed

@@ -1,0 +1,9 @@
+use Rattle.std.proofs.Common.{◌≡◌, length, take}
+use Rattle.gd_window.specs.Laws.{places}
+use Rattle.gd_thawed.proofs.cursors.places_of.Given as goal
+
+abbrev pub invariant-loop-key : goal.invariant-loop-key
+invariant-loop-key l = record {
+  places : l.places ≡ places (take l.key-index l.keys);
+  count : length l.places ≡ l.key-index;
+}

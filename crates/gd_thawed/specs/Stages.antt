@@ -1,0 +1,171 @@
+-- Where a reading stands that goes on from a frozen text: what it does, over the batches below its dateline, so that it owes an answer.
+use Rattle.std.specs.Prelude.{◌≡◌, ◌<◌, ◌≤◌, ℕ, List, [], ◌∷◌, map, length, true, false, Option, Some, None, Result, Ok, if◌then◌else◌}
+use Rattle.std.specs.List.{list_any}
+use Rattle.gd_prim.specs.declared.Batch.{Batch}
+use Rattle.gd_prim.specs.declared.Primitive.{Primitive}
+use Rattle.gd_prim.specs.History.{prims_of, AreHeld}
+use Rattle.gd_grammar.specs.Mark.{Mark}
+use Rattle.gd_tree.specs.Json.{Json}
+use Rattle.gd_tree.specs.Trees.{Trees, no_trees, trees_of, list_of}
+use Rattle.gd_defs.specs.Asked.{Asked}
+use Rattle.gd_defs.specs.Plan.{template_of}
+use Rattle.gd_defs.specs.Template.{Hop, Template}
+use Rattle.gd_defs.specs.Lines.{count_json}
+use Rattle.gd_defs.specs.Reply.{mark_row, Answer, Path}
+use Rattle.gd_bytes.specs.Frozen.{Scan, Body, Walk, scanning, building, printing}
+use Rattle.gd_runs.specs.Owed.{ScanOrder, Candidate, MembersOf, scan_fits, weighs_too_much}
+use Rattle.gd_runs.specs.Scanned.{scan_order}
+use Rattle.gd_runs.specs.Shape.{page_shape}
+use Rattle.gd_runs.specs.Thawed.{window, answering, body_answer}
+use Rattle.gd_scan_laws.specs.Ordered.{start}
+use Rattle.gd_match_laws.specs.Moves.{Runs}
+use Rattle.gd_match_laws.specs.Rows.{rows_order}
+use Rattle.gd_match.specs.Matched.{stands, order_of, IsOver}
+use Rattle.gd_match.specs.declared.matcher.Matcher.{Matcher}
+use Rattle.gd_plan.specs.Asked.{asked_view}
+use Rattle.gd_plan.specs.declared.asked.Asked.{Asked as Found}
+use Rattle.gd_trees.specs.View.{view as tree_view, trees_view}
+use Rattle.gd_window.specs.Kept.{Kept}
+use Rattle.gd_suspended_laws.specs.Standing.{rows_of, marks_of, page_rows, window_of}
+use Rattle.gd_thaw_laws.specs.Gone.{HasGone}
+use Rattle.gd_shape.specs.Shaping.{page_of, body_print, IsOf}
+use Rattle.gd_shape.specs.declared.shape.PageBody.{PageBody}
+use Rattle.gd_shape.specs.declared.shape.PageBody.TheVariants as page
+use Rattle.gd_thawed.specs.Keying.{HasKeys}
+use Rattle.gd_thawed.specs.Subject.{after_of}
+use Rattle.gd_thawed.specs.declared.subject.Subject.{Subject}
+use Rattle.gd_thawed.specs.declared.keying.Keying.{Keying}
+use Rattle.gd_thawed.specs.declared.scanning.Scanning.{Scanning}
+use Rattle.gd_thawed.specs.declared.building.Building.{Building}
+use Rattle.gd_thawed.specs.declared.printing.Printing.{Printing}
+use Rattle.gd_thawed.specs.declared.stage.Stage.{Stage}
+use Rattle.gd_thawed.specs.declared.stage.Stage.TheVariants as stage
+
+-- this is asked, with few sort keys and a limit, over the batches below the dateline of a reading, within the limits of a store
+pub record IsAsked (batches : List Batch) (s : Subject) (q : Asked) : Type 0 where
+  pub below : length batches ≡ s.dateline
+  pub held : AreHeld (prims_of batches)
+  pub end : length (prims_of batches) ≤ 2_097_151
+  pub few : length q.sort ≤ 4
+  pub some : 0 < q.limit
+
+-- what a body owes that scans in an order, with marks of rows that are kept
+abbrev pub kept_owes : List Batch → Subject → Asked → ScanOrder → List Mark → Body → Answer
+kept_owes batches s q order kept body = body_answer (prims_of batches) q order s.dateline s.with_cursor (after_of s.after) kept body
+
+-- what a body owes with the rows that a window keeps, where it no longer scans
+abbrev pub body_owes : List Batch → Subject → Asked → Kept → Body → Answer
+body_owes batches s q w body = kept_owes batches s q (scan_order (prims_of batches) q) (marks_of w) body
+
+-- ---- scanning
+
+-- each iterator has one member
+abbrev pub one_member : MembersOf
+one_member prims hop t = 1
+
+-- the order in which a matcher scans for a query
+abbrev pub order_for : List Batch → Found → Matcher → ScanOrder
+order_for batches plan m = order_of batches (template_of (asked_view plan)) m
+
+-- a reading has gone on from kept rows and a position that fits, where it owed this, to a position and a window
+pub record HasComeFrom (batches : List Batch) (owed : Answer) (s : Subject) (q : Asked) (order : ScanOrder) (at : Scan) (w : Kept) : Type 0 where
+  pub kept : List Mark
+  pub from : Scan
+  pub fits : scan_fits (prims_of batches) one_member (template_of q) from ≡ true
+  pub gone : HasGone (prims_of batches) q (after_of s.after) order kept from at w
+  pub owes : kept_owes batches s q order kept (scanning from) ≡ owed
+
+-- a reading scans, and has come to where its matcher stands
+pub record Scans (batches : List Batch) (owed : Answer) (s : Subject) (plan : Found) (m : Matcher) (w : Kept) : Type 0 where
+  pub asked : IsAsked batches s (asked_view plan)
+  pub over : IsOver batches (template_of (asked_view plan)) m
+  pub come : HasComeFrom batches owed s (asked_view plan) (order_for batches plan m) (stands m) w
+
+-- a reading scans, and its matcher has given a candidate that answers, whose row is not offered yet; its sort keys are looked for
+pub record LooksForKeys (batches : List Batch) (owed : Answer) (s : Subject) (plan : Found) (m : Matcher) (k : Keying) (w : Kept) : Type 0 where
+  pub asked : IsAsked batches s (asked_view plan)
+  pub over : IsOver batches (template_of (asked_view plan)) m
+  pub before : Scan
+  pub come : HasComeFrom batches owed s (asked_view plan) (order_for batches plan m) before w
+  pub given : List Candidate
+  pub runs : Runs (prims_of batches) (order_for batches plan m) (template_of (asked_view plan)) before given (stands m)
+  pub light : list_any weighs_too_much given ≡ false
+  pub objects : answering given ≡ k.object ∷ []
+  pub keys : HasKeys (prims_of batches) plan.sort.items k
+
+-- ---- the end of a scan
+
+-- a window of a query keeps rows that the definitions read again from their marks, in order
+pub record KeepsRows (prims : List Primitive) (q : Asked) (s : Subject) (w : Kept) : Type 0 where
+  pub is : w ≡ window_of prims q (after_of s.after) w.rows
+  pub again : window prims q (after_of s.after) (map (mark_row prims q.sort) (marks_of w)) ≡ rows_of w
+
+-- the scan of a plan has ended: the rows are kept, and their trees are to be built
+pub record IsScanned (batches : List Batch) (owed : Answer) (s : Subject) (plan : Found) (w : Kept) : Type 0 where
+  pub asked : IsAsked batches s (asked_view plan)
+  pub keeps : KeepsRows (prims_of batches) (asked_view plan) s w
+  pub owes : body_owes batches s (asked_view plan) w (building 0 no_trees start) ≡ owed
+
+-- ---- building
+
+-- what a reading that builds trees does, as the definitions have it
+abbrev pub building_of : Building → Body
+building_of b = building b.weight (trees_of (map tree_view b.trees.items)) (stands b.matcher)
+
+-- a reading builds the trees of the rows of its page
+pub record Builds (batches : List Batch) (owed : Answer) (s : Subject) (b : Building) (w : Kept) : Type 0 where
+  pub asked : IsAsked batches s (asked_view b.plan)
+  pub keeps : KeepsRows (prims_of batches) (asked_view b.plan) s w
+  pub listed : (asked_view b.plan).count ≡ false
+  pub over : IsOver batches (template_of (asked_view b.plan)) b.matcher
+  pub order : order_for batches b.plan b.matcher ≡ rows_order (page_rows w)
+  pub few : b.weight ≤ 4_294_967_295
+  pub owes : body_owes batches s (asked_view b.plan) w (building_of b) ≡ owed
+
+-- ---- printing
+
+-- what a page prints from trees and walks of ids, or how many rows it has, where they are counted
+abbrev pub page_prints : List Primitive → Asked → Kept → Trees → List Walk → Result Json Path
+page_prints prims q w ts walks = if q.count then Ok (count_json (length (page_rows w))) else page_shape prims q (list_of ts) walks
+
+-- the trees of a body; of a count there are none
+abbrev pub body_trees : PageBody → Trees
+body_trees (page.Trees ts) = trees_view ts
+body_trees (page.Count n) = no_trees
+
+-- a page is to be printed from a body
+pub record IsBuilt (batches : List Batch) (owed : Answer) (s : Subject) (plan : Found) (body : PageBody) (w : Kept) : Type 0 where
+  pub asked : IsAsked batches s (asked_view plan)
+  pub keeps : KeepsRows (prims_of batches) (asked_view plan) s w
+  pub prints : body_print (prims_of batches) (asked_view plan) body ≡ page_prints (prims_of batches) (asked_view plan) w (body_trees body) []
+  pub owes : body_owes batches s (asked_view plan) w (printing 0 (body_trees body) []) ≡ owed
+
+-- a reading prints the page of a query from trees, or their count
+pub record Prints (batches : List Batch) (owed : Answer) (s : Subject) (p : Printing) (w : Kept) : Type 0 where
+  pub q : Asked
+  pub trees : Trees
+  pub walks : List Walk
+  pub printed : ℕ
+  pub asked : IsAsked batches s q
+  pub keeps : KeepsRows (prims_of batches) q s w
+  pub single : p.single ≡ q.single
+  pub prints : page_of (prims_of batches) p.shape ≡ page_prints (prims_of batches) q w trees walks
+  pub known : IsOf (prims_of batches) p.shape
+  pub owes : body_owes batches s q w (printing printed trees walks) ≡ owed
+
+-- ---- all of them
+
+-- a reading scans, or looks for the keys of a row that its scan gave
+abbrev pub ScansOn : List Batch → Answer → Subject → Scanning → Kept → Type 0
+ScansOn batches owed s r w = by r.found
+  where
+    by : Option Keying → Type 0
+    by None = Scans batches owed s r.plan r.matcher w
+    by (Some k) = LooksForKeys batches owed s r.plan r.matcher k w
+
+-- a reading that goes on stands where it owes this answer
+abbrev pub StageOwes : List Batch → Answer → Subject → Stage → Kept → Type 0
+StageOwes batches owed s (stage.Scanning r) w = ScansOn batches owed s r w
+StageOwes batches owed s (stage.Building b) w = Builds batches owed s b w
+StageOwes batches owed s (stage.Printing p) w = Prints batches owed s p w
+StageOwes batches owed s stage.Spent w = ⊥

@@ -1,0 +1,191 @@
+//! Readings that print their page.
+ghost use Rattle.std.specs.Prelude.{◌≡◌, ◌+◌, ◌<◌, ◌≤◌, [], Some, None, false, map, length, take};
+ghost use Rattle.std.specs.Prelude.{nat_lt, option_map, if◌then◌else◌, Result, Err, IfOk, codes};
+ghost use Rattle.gd_tree.specs.Json.{Json as Value};
+ghost use Rattle.gd_defs.specs.Lines.{refused_at};
+ghost use Rattle.gd_defs.specs.Reply as reply;
+ghost use Rattle.gd_defs.specs.Reply.{Answer as TheAnswer};
+ghost use Rattle.gd_json.specs.View.{view as json_view};
+ghost use Rattle.gd_thawed.specs.Marked.{printed_view};
+ghost use Rattle.gd_window.specs.Laws.{defined};
+ghost use Rattle.gd_suspended_laws.specs.Standing.{rows_of, page_rows};
+ghost use Rattle.gd_reply.specs.Answers.{Tells};
+ghost use Rattle.gd_thawed.specs.Stages.{Prints, IsBuilt};
+ghost use Rattle.gd_thawed.specs.Rounds.{RoundGives, RoundGoes};
+ghost use Rattle.gd_shape.specs.Outcome.{text_of};
+
+use crate::cursors::row_text;
+use crate::rows::page_of;
+use crate::stage::{Round, Stage};
+use crate::subject::Subject;
+use gd_base::memory::Memory;
+use gd_base::steps::Steps;
+use gd_fault::fault::Path;
+use gd_json::value::Json;
+use gd_plan::plan::Plan;
+use gd_reply::answer::Answer;
+use gd_reply::refusal::Refusal;
+use gd_shape::shape::{PageBody, Shape, ShapeFault, ShapeTurn};
+use gd_store::view::View;
+use gd_window::row::Row;
+use gd_window::window::Window;
+use std::alloc::Global;
+
+/// A reading that prints: its page, and whether it asks for one object alone.
+#[derive(Drop)]
+pub(crate) struct Printing {
+    pub(crate) shape: Shape,
+    pub(crate) single: bool,
+}
+
+/// The refusal that says that more than one object was found where one is asked.
+fn too_many(alloc: Global) -> Answer
+    ensures { Tells (Err (refused_at (codes "NotUnique") [])) result }
+{
+    Answer::Refused(Refusal::NotUnique {
+        path: Path::root(alloc),
+    })
+}
+
+/// Whether more than one object was found where one is asked.
+fn are_many(single: bool, window: &Window) -> bool
+    ensures { result ≡ reply.is_ambiguous single (length (rows_of window.now)) }
+{
+    single && window.rows().len() > 1
+}
+
+/// Begins to print a page from a body.
+pub(crate) fn print_page(
+    alloc: Global,
+    plan: Plan,
+    body: PageBody,
+    subject: &Subject,
+    window: &Window,
+    view: &View<'_>,
+) -> Result<Round, Memory>
+    ensures { (owed : TheAnswer) → IsBuilt view.now owed subject.now plan body window.now
+        → IfOk result (λ round. RoundGives view.now owed subject.now window.now round) }
+{
+    let single = plan.asked().single;
+    let shape = Shape::start(alloc, plan.into_asked(), body)?;
+    Ok(Round::Going(Stage::Printing(Printing { shape, single })))
+}
+
+/// The cursor of a page, of the rows that are kept: it marks the last row, and is false where no
+/// row follows.
+fn page_cursor(alloc: Global, dateline: u32, rows: &[Row], limit: u32) -> Result<Json, Memory>
+    ensures { IfOk result (λ json. json_view json ≡ reply.page_cursor dateline
+        (map defined (take limit rows.now)) (nat_lt limit (length rows.now))) }
+{
+    if rows.len() <= limit as usize {
+        return Ok(Json::Bool(false));
+    }
+    match page_of(rows, limit).last() {
+        Some(row) => row_text(alloc, dateline, row),
+        None => Ok(Json::Bool(false)),
+    }
+}
+
+/// The cursor of a page, if the answer tells one.
+fn asked_cursor(alloc: Global, subject: &Subject, window: &Window) -> Result<Option<Json>, Memory>
+    ensures { IfOk result (λ cursor. option_map json_view cursor
+        ≡ (if subject.now.with_cursor
+        then Some (reply.page_cursor subject.now.dateline (page_rows window.now)
+        (nat_lt window.now.limit (length (rows_of window.now)))) else None)) }
+{
+    if subject.with_cursor {
+        Ok(Some(page_cursor(alloc, subject.dateline, window.rows(), window.limit())?))
+    } else {
+        Ok(None)
+    }
+}
+
+/// What a page comes to, of the text of what it prints or the first path at which two answers stand
+/// where one is asked.
+#[tactic(auto, using(crate::proofs::Printed::page_found, crate::proofs::Printed::page_refused))]
+fn printed_answer(cursor: Option<Json>, printed: Result<Vec<u8>, Path>) -> Answer
+    ensures { (page : Result Value reply.Path) → printed_view printed ≡ text_of page
+        → Tells (reply.page_answer (option_map json_view cursor) page) result }
+{
+    match printed {
+        Ok(outcome) => Answer::Found { cursor, outcome },
+        Err(path) => Answer::Refused(Refusal::NotUnique { path }),
+    }
+}
+
+/// The same, with the cursor of the page if one is asked for.
+fn page_answer(
+    alloc: Global,
+    subject: &Subject,
+    window: &Window,
+    printed: Result<Vec<u8>, Path>,
+) -> Result<Answer, Memory>
+    ensures { IfOk result (λ answer. (page : Result Value reply.Path)
+        → printed_view printed ≡ text_of page → Tells (reply.page_answer
+        (if subject.now.with_cursor
+        then Some (reply.page_cursor subject.now.dateline (page_rows window.now)
+        (nat_lt window.now.limit (length (rows_of window.now)))) else None) page) answer) }
+{
+    let cursor = asked_cursor(alloc, subject, window)?;
+    Ok(printed_answer(cursor, printed))
+}
+
+impl Printing {
+    /// Goes on with printing, or gives the answer. `Memory`: an allocation was refused.
+    pub(crate) fn go_on<L>(
+        self,
+        alloc: Global,
+        subject: &Subject,
+        window: &Window,
+        view: &View<'_>,
+        budget: u64,
+        steps: &mut Steps<L>,
+    ) -> Result<Round, Memory>
+        requires budget { 0 < budget }
+        requires some { (owed : TheAnswer) × Prints view.now owed subject.now self window.now }
+        ensures { (owed : TheAnswer) → Prints view.now owed subject.now self window.now
+            → RoundGoes view.now owed subject.now window.now steps.old steps.new (budget + 1024)
+            result }
+    {
+        if are_many(self.single, window) {
+            drop(self);
+            return Ok(Round::Answer(too_many(alloc)));
+        }
+        self.print_on(alloc, subject, window, view, budget, steps)
+    }
+
+    /// Goes on where one object alone was found, or more are asked.
+    fn print_on<L>(
+        mut self,
+        alloc: Global,
+        subject: &Subject,
+        window: &Window,
+        view: &View<'_>,
+        budget: u64,
+        steps: &mut Steps<L>,
+    ) -> Result<Round, Memory>
+        requires budget { 0 < budget }
+        requires some { (owed : TheAnswer) × Prints view.now owed subject.now self window.now }
+        requires one { reply.is_ambiguous self.single (length (rows_of window.now)) ≡ false }
+        ensures { (owed : TheAnswer) → Prints view.now owed subject.now self window.now
+            → RoundGoes view.now owed subject.now window.now steps.old steps.new (budget + 1024)
+            result }
+    {
+        match self.shape.resume(alloc, view, budget, steps) {
+            Ok(ShapeTurn::Reply(text)) => {
+                drop(self);
+                Ok(Round::Answer(page_answer(alloc, subject, window, Ok(text))?))
+            }
+            Ok(ShapeTurn::Unfinished) => Ok(Round::Going(Stage::Printing(self))),
+            Err(ShapeFault::NotUnique { path }) => {
+                drop(self);
+                let path = Path::from(path);
+                Ok(Round::Answer(page_answer(alloc, subject, window, Err(path))?))
+            }
+            Err(ShapeFault::Memory) => {
+                drop(self);
+                Err(Memory)
+            }
+        }
+    }
+}
