@@ -134,11 +134,7 @@ impl Reading {
 
     /// The reading as it is put away, over a view of its dateline, if it is of one query. `Memory`:
     /// an allocation was refused.
-    pub fn freeze(
-        &self,
-        alloc: Global,
-        view: &View<'_>,
-    ) -> Result<Option<FrozenReading>, Memory>
+    pub fn freeze(&self, alloc: Global, view: &View<'_>) -> Result<Option<FrozenReading>, Memory>
         requires going { IsGoing view.now self.now }
         ensures { IfOk result (λ given. ReadingFreezes view.now self.now given) }
     {

@@ -56,16 +56,13 @@ fn slice_over<L>(
 }
 
 /// The text of a reading that is put away, over a store with the batches below its dateline.
-fn text_over(
-    alloc: Global,
-    store: &Store,
-    reading: &Reading,
-) -> Result<Option<Vec<u8>>, Memory>
+fn text_over(alloc: Global, store: &Store, reading: &Reading) -> Result<Option<Vec<u8>>, Memory>
     requires going { GoesOn store.now (length store.now) reading.now }
     ensures { IfOk result (λ given. FreezesTo store.now (reading_view reading.now)
         (text_in given)) }
 {
-    let view = store.view(reading.dateline());
+    let dateline = reading.dateline();
+    let view = store.view(dateline);
     match reading.freeze(alloc, &view)? {
         Some(frozen) => Ok(Some(frozen_text(alloc, &frozen)?)),
         None => Ok(None),
