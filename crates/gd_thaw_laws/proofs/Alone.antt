@@ -3,7 +3,7 @@ use Rattle.std.proofs.Common.{◌≡◌, refl, sym, ap, subst, ◌∙◌, ℕ, �
 use Rattle.std.specs.Prelude.{nat_le, option_map}
 use Rattle.gd_prim.specs.declared.Primitive.{Primitive}
 use Rattle.gd_tree.specs.Trees.{tree}
-use Rattle.gd_defs.specs.Template.{Template, passes_template}
+use Rattle.gd_defs.specs.Template.{Template, template, passes_template}
 use Rattle.gd_bytes.specs.Frozen.{IterAt, Frame, Scan}
 use Rattle.gd_runs.specs.Owed.{ScanOrder, Candidate}
 use Rattle.gd_scan_laws.specs.Ordered.{start}

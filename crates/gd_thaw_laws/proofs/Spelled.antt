@@ -1,6 +1,6 @@
 -- Frozen readings that fit lie within the bounds of texts.
-use Rattle.std.proofs.Common.{◌≡◌, refl, arith, ◌==◌, ℕ, ◌+◌, ◌<◌, ◌≤◌, List, [], ◌∷◌, Bool, true, ◌&&◌, not, Option, Some, None, length}
-use Rattle.std.specs.Prelude.{nat_le, nat_lt, is_some}
+use Rattle.std.proofs.Common.{◌≡◌, ◌∙◌, refl, sym, ap, subst, arith, ◌==◌, ℕ, ◌+◌, ◌<◌, ◌≤◌, List, [], ◌∷◌, Bool, true, false, ◌&&◌, not, Option, Some, None, length, map}
+use Rattle.std.specs.Prelude.{nat_le, nat_lt, is_some, IsTrue, if◌then◌else◌}
 use Rattle.std.specs.List.{list_all}
 use Rattle.std.specs.Option.{option_map_or}
 use Rattle.std.proofs.lemmas.Bool.{and_parts, and_from, eqb-true, ltb-true, leb-true, le-leb}
@@ -10,8 +10,8 @@ use Rattle.gd_defs.specs.Asked.{Asked}
 use Rattle.gd_defs.specs.Plan.{template_of}
 use Rattle.gd_defs.specs.Reply.{Mark}
 use Rattle.gd_defs.specs.Template.{Template, template, Clauses, no_clauses, clause, Hop, meets_constraints, led_to}
-use Rattle.gd_bytes.specs.Frozen.{IterAt, Frame, Scan, Body, scanning, building, printing, place_in_bounds, key_in_bounds, row_in_bounds, iter_in_bounds, tree_in_bounds, trees_in_bounds, lists_in_bounds, frame_in_bounds, scan_in_bounds, body_in_bounds}
-use Rattle.gd_runs.specs.Owed.{is_among, tree_fits, lists_fit, iter_fits, frames_fit, frame_lists_fit, stack_fits}
+use Rattle.gd_bytes.specs.Frozen.{IterAt, Frame, Scan, Body, scanning, building, printing, Frozen, Fits, place_in_bounds, key_in_bounds, row_in_bounds, iter_in_bounds, tree_in_bounds, trees_in_bounds, lists_in_bounds, frame_in_bounds, scan_in_bounds, body_in_bounds, max_number}
+use Rattle.gd_runs.specs.Owed.{is_among, tree_fits, lists_fit, iter_fits, frames_fit, frame_lists_fit, stack_fits, scan_fits}
 use Rattle.gd_runs.specs.Fitting.{is_inside, key_inside, row_fits, trees_fit, body_fits, fits}
 use Rattle.gd_thaw_laws.specs.Spelled.{one_member, NumbersFit, FittingAreSpelled}
 use Rattle.gd_thaw_laws.proofs.Going.{met_inside}

@@ -1,7 +1,7 @@
 -- Bodies that stand for a reading of a query that began.
-use Rattle.std.proofs.Common.{◌≡◌, ◌∙◌, refl, sym, ap, subst, arith, ◌==◌, ℕ, zero, suc, ◌+◌, ◌<◌, ◌≤◌, List, [], ◌∷◌, ◌++◌, Bool, true, false, cond, ◌&&◌, ◌||◌, Option, Some, None, Err, length, map, filter, take, append_assoc}
-use Rattle.std.specs.Prelude.{nat_le, nat_lt, option_map, is_some, slice_get, if◌then◌else◌}
-use Rattle.std.specs.List.{list_any, cons_option, enumerate_from}
+use Rattle.std.proofs.Common.{◌≡◌, ◌∙◌, refl, sym, ap, subst, arith, ◌==◌, ℕ, zero, suc, ◌+◌, ◌<◌, ◌≤◌, List, [], ◌∷◌, ◌++◌, Bool, true, false, cond, ◌&&◌, ◌||◌, not, Option, Some, None, Err, length, map, filter, take, append_assoc}
+use Rattle.std.specs.Prelude.{nat_le, nat_lt, option_map, is_some, slice_get, sum_by, if◌then◌else◌}
+use Rattle.std.specs.List.{list_any, list_all, cons_option, enumerate_from}
 use Rattle.std.specs.Ordering.{nat_cmp}
 use Rattle.std.specs.declared.cmp.Ordering.TheVariants.{Less}
 use Rattle.std.proofs.lemmas.Bool.{and_from, le-leb}
@@ -18,7 +18,7 @@ use Rattle.gd_defs.specs.Reply.{Mark, mark_row, row_mark, max_candidate_weight, 
 use Rattle.gd_defs.specs.Rows.{Row, row_of}
 use Rattle.gd_defs.specs.Template.{Template, passes_template}
 use Rattle.gd_bytes.specs.Frozen.{IterAt, Frame, Scan, scanning, building}
-use Rattle.gd_runs.specs.Owed.{ScanOrder, Candidate, candidate, owed_by, tried, scan_fits, weighs_too_much}
+use Rattle.gd_runs.specs.Owed.{ScanOrder, Candidate, candidate, owed_by, tried, candidates_from, iter_fits, scan_fits, weighs_too_much}
 use Rattle.gd_runs.specs.Scanned.{scan_order}
 use Rattle.gd_runs.specs.Thawed.{window, answering, built_trees, built_weight, row_candidates, page_of_rows, body_answer}
 use Rattle.gd_runs.specs.Fitting.{body_fits}
@@ -43,7 +43,7 @@ use Rattle.gd_thaw_laws.specs.Gone.{RowsTold}
 use Rattle.gd_thaw_laws.specs.Grown.{StackPlaced}
 use Rattle.gd_thaw_laws.specs.Spelled.{one_member}
 use Rattle.gd_thaw_laws.specs.Thawing.{between, order_within, candidates_within}
-use Rattle.gd_thaw_laws.specs.Standing.{Began, StandsFor, IsScanOrder, KeepsRows, body_owes, StartsStand, ScannedRowsFit, ScansStand, VisitsStand, TriedStand, PagesStand, RowsStand, TriedRowsStand}
+use Rattle.gd_thaw_laws.specs.Standing.{Began, Asks, StandsFor, RowsFit, IsScanOrder, KeepsRows, body_owes, its_answer, StartsStand, ScannedRowsFit, ScansStand, VisitsStand, TriedStand, PagesStand, RowsStand, TriedRowsStand}
 use Rattle.gd_thaw_laws.proofs.Alone.{candidates_go_alone}
 use Rattle.gd_thaw_laws.proofs.Few.{builds_few}
 use Rattle.gd_thaw_laws.proofs.Freezing.{gone_rows_fit, gone_fits, builds_fit}

@@ -1,5 +1,5 @@
 -- Frozen readings that fit have a text.
-use Rattle.std.specs.Prelude.{◌≡◌, ◌≤◌, List, length, true}
+use Rattle.std.specs.Prelude.{◌≡◌, ◌≤◌, ℕ, List, length, true}
 use Rattle.std.specs.List.{list_all}
 use Rattle.gd_prim.specs.Limits.{max_prims, max_requests}
 use Rattle.gd_prim.specs.declared.Primitive.{Primitive}
