@@ -13,7 +13,7 @@ use Rattle.gd_plan.specs.Asked.{asked_view}
 use Rattle.gd_plan.specs.declared.asked.Asked.{Asked as Found}
 use Rattle.gd_reply.specs.Answers.{told_of}
 use Rattle.gd_shape.specs.Outcome.{text_of}
-use Rattle.gd_shape.specs.Shaping.{page_of, body_print, IsOf, IsSamePage, count_or, asked_of, trees_in}
+use Rattle.gd_shape.specs.Shaping.{page_of, body_print, IsOf, IsSamePage, count_or, asked_of, trees_in, walks_in}
 use Rattle.gd_shape.specs.declared.shape.PageBody.{PageBody}
 use Rattle.gd_shape.specs.declared.shape.Shape.{Shape}
 use Rattle.gd_runs.specs.Shape.{page_shape}
@@ -94,9 +94,10 @@ module _ (batches : List Batch) (owed : Answer) (s : Subject) where
     asked = prints.asked;
     keeps = prints.keeps;
     single = prints.single;
-    prints = ap (λ n. count_or n (page_shape (prims_of batches) (asked_of new) (trees_in new) [])) same.count
-        ∙ ap (λ q. count_or p.shape.count (page_shape (prims_of batches) q (trees_in new) [])) same.asked
-        ∙ ap (λ ts. count_or p.shape.count (page_shape (prims_of batches) (asked_of p.shape) ts [])) same.trees
+    prints = ap (λ n. count_or n (page_shape (prims_of batches) (asked_of new) (trees_in new) (walks_in new))) same.count
+        ∙ ap (λ q. count_or p.shape.count (page_shape (prims_of batches) q (trees_in new) (walks_in new))) same.asked
+        ∙ ap (λ ts. count_or p.shape.count (page_shape (prims_of batches) (asked_of p.shape) ts (walks_in new))) same.trees
+        ∙ ap (λ ws. count_or p.shape.count (page_shape (prims_of batches) (asked_of p.shape) (trees_in p.shape) ws)) same.walks
         ∙ prints.prints;
     known = known;
     owes = prints.owes;
