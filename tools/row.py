@@ -16,6 +16,7 @@ import os
 import re
 import sys
 
+from frozen import offset, places
 from store_file import Damaged, NotStore, opened
 
 TOP = os.path.dirname(os.path.dirname(os.path.abspath(__file__)))
@@ -148,6 +149,7 @@ class Case:
         self.left = None
         self.table = None
         self.rows = []
+        self.owes = ""
 
     def take(self, mark, rest):
         """Takes a line of its text, and says whether it is of the form."""
@@ -165,6 +167,14 @@ class Case:
             self.output.append(b"<cut")
         elif mark == "at":
             self.rows.append(rest.split())
+        elif mark == "owes":
+            self.owes = rest
+        elif mark == "writes":
+            text, name = rest.split()
+            pairs = row_of(os.path.join(TEXTS, text + ".txt"), name).pairs
+            self.given += ['> {"write":%s}' % line.decode() for line, _ in pairs if b'"write"' in line]
+        elif mark in ("fronts", "raised"):
+            self.thaws(mark, rest)
         elif mark == "status":
             self.status = rest
         elif mark == "faults":
@@ -175,6 +185,21 @@ class Case:
         else:
             return False
         return True
+
+    def thaws(self, mark, number):
+        """The last line, which thaws a text, once for each front of this text, and once for each place in it that is raised to a number:
+        the front could begin one, and the place lies past the end."""
+        before, text, behind = re.fullmatch(r'(.*"text":")([^"]*)("}})', self.given[-1]).groups()
+        if mark == "fronts":
+            refused = [(text[:count], offset(text[:count])) for count in range(len(text))]
+        else:
+            raised = [text[:first] + number + text[last:] for first, last in places(text)]
+            refused = [(other, len(other)) for other in raised]
+        line = sum(one.startswith("> ") for one in self.given)
+        shown = sum(one.startswith('> {"write":') for one in self.given)
+        for at, (other, count) in enumerate(refused, line):
+            self.given.append(before + other + behind)
+            self.output.append(b'< {"code":"/api/status/error","dateline":%d,"error":"BadFrozen","info":{"offset":%d},"line":%d}' % (shown, count, at))
 
     def variants(self):
         """The name of each run, its file, and the call that fails besides."""
@@ -218,6 +243,8 @@ class Case:
             for byte in bytes_set:
                 files = [self.file[:at] + bytes.fromhex(byte) + self.file[at + 1:] for at in range(len(self.file))]
                 out += ["byte " + byte] + merged([opening(file) for file in files])
+        elif what == "freezes":
+            out.append("owes " + self.owes)
         else:
             return self.wanted(name, self.file) + ("\n".join(merged(self.streamed(what, given))) + "\n").encode()
         return ("\n".join(out) + "\n").encode()

@@ -3,3 +3,4 @@ pub mod Outcome
 pub mod Exec
 pub mod Depth
 pub mod Lead
+pub mod PassedOn

@@ -16,13 +16,13 @@ use crate::subject::{Subject, subject_of};
 use gd_base::id::Id;
 use gd_base::memory::Memory;
 use gd_compile::path::longer;
+use gd_growing::Property;
 use gd_growing::growing::Growing;
 use gd_growing::links::{Answer, connected, inserted};
 use gd_growing::stamp::Stamp;
 use gd_growing::target::Target;
 use gd_intent::intent::{Connect, Entry, Item, Spelled};
 use gd_mql::write_parts::CreateWord;
-use gd_resolve::property::Property;
 use std::alloc::Global;
 
 fn push_field<'a>(fields: &mut Vec<Field<'a>>, field: Field<'a>) -> Result<(), Memory>

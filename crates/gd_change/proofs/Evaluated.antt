@@ -16,7 +16,7 @@ use Rattle.gd_defs.specs.Write.Links.{ChangeFault, full, unknown}
 use Rattle.gd_runs.specs.Request.{exec_after}
 use Rattle.gd_write_laws.proofs.Laws.{writes_follow}
 use Rattle.gd_write_laws.proofs.Histories.{history-sound, history-some}
-use Rattle.gd_intent.specs.Walk.{intent_of}
+use Rattle.gd_carry.specs.PassedOn.{intent_of}
 use Rattle.gd_carry.specs.declared.fault.ChangeFault.{ChangeFault as Refusal}
 use Rattle.gd_carry.specs.declared.fault.ChangeFault.TheVariants as fault
 use Rattle.gd_carry.specs.Outcome.{fault_of}

@@ -3,15 +3,15 @@ ghost use Rattle.std.specs.Prelude.{◌≡◌, ◌≤◌, None, IfOk, IfErr, IsT
 ghost use Rattle.gd_prim.specs.History.{is_history, prims_of};
 ghost use Rattle.gd_prim.specs.WellFormed.{bad_place};
 ghost use Rattle.gd_prim.specs.Limits.{limits, first_full};
-ghost use Rattle.gd_mql.specs.Requests.{write_view};
+ghost use Rattle.gd_carry.specs.PassedOn.{write_view};
 ghost use Rattle.gd_runs.specs.Request.{exec_after};
 ghost use Rattle.gd_carry.specs.Exec.{written};
 ghost use Rattle.gd_change.specs.Fault.{GivesChange, IsSmall};
 
 use crate::fault::ChangeFault;
+use gd_carry::WriteRequest;
 use gd_carry::exec::written;
 use gd_json::value::Json;
-use gd_mql::request::WriteRequest;
 use gd_prim::Batch;
 use gd_store::store::Store;
 use std::alloc::Global;

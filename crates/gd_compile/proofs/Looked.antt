@@ -19,7 +19,7 @@ use Rattle.gd_defs.specs.Asked.Tests.{operand_data, operand_datum}
 use Rattle.gd_json.specs.View.{view, items_view}
 use Rattle.gd_json.specs.declared.value.Json.{Json as Written, List as List', Text as Text', the_lemmas}
 use Rattle.gd_json.proofs.Parts.{view-List}
-use Rattle.gd_resolve.specs.Asked.{property_steps}
+use Rattle.gd_plan.specs.PassedOn.{property_steps}
 use Rattle.gd_compile.specs.Looks.{item_steps, operand_steps, test_steps, language_looks, own_steps, own_looks, itself_looks, part_looks, member_steps, sort_steps, context_steps, computed_looks, value_looks, looks, form_looks, member_looks, clause_looks, below_looks}
 use Rattle.gd_compile.specs.Seen.{is_choice}
 use Rattle.gd_compile.specs.Spoken.{language_steps, object_named}

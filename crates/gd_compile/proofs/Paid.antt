@@ -13,8 +13,8 @@ use Rattle.gd_defs.specs.Query.{has_operator, is_word}
 use Rattle.gd_defs.specs.Property.{Property, Expects, a_value, a_key, an_object_of_system, a_plain_object, expects_of, holds_values, property, property_object}
 use Rattle.gd_defs.specs.Asked.{Own, its_id, its_guid, its_timestamp, its_link, its_namespace, its_lang, own_of, own_expects, takes, has_namespace, has_lang, type_text}
 use Rattle.gd_defs.specs.Asked.Tests.{tested_as}
-use Rattle.gd_resolve.specs.Asked.{property_steps}
-use Rattle.gd_resolve.proofs.Costs.{found_steps, word_paid}
+use Rattle.gd_plan.specs.PassedOn.{property_steps}
+use Rattle.gd_plan.proofs.PassedOn.{found_steps, word_paid}
 use Rattle.gd_compile.specs.Looks.{item_steps, operand_steps, test_steps, language_looks, own_steps, own_looks, itself_looks, part_looks, value_looks, turned_steps, member_steps, sort_steps, context_steps, computed_looks, looks, form_looks, member_looks}
 use Rattle.gd_compile.proofs.Right.{IsNamed, AreRight, IsRight}
 

@@ -23,8 +23,8 @@ use Rattle.gd_plan.specs.declared.asked.Asked.{Asked as Found}
 use Rattle.gd_compile.specs.declared.fault.Unknown.{Unknown}
 use Rattle.gd_compile.specs.declared.fault.Unknown.TheVariants as fault
 use Rattle.gd_template_laws.proofs.AskedMembers.{computed}
-use Rattle.gd_resolve.specs.Asked.{property_steps}
-use Rattle.gd_resolve.proofs.Costs.{found_steps, word_least, expects_two}
+use Rattle.gd_plan.specs.PassedOn.{property_steps}
+use Rattle.gd_plan.proofs.PassedOn.{found_steps, word_least, expects_two}
 use Rattle.gd_compile.specs.Looks.{operand_steps, turned_steps, member_steps, sort_steps, context_steps, looks, form_looks, member_looks, clause_looks}
 use Rattle.gd_compile.proofs.Looked.{context_is}
 use Rattle.gd_compile.proofs.Right.{IsNamed, AreRight, IsRight}

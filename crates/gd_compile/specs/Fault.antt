@@ -1,7 +1,7 @@
 -- Why a query has no meaning, as the definitions have it.
 use Rattle.std.specs.Prelude.{◌≡◌, ◌≢◌, [], Result, Ok, Err, MatchResult}
 use Rattle.gd_defs.specs.Asked as defs
-pub use Rattle.gd_fault.specs.Fault.{code_view}
+pub use Rattle.gd_plan.specs.PassedOn.{code_view}
 use Rattle.gd_compile.specs.declared.fault.Unknown.{Unknown}
 use Rattle.gd_compile.specs.declared.fault.Unknown.TheVariants as fault
 

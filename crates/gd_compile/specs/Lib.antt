@@ -4,3 +4,4 @@ pub mod Seen
 pub mod Spoken
 pub mod Walk
 pub mod Words
+pub mod PassedOn

@@ -8,7 +8,7 @@ use Rattle.gd_defs.specs.Query as query
 use Rattle.gd_defs.specs.Property.{Property, Expects, a_value, a_key, expects_of, holds_values, property, property_object}
 use Rattle.gd_defs.specs.Asked.{Own, its_link, its_namespace, its_lang, own_of, own_expects, takes, has_namespace, has_lang, type_text}
 use Rattle.gd_defs.specs.Asked.Tests.{tested_as}
-use Rattle.gd_resolve.specs.Asked.{property_steps}
+use Rattle.gd_plan.specs.PassedOn.{property_steps}
 
 -- ---- operands
 

@@ -6,7 +6,7 @@ ghost use Rattle.gd_defs.specs.Property.{expects_of, holds_values};
 ghost use Rattle.gd_defs.specs.Query.{required};
 ghost use Rattle.gd_json.specs.View.{view as json_of};
 ghost use Rattle.gd_mql.specs.Directives.{mode_view, directives_view};
-ghost use Rattle.gd_template.specs.View.{mode_of};
+ghost use Rattle.gd_plan.specs.PassedOn.{mode_of};
 ghost use Rattle.gd_plan.specs.Seen.{expects_view, test_view, sort_key_view};
 ghost use Rattle.gd_plan.specs.Asked.{style_view, asking_view, members_view, put};
 ghost use Rattle.gd_compile.specs.Walk.{clause_view};
@@ -20,9 +20,8 @@ use gd_plan::asked::{Asking, Member, SortKey, Style};
 use gd_plan::expects::{Expects, expects_of, holds_values};
 use gd_plan::spoken::spoken;
 use gd_plan::test::Test;
+use gd_plan::{Mode, Property};
 use gd_prim::ENGLISH;
-use gd_resolve::property::Property;
-use gd_template::template::Mode;
 use std::alloc::Global;
 
 /// How many answers are given where no limit is set.

@@ -21,10 +21,10 @@ use crate::fault::Unknown;
 use crate::walk::asked_clause;
 use gd_base::steps::Steps;
 use gd_mql::request::{Query, ReadRequest};
+use gd_plan::View;
 use gd_plan::asked::Asked;
 use gd_plan::fault::PlanFault;
 use gd_plan::plan::Plan;
-use gd_store::view::View;
 use std::alloc::Global;
 
 /// What a query asks at the view's dateline: its root clause with its words looked up, its limit,

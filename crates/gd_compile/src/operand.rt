@@ -30,8 +30,7 @@ use gd_datum::value::{DatumFault, Kind, datum_from};
 use gd_json::value::Json;
 use gd_mql::ids::is_key;
 use gd_plan::expects::Expects;
-use gd_resolve::ids::named_object;
-use gd_store::view::View;
+use gd_plan::{View, named_object};
 use std::alloc::Global;
 
 /// The object that the text of an id names below the dateline. `NoSuchId`: the text is no id or

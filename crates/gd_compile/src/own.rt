@@ -24,10 +24,10 @@ use gd_base::steps::Steps;
 use gd_json::value::{Json, JsonText};
 use gd_mql::clause::{Form, Members, Part};
 use gd_mql::name::Name;
+use gd_plan::View;
 use gd_plan::asked::{Member, Own};
 use gd_plan::expects::{Expects, has_lang};
 use gd_plan::test::Test;
-use gd_store::view::View;
 use std::alloc::Global;
 
 /// The computed member that null asks.

@@ -19,9 +19,7 @@ use gd_mql::clause::SortWords;
 use gd_mql::directive::SortWord;
 use gd_plan::asked::SortKey;
 use gd_plan::expects::{Expects, expects_of};
-use gd_resolve::property::Property;
-use gd_resolve::words::named_property;
-use gd_store::view::View;
+use gd_plan::{Property, View, named_property};
 use std::alloc::Global;
 
 /// Whether the answers are values of a kind.

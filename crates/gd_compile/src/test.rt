@@ -23,9 +23,9 @@ use gd_datum::pattern::{Pattern, PatternFault};
 use gd_datum::value::Kind;
 use gd_json::value::Json;
 use gd_mql::name::Operator;
+use gd_plan::View;
 use gd_plan::expects::Expects;
 use gd_plan::test::Test;
-use gd_store::view::View;
 use std::alloc::Global;
 
 /// Whether an operator stands on answers of this sort: none, `|=` and `!=` on all, the comparisons

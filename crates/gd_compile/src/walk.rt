@@ -35,8 +35,7 @@ use gd_mql::clause::{Clause, Form, Members, Part, SortWords};
 use gd_mql::name::{Name, Operator};
 use gd_plan::asked::Member;
 use gd_plan::expects::{expects_of, holds_values};
-use gd_resolve::property::Property;
-use gd_store::view::View;
+use gd_plan::{Property, View};
 use std::alloc::Global;
 
 /// The text that a literal is.

@@ -29,9 +29,7 @@ use gd_mql::name::{Name, Operator};
 use gd_plan::asked::Own;
 use gd_plan::expects::{Expects, expects_of, holds_values};
 use gd_plan::test::Test;
-use gd_resolve::property::{Property, expected_type, is_language};
-use gd_resolve::words::{Named, named_property};
-use gd_store::view::View;
+use gd_plan::{Named, Property, View, expected_type, is_language, named_property};
 use std::alloc::Global;
 
 /// Whether the word asks for the id: `id`, also as a path below `/type/object`. It takes no memory.

@@ -8,13 +8,13 @@ use Rattle.gd_frozen.proofs.cursor.Cursor.TheSendSync as cursor_sent
 use Rattle.gd_frozen.proofs.frozen.Walk.TheSendSync as told_walk
 use Rattle.gd_json.proofs.value.Json.TheLaws.TheKnot as json_knot
 use Rattle.gd_json.proofs.value.JsonText.TheSendSync as text
-use Rattle.gd_match.proofs.matcher.MatchFault.TheSendSync as match_fault
-use Rattle.gd_match.proofs.places.Places.TheSendSync as places
-use Rattle.gd_match.proofs.root.RootScan.TheSendSync as scan
-use Rattle.gd_match.proofs.root.Walk.TheSendSync as walk
-use Rattle.gd_match.specs.contracts.frame.Current as current
-use Rattle.gd_match.specs.contracts.frame.Frame as frame
-use Rattle.gd_match.specs.contracts.matcher.Matcher as matcher
+use Rattle.gd_seats.proofs.PassedOn.match_fault
+use Rattle.gd_seats.proofs.PassedOn.places
+use Rattle.gd_seats.proofs.PassedOn.scan
+use Rattle.gd_seats.proofs.PassedOn.walk
+use Rattle.gd_seats.specs.PassedOn.current
+use Rattle.gd_seats.specs.PassedOn.frame
+use Rattle.gd_seats.specs.PassedOn.matcher
 use Rattle.gd_mql.specs.contracts.request.ChangeList as change_list
 use Rattle.gd_mql.specs.contracts.request.ChangeRequest as change
 use Rattle.gd_mql.specs.contracts.request.ReadList as read_list
@@ -27,25 +27,25 @@ use Rattle.gd_plan.proofs.asked.SortKey.TheSendSync as sort
 use Rattle.gd_plan.specs.contracts.asked.Asked as asked
 use Rattle.gd_plan.specs.contracts.plan.Plan as plan
 use Rattle.gd_seats.specs.contracts.session.Session as session
-use Rattle.gd_shape.proofs.known.Known.TheSendSync as known
-use Rattle.gd_shape.specs.contracts.shape.Shape as shape
+use Rattle.gd_seats.proofs.PassedOn.known
+use Rattle.gd_seats.specs.PassedOn.shape
 use Rattle.gd_shared.proofs.seat.Seat.TheSendSync as seat
-use Rattle.gd_read.specs.contracts.gathering.Gathered as gathered
-use Rattle.gd_read.specs.contracts.gathering.Gathering as gathering
-use Rattle.gd_read.specs.contracts.query.QueryReading as query
-use Rattle.gd_read.specs.contracts.reading.Reading as reading
-use Rattle.gd_read.specs.contracts.several.Part as part
-use Rattle.gd_read.specs.contracts.several.SeveralReading as several
-use Rattle.gd_read.specs.contracts.stage.Stage as stage
-use Rattle.gd_read.specs.contracts.subject.Subject as subject
-use Rattle.gd_read.specs.contracts.trying.Trying as trying
-use Rattle.gd_read.specs.contracts.visiting.Visiting as visiting
+use Rattle.gd_seats.specs.PassedOn.gathered
+use Rattle.gd_seats.specs.PassedOn.gathering
+use Rattle.gd_seats.specs.PassedOn.query
+use Rattle.gd_seats.specs.PassedOn.reading
+use Rattle.gd_seats.specs.PassedOn.part
+use Rattle.gd_seats.specs.PassedOn.several
+use Rattle.gd_seats.specs.PassedOn.stage
+use Rattle.gd_seats.specs.PassedOn.subject
+use Rattle.gd_seats.specs.PassedOn.trying
+use Rattle.gd_seats.specs.PassedOn.visiting
 use Rattle.gd_template.proofs.constraint.Constraint.TheSendSync as constraint
 use Rattle.gd_template.proofs.template.Hop.TheSendSync as hop
 use Rattle.gd_template.proofs.template.Mode.TheSendSync as mode
 use Rattle.gd_template.proofs.template.Template.TheLaws.TheKnot as template_knot
 use Rattle.gd_template.specs.contracts.template.Template as template
-use Rattle.gd_trees.proofs.tree.Tree.TheLaws.TheKnot as tree_knot
+use Rattle.gd_seats.proofs.PassedOn.tree_knot
 use Rattle.gd_window.proofs.window.Window.TheSendSync as window_sent
 use Rattle.gd_crew.proofs.job.ReadReply.TheSendSync as reply
 use Rattle.gd_crew.proofs.job.Stop.TheSendSync as stop

@@ -11,3 +11,4 @@ pub mod Shares
 pub mod Hired
 pub mod Joined
 pub mod Taken
+pub mod PassedOn

@@ -13,10 +13,8 @@ use Rattle.gd_defs.specs.Lines.{err_line}
 use Rattle.gd_runs.specs.Request.{ReadSet}
 use Rattle.gd_runs.specs.Core.{Reading, owed_line, reading_of}
 use Rattle.gd_core_laws.proofs.Reading.{refuses}
-use Rattle.gd_read.specs.Begun.{fault_at}
-use Rattle.gd_read.specs.declared.fault.ReadFault.{ReadFault}
-use Rattle.gd_read.specs.declared.fault.ReadFault.TheVariants as read_fault
-use Rattle.gd_read.specs.Reading.{reading_view}
+use Rattle.gd_seats.specs.PassedOn.{fault_at, ReadFault, reading_view}
+use Rattle.gd_seats.specs.PassedOn.read_fault
 use Rattle.gd_seats.specs.Session.{SessionValue, reads as what_reads, seen_of as seat_seen}
 use Rattle.gd_seats.specs.declared.fault.SessionFault.{SessionFault}
 use Rattle.gd_seats.specs.declared.fault.SessionFault.TheVariants as fault

@@ -9,3 +9,4 @@ pub mod Ready
 pub mod Texts
 pub mod Joined
 pub mod Collected
+pub mod PassedOn

@@ -2,6 +2,10 @@
 //! the run, and what is taken of them.
 #![tactic(auto)]
 
+pub use gd_lookup::keeping::Keeping;
+pub use gd_seats::session::Session;
+pub use gd_writer::side::{SEATS, WriteSide};
+
 pub mod assign;
 pub mod collect;
 pub mod job;

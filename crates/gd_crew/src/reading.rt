@@ -11,7 +11,7 @@ use gd_base::steps::Steps;
 use gd_lookup::found::found_at;
 use gd_mql::request::ReadSet;
 use gd_outside::gate::Gate;
-use gd_read::reading::Progress;
+use gd_seats::Progress;
 use gd_seats::fault::SessionFault;
 use gd_seats::session::{Looked, Session};
 use std::alloc::Global;

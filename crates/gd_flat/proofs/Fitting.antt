@@ -13,7 +13,7 @@ use Rattle.gd_defs.specs.Template as template
 use Rattle.gd_defs.specs.Template.{Hop, Template, meets_constraints, led_to}
 use Rattle.gd_runs.specs.Owed.{is_among, tree_fits, lists_fit}
 use Rattle.gd_order_laws.specs.Window.{In}
-use Rattle.gd_scan_laws.proofs.Objects.{place_there, there_place}
+use Rattle.gd_trees.proofs.PassedOn.{place_there, there_place}
 use Rattle.gd_template.specs.Built.{its_constraints, its_clauses}
 use Rattle.gd_template.specs.View.{Parts, parts, clauses_view}
 use Rattle.gd_template.specs.declared.template.Clause.{Clause}

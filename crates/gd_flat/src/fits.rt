@@ -15,9 +15,9 @@ ghost use Rattle.gd_trees.specs.View.{view, trees_view};
 use gd_base::id::Id;
 use gd_base::steps::Steps;
 use gd_prim::End;
-use gd_store::view::View;
 use gd_template::meets::view_meets_constraints;
 use gd_template::template::{Clause, Hop, Template};
+use gd_trees::View;
 use gd_trees::tree::{Tree, Trees};
 
 /// The place at an end of a primitive, if there is one.

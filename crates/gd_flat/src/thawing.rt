@@ -18,8 +18,8 @@ use gd_base::id::Id;
 use gd_base::memory::Memory;
 use gd_base::steps::Steps;
 use gd_frozen::tree::{FrozenTrees, Piece};
-use gd_store::view::View;
 use gd_template::template::{Clause, Template};
+use gd_trees::View;
 use gd_trees::tree::{Tree, Trees};
 use std::alloc::Global;
 

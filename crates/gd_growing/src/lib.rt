@@ -1,6 +1,8 @@
 //! The state of a write that is carried out.
 #![tactic(auto)]
 
+pub use gd_resolve::property::Property;
+
 pub mod answers;
 pub mod fault;
 pub mod growing;

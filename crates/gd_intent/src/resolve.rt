@@ -28,6 +28,7 @@ use gd_compile::fault::{Code, Unknown, bad};
 use gd_compile::operand::place_named;
 use gd_compile::path::longer;
 use gd_compile::words::{context_of, member_property};
+use gd_compile::{expects_of, holds_values};
 use gd_json::value::{Json, JsonText};
 use gd_mql::change::{
     Change, Entry as SpelledEntry, Item as SpelledItem, Items as SpelledItems,
@@ -37,7 +38,6 @@ use gd_mql::name::Name;
 use gd_mql::number::number_text;
 use gd_mql::request::{ChangeRequest, WriteRequest, WriteSet};
 use gd_mql::write_parts::CreateWord;
-use gd_plan::expects::{expects_of, holds_values};
 use gd_resolve::property::Property;
 use gd_store::view::View;
 use std::alloc::Global;

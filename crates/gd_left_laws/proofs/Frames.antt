@@ -17,8 +17,8 @@ use Rattle.gd_order_laws.specs.Window.{In, Apart}
 use Rattle.gd_order_laws.proofs.Places.{places_rise}
 use Rattle.gd_order_laws.proofs.Rows.{Apart-rising}
 use Rattle.gd_order_laws.proofs.Sorted.{Each-member, In-filter, In-filtered, Apart-filter}
-use Rattle.gd_scan_laws.proofs.Objects.{both_true, true_both, there_place, passes_there}
-use Rattle.gd_match_laws.specs.Moves.{passing_from, fresh, FrameMoves, begins, passes_over, descends, takes, below_moves, below_ends, next_begins, later_moves, StackMoves, frame_moves}
+use Rattle.gd_work_laws.proofs.PassedOn.{both_true, true_both, there_place, passes_there}
+use Rattle.gd_work_laws.specs.PassedOn.{passing_from, fresh, FrameMoves, begins, passes_over, descends, takes, below_moves, below_ends, next_begins, later_moves, StackMoves, frame_moves}
 use Rattle.gd_work_laws.specs.Turns.{typ_asked, constraints_of, hop_turns, test_turns, build_turns, judge_turns}
 use Rattle.gd_work_laws.proofs.Sources.{typ_holds}
 use Rattle.gd_left_laws.specs.Left.{clause_from, hop_left, stack_left, clauses_left, FrameGoesOn, StackGoesOn, frame_count, stack_count}

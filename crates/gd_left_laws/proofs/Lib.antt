@@ -5,3 +5,4 @@ pub mod Scans
 pub mod Orders
 pub mod Known
 pub mod Laws
+pub mod PassedOn

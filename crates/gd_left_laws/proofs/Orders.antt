@@ -17,8 +17,8 @@ use Rattle.gd_defs.specs.Plan.{asked_end, link_template, clauses_of, template_of
 use Rattle.gd_defs.specs.Template.{Template, passes_template}
 use Rattle.gd_runs.specs.RootSets.{links_of}
 use Rattle.gd_order_laws.specs.Window.{In, Rising}
-use Rattle.gd_match_laws.specs.Links.{is_first, link_if, passing_links, link_order}
-use Rattle.gd_match_laws.proofs.Links.{links_rise}
+use Rattle.gd_work_laws.specs.PassedOn.{is_first, link_if, passing_links, link_order}
+use Rattle.gd_work_laws.proofs.PassedOn.{links_rise}
 use Rattle.gd_work_laws.specs.Turns.{build_turns}
 use Rattle.gd_work_laws.specs.Scan.{candidate_turns, first_turns}
 use Rattle.gd_left_laws.specs.Left.{members_from, member_turns, row_turns, Pays}

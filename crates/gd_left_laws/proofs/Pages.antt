@@ -18,14 +18,8 @@ use Rattle.gd_runs.specs.Thawed.{answering, built_trees, built_weight}
 use Rattle.gd_order_laws.specs.Window.{Each}
 use Rattle.gd_template_laws.specs.Laws.{AreHeld}
 use Rattle.gd_template_laws.proofs.Laws.{templates_mean}
-use Rattle.gd_scan_laws.specs.Ordered.{start, scanned}
-use Rattle.gd_scan_laws.proofs.Laws.{planned}
-use Rattle.gd_scan_laws.proofs.Replies.{keeps_all, Each-take, offered_is, heavy_is, known_after}
-use Rattle.gd_scan_laws.proofs.Start.{answers_first, owed_first, any_map}
-use Rattle.gd_match_laws.specs.Moves.{Runs}
-use Rattle.gd_match_laws.specs.Laws.{AtEnd}
-use Rattle.gd_match_laws.specs.Rows.{rows_order}
-use Rattle.gd_match_laws.proofs.Laws.{runs_give}
+use Rattle.gd_work_laws.specs.PassedOn.{start, scanned, Runs, AtEnd, rows_order}
+use Rattle.gd_work_laws.proofs.PassedOn.{planned, keeps_all, Each-take, offered_is, heavy_is, known_after, answers_first, owed_first, any_map, runs_give}
 use Rattle.gd_window.specs.Kept.{Kept}
 use Rattle.gd_list_laws.proofs.Fronts.{take_longer}
 use Rattle.gd_window.specs.Laws.{RowsBehindAreAsDefined}

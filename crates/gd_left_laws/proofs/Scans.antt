@@ -23,12 +23,8 @@ use Rattle.gd_runs.specs.Work.{query_work}
 use Rattle.gd_order_laws.specs.Window.{In, Rising}
 use Rattle.gd_order_laws.proofs.Rows.{In-mapped}
 use Rattle.gd_order_laws.proofs.Sorted.{Each-member, In-filter, In-filtered}
-use Rattle.gd_scan_laws.specs.Ordered.{start}
-use Rattle.gd_scan_laws.proofs.Laws.{orders_have_all}
-use Rattle.gd_scan_laws.proofs.Links.{answer_known}
-use Rattle.gd_scan_laws.proofs.Objects.{both_true, true_both}
-use Rattle.gd_scan_laws.proofs.Orders.{among_in, picks}
-use Rattle.gd_match_laws.specs.Moves.{order_from, ScanMoves, scan_passes_over, picks as picks_one, frames_move, gives, Runs, stays, moves}
+use Rattle.gd_work_laws.specs.PassedOn.{start, order_from, ScanMoves, scan_passes_over, picks as picks_one, frames_move, gives, Runs, stays, moves}
+use Rattle.gd_work_laws.proofs.PassedOn.{orders_have_all, answer_known, both_true, true_both, among_in, picks}
 use Rattle.gd_work_laws.specs.Turns.{test_turns, build_turns}
 use Rattle.gd_work_laws.specs.Scan.{candidate_turns, first_turns, set_turns, chosen}
 use Rattle.gd_work_laws.proofs.Laws.{scans_are_paid, chosen_are_smallest}

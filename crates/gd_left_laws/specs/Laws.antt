@@ -16,11 +16,7 @@ use Rattle.gd_runs.specs.Scanned.{scan_order}
 use Rattle.gd_runs.specs.Work.{query_work}
 use Rattle.gd_runs.specs.Thawed.{built_trees, built_weight}
 use Rattle.gd_template_laws.specs.Laws.{AreHeld}
-use Rattle.gd_scan_laws.specs.Ordered.{start}
-use Rattle.gd_match_laws.specs.Moves.{Runs}
-use Rattle.gd_match_laws.specs.Laws.{AtEnd}
-use Rattle.gd_match_laws.specs.Links.{link_order}
-use Rattle.gd_match_laws.specs.Rows.{rows_order}
+use Rattle.gd_work_laws.specs.PassedOn.{start, Runs, AtEnd, link_order, rows_order}
 use Rattle.gd_order_laws.specs.Window.{In, Rising}
 use Rattle.gd_defs.specs.Template.{Template}
 use Rattle.gd_work_laws.specs.Scan.{candidate_turns, chosen}

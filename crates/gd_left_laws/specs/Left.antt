@@ -15,7 +15,7 @@ use Rattle.gd_bytes.specs.Frozen.{IterAt, Frame, Scan}
 use Rattle.gd_order_laws.specs.Window.{In, Rising}
 use Rattle.gd_runs.specs.Owed.{ScanOrder, Candidate}
 use Rattle.gd_runs.specs.RootSets.{RootSet, everything, named_places, links_of}
-use Rattle.gd_match_laws.specs.Moves.{FrameMoves, begins, passes_over, descends, takes, below_moves, below_ends, next_begins, later_moves, StackMoves, frame_moves, ScanMoves, scan_passes_over, picks, frames_move, gives, Runs, stays, moves}
+use Rattle.gd_work_laws.specs.PassedOn.{FrameMoves, begins, passes_over, descends, takes, below_moves, below_ends, next_begins, later_moves, StackMoves, frame_moves, ScanMoves, scan_passes_over, picks, frames_move, gives, Runs, stays, moves}
 use Rattle.gd_work_laws.specs.Turns.{typ_asked, constraints_of, build_turns, clauses_build_turns, judge_turns}
 use Rattle.gd_work_laws.specs.Scan.{candidate_turns, first_turns}
 

@@ -4,8 +4,7 @@ use Rattle.std.specs.Prelude.{map, option_map}
 use Rattle.gd_prim.specs.declared.Primitive.{Primitive}
 use Rattle.gd_tree.specs.Trees.{tree}
 use Rattle.gd_defs.specs.Template.{Template, template}
-use Rattle.gd_bytes.specs.Frozen.{IterAt, Frame, Scan}
-use Rattle.gd_runs.specs.Owed.{ScanOrder, Candidate, candidate, candidates_from, tried, owed_by}
+use Rattle.gd_scan_laws.specs.PassedOn.{IterAt, Frame, Scan, ScanOrder, Candidate, candidate, candidates_from, tried, owed_by}
 use Rattle.gd_match_laws.specs.Moves.{order_from, fresh, picks, frames_move, gives, Runs, stays, moves}
 use Rattle.gd_match_laws.proofs.Reached.{StackGoes, stack_still, stack_then, iter_at, AtEnd, comes-to-end}
 use Rattle.gd_match_laws.proofs.Scans.{run-keeps}

@@ -7,9 +7,8 @@ use Rattle.gd_prim.specs.declared.Primitive.{Primitive}
 use Rattle.gd_defs.specs.Asked.{Asked}
 use Rattle.gd_defs.specs.Reply.{Mark, mark_row}
 use Rattle.gd_defs.specs.Rows.{Row, row_cmp, insert_row, sorted_onto}
-use Rattle.gd_runs.specs.Thawed.{window}
-use Rattle.gd_order_laws.specs.Window.{kept_onto}
-use Rattle.gd_order_laws.proofs.Sorted.{kept_row_by_row}
+use Rattle.gd_scan_laws.specs.PassedOn.{window, kept_onto}
+use Rattle.gd_scan_laws.proofs.PassedOn.{kept_row_by_row}
 use Rattle.gd_match_laws.specs.Best.{behind_mark, Stand}
 
 module _ {A : Type 0} (cmp : A → A → Ordering) where

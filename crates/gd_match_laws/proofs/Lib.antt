@@ -12,3 +12,4 @@ pub mod Suspended
 pub mod Whole
 pub mod Walks
 pub mod Laws
+pub mod PassedOn

@@ -8,9 +8,7 @@ use Rattle.gd_prim.specs.declared.Primitive.{Primitive}
 use Rattle.gd_tree.specs.Trees.{tree, Trees, no_trees, and_tree, TreeLists, no_lists, and_list, append, has_list}
 use Rattle.gd_defs.specs.Query.{Mode}
 use Rattle.gd_defs.specs.Template.{Constraint, Template, template, Clauses, no_clauses, clause, Hop, led_to, meets_constraints, passes_template, tree_of, one_for_links}
-use Rattle.gd_bytes.specs.Frozen.{IterAt, Frame, Scan}
-use Rattle.gd_runs.specs.Owed.{ScanOrder, Candidate, candidate, candidates_from, with_list, tried, owed_by, MembersOf, iter_fits, frames_fit, frame_lists_fit, stack_fits, scan_fits}
-use Rattle.gd_order_laws.specs.Window.{Rising}
+use Rattle.gd_scan_laws.specs.PassedOn.{IterAt, Frame, Scan, ScanOrder, Candidate, candidate, candidates_from, with_list, tried, owed_by, MembersOf, iter_fits, frames_fit, frame_lists_fit, stack_fits, scan_fits, Rising}
 use Rattle.gd_match_laws.specs.Moves.{passing_from, order_from, is_given, stops, appended, fresh, Ends, nothing_asked, last_ends, required_unmet, later_ends, FrameMoves, begins, descends, takes, below_moves, below_ends, next_begins, later_moves, StackMoves, frame_moves, picks, frames_move, gives, Runs, stays, moves}
 use Rattle.gd_match_laws.proofs.First.{next_left, led-rise, Rising-mapped}
 use Rattle.gd_match_laws.proofs.Scans.{run-keeps, whole-run}

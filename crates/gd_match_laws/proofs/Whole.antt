@@ -11,12 +11,8 @@ use Rattle.gd_defs.specs.Plan.{template_of}
 use Rattle.gd_defs.specs.Reply.{Mark, row_mark, max_page_weight, mark_row, page_cursor, page_answer}
 use Rattle.gd_defs.specs.Rows.{Row}
 use Rattle.gd_defs.specs.Template.{passes_template}
-use Rattle.gd_bytes.specs.Frozen.{Scan, scanning, printing, Walk}
-use Rattle.gd_runs.specs.Owed.{Candidate, tried, candidate, candidates_from, owed_by, weighs_too_much}
-use Rattle.gd_runs.specs.Scanned.{scan_order}
-use Rattle.gd_runs.specs.Thawed.{built_trees, built_weight, row_candidates, row_tried, body_answer, window}
-use Rattle.gd_order_laws.specs.Window.{Each, Rising}
-use Rattle.gd_order_laws.proofs.Places.{nat_less}
+use Rattle.gd_scan_laws.specs.PassedOn.{Scan, scanning, printing, Walk, Candidate, tried, candidate, candidates_from, owed_by, weighs_too_much, scan_order, built_trees, built_weight, row_candidates, row_tried, body_answer, window, Each, Rising}
+use Rattle.gd_scan_laws.proofs.PassedOn.{nat_less}
 use Rattle.gd_scan_laws.specs.Ordered.{start}
 use Rattle.gd_scan_laws.proofs.Rising.{scan_rises}
 use Rattle.gd_defs.specs.Lines.{too_wide, refused_at, count_json}

@@ -5,8 +5,7 @@ use Rattle.gd_prim.specs.declared.Primitive.{Primitive}
 use Rattle.gd_defs.specs.Asked.{Asked}
 use Rattle.gd_defs.specs.Reply.{Mark, mark_row, row_mark}
 use Rattle.gd_defs.specs.Rows.{Row, row_of, row_cmp, sorted_onto}
-use Rattle.gd_runs.specs.Owed.{Candidate}
-use Rattle.gd_runs.specs.Thawed.{window, answering}
+use Rattle.gd_scan_laws.specs.PassedOn.{Candidate, window, answering}
 
 -- the rows behind a mark, if there is one
 abbrev pub behind_mark : List Primitive → Asked → Option Mark → List Row → List Row

@@ -5,3 +5,4 @@ pub mod Rows
 pub mod Best
 pub mod Walks
 pub mod Laws
+pub mod PassedOn

@@ -3,3 +3,4 @@ pub mod TreeRows
 pub mod Printed
 pub mod Pages
 pub mod Laws
+pub mod PassedOn

@@ -4,3 +4,4 @@ pub mod Linked
 pub mod Making
 pub mod Planned
 pub mod Subjects
+pub mod PassedOn

@@ -17,26 +17,20 @@ use Rattle.gd_runs.specs.Core as core
 use Rattle.gd_runs.specs.Fitting.{fits}
 use Rattle.gd_runs.specs.Owed.{ScanOrder}
 use Rattle.gd_order_laws.specs.Window.{Rising}
-use Rattle.gd_match.specs.Rooted.{walk_left, walk_order}
+use Rattle.gd_roots.specs.PassedOn.{walk_left, walk_order, one_member, between, Asks, IsScanOrder, KeepsRows, RowsFit, StandsFor}
 use Rattle.gd_runs.specs.Request.{asks_page}
 use Rattle.gd_runs.specs.Scanned.{scan_order}
 use Rattle.gd_runs.specs.Thawed.{body_answer, thawed_line, thawed_reply}
-use Rattle.gd_scan_laws.specs.Ordered.{start}
+use Rattle.gd_shape.specs.PassedOn.{start, marks_of, page_objects, trees_among, weight_among, HasVisited, IsKept, view as tree_view}
 use Rattle.gd_json.specs.View.{view as json_view}
 use Rattle.gd_mql.specs.Requests.{cursor_view, read_view}
 use Rattle.gd_plan.specs.Asked.{asked_view}
 use Rattle.gd_frozen.specs.Meaning.{reading_of}
 use Rattle.gd_frozen.specs.declared.frozen.FrozenReading.{FrozenReading}
-use Rattle.gd_trees.specs.View.{view as tree_view}
 use Rattle.gd_window.specs.Kept.{Kept}
 use Rattle.gd_window.specs.Laws.{defined}
 use Rattle.gd_window.specs.declared.row.Row.{Row}
-use Rattle.gd_suspended_laws.specs.Standing.{marks_of, page_objects, trees_among, weight_among, HasVisited, IsKept}
-use Rattle.gd_thaw_laws.specs.Spelled.{one_member}
-use Rattle.gd_thaw_laws.specs.Thawing.{between}
-use Rattle.gd_thaw_laws.specs.Standing.{Asks, IsScanOrder, KeepsRows, RowsFit, StandsFor}
-use Rattle.gd_thaw_laws.proofs.Spelled.{fitting_are_spelled}
-use Rattle.gd_thaw_laws.proofs.Standing.{starts_stand, visits_stand, pages_stand, rows_stand}
+use Rattle.gd_roots.proofs.PassedOn.{fitting_are_spelled, starts_stand, visits_stand, pages_stand, rows_stand}
 use Rattle.gd_read.specs.Come.{HasAll, HasCome, HasWalked, places_of}
 use Rattle.gd_read.specs.Freezing.{began, number_ahead, BodyStands, IsFrozen, ReadingFreezes, FreezesTo}
 use Rattle.gd_read.specs.Marked.{mark_of}

@@ -18,3 +18,4 @@ pub mod Paid
 pub mod Starts
 pub mod Frozen
 pub mod Walked
+pub mod PassedOn

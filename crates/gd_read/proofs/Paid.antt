@@ -16,10 +16,7 @@ use Rattle.gd_runs.specs.Pace as pace
 use Rattle.gd_runs.specs.Request.{ReadRequest}
 use Rattle.gd_store.proofs.Held.{history_some}
 use Rattle.gd_runs.specs.RootSets.{RootSet}
-use Rattle.gd_match.specs.Ahead.{walk_ahead}
-use Rattle.gd_match.specs.Paid.{ScansSet}
-use Rattle.gd_match.specs.declared.root.Root.{Root}
-use Rattle.gd_match.specs.declared.root.Walk.{Walk}
+use Rattle.gd_roots.specs.PassedOn.{walk_ahead, ScansSet, Root, Walk}
 use Rattle.gd_roots.specs.Rooted.{ScansSmallest}
 use Rattle.gd_work_laws.specs.Scan.{walk_turns}
 use Rattle.gd_mql.specs.Requests.{read_view}

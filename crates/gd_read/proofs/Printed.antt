@@ -26,9 +26,8 @@ use Rattle.gd_runs.specs.Shape.{page_shape}
 use Rattle.gd_window.specs.declared.row.Row.{Row}
 use Rattle.gd_window.specs.Kept.{Kept}
 use Rattle.gd_window.specs.Laws.{defined}
-use Rattle.gd_suspended_laws.specs.Standing.{rows_of, page_rows}
-use Rattle.gd_suspended_laws.proofs.Going.{map-take, length-map}
-use Rattle.gd_suspended_laws.proofs.Laws.{many_are_refused, prints_are_owed}
+use Rattle.gd_shape.specs.PassedOn.{rows_of, page_rows}
+use Rattle.gd_shape.proofs.PassedOn.{map-take, length-map, many_are_refused, prints_are_owed}
 use Rattle.gd_read.specs.Subject.{answer_of}
 use Rattle.gd_work_laws.specs.Reading.{printing_most}
 use Rattle.gd_read.specs.Left.{prints_most}

@@ -11,16 +11,14 @@ use Rattle.gd_defs.specs.Plan.{template_of}
 use Rattle.gd_defs.specs.Rows as defs
 use Rattle.gd_defs.specs.Reply.{Mark, page}
 use Rattle.gd_defs.specs.Template.{Template, passes_template}
-use Rattle.gd_trees.specs.Led.{judge_turns}
+use Rattle.gd_shape.specs.PassedOn.{judge_turns, KeepsPage, page_objects}
 use Rattle.gd_work_laws.specs.Scan.{candidate_turns}
 use Rattle.gd_work_laws.specs.Turns.{test_turns, build_turns}
 use Rattle.gd_work_laws.specs.Reading.{place_steps, gathering_most, page_most}
-use Rattle.gd_left_laws.specs.Laws.{KeepsPage}
 use Rattle.gd_window.specs.Kept.{Kept}
-use Rattle.gd_suspended_laws.specs.Standing.{page_objects}
 use Rattle.gd_plan.specs.Asked.{asked_view}
 use Rattle.gd_plan.specs.declared.asked.Asked.{Asked as Found}
-use Rattle.gd_match.specs.Resumed.{matcher_ahead}
+use Rattle.gd_roots.specs.PassedOn.{matcher_ahead}
 use Rattle.gd_tree.specs.Trees.{Tree}
 use Rattle.gd_read.specs.Left.{crowded_left, gain_left, gathering_left, page_places, prints_most, round_left, rows_left, rows_most, row_left, walked_left}
 use Rattle.gd_read.specs.Stages.{TreeGains}

@@ -11,8 +11,7 @@ use Rattle.gd_runs.specs.Request.{ReadRequest, ReadSet, one_query, queries, asks
 use Rattle.gd_mql.specs.Requests.{cursor_view}
 use Rattle.gd_frozen.specs.Meaning.{reading_of}
 use Rattle.gd_frozen.specs.declared.frozen.FrozenReading.{FrozenReading}
-use Rattle.gd_thaw_laws.specs.Spelled.{one_member}
-use Rattle.gd_thaw_laws.specs.Standing.{Began, StandsFor}
+use Rattle.gd_roots.specs.PassedOn.{one_member, Began, StandsFor}
 use Rattle.gd_read.specs.Marked.{mark_of}
 use Rattle.gd_read.specs.Stages.{IsAsked}
 use Rattle.gd_read.specs.Subject.{written}

@@ -11,9 +11,7 @@ use Rattle.gd_defs.specs.Template.{Template}
 use Rattle.gd_plan.specs.Asked.{asked_view}
 use Rattle.gd_work_laws.specs.Scan.{candidate_turns}
 use Rattle.gd_work_laws.specs.Reading.{place_steps, printing_most, page_most, visit_turns}
-use Rattle.gd_match.specs.Ahead.{walk_ahead}
-use Rattle.gd_match.specs.Resumed.{matcher_ahead}
-use Rattle.gd_match.specs.declared.root.Walk.{Walk}
+use Rattle.gd_roots.specs.PassedOn.{walk_ahead, matcher_ahead, Walk}
 use Rattle.gd_shape.specs.Shaping.{shape_due}
 use Rattle.gd_read.specs.Marked.{mark_of}
 use Rattle.gd_read.specs.declared.trying.Trying.{Trying}

@@ -18,3 +18,4 @@ pub mod Lightness
 pub mod Heavy
 pub mod Paid
 pub mod Freezing
+pub mod PassedOn

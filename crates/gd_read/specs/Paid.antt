@@ -10,8 +10,7 @@ use Rattle.gd_runs.specs.Request.{ReadRequest}
 use Rattle.gd_runs.specs.RootSets.{RootSet}
 use Rattle.gd_runs.specs.Pace as pace
 use Rattle.gd_runs.specs.Work.{first_left}
-use Rattle.gd_match.specs.Ahead.{walk_ahead}
-use Rattle.gd_match.specs.declared.root.Walk.{Walk}
+use Rattle.gd_roots.specs.PassedOn.{walk_ahead, Walk}
 use Rattle.gd_plan.specs.Asked.{asked_view}
 use Rattle.gd_plan.specs.declared.asked.Asked.{Asked as Found}
 use Rattle.gd_work_laws.specs.Scan.{IsSmallest, walk_turns}

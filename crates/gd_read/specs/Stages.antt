@@ -17,15 +17,11 @@ use Rattle.gd_runs.specs.Scanned.{scan_order}
 use Rattle.gd_runs.specs.Shape.{page_shape}
 use Rattle.gd_runs.specs.Thawed.{body_answer}
 use Rattle.gd_runs.specs.Request.{asks_page}
-use Rattle.gd_scan_laws.specs.Ordered.{start}
-use Rattle.gd_match.specs.Rooted.{walk_left, walk_order}
-use Rattle.gd_suspended_laws.specs.Standing.{rows_of, marks_of, page_rows, IsKept, window_of, page_objects, trees_among, weight_among}
-use Rattle.gd_thaw_laws.specs.Standing.{RowsFit}
-use Rattle.gd_left_laws.specs.Laws.{KeepsPage}
+use Rattle.gd_shape.specs.PassedOn.{start, rows_of, marks_of, page_rows, IsKept, window_of, page_objects, trees_among, weight_among, KeepsPage, view as tree_view, trees_view}
+use Rattle.gd_roots.specs.PassedOn.{walk_left, walk_order, RowsFit}
 use Rattle.gd_mql.specs.Requests.{cursor_view}
 use Rattle.gd_plan.specs.Asked.{asked_view}
 use Rattle.gd_plan.specs.declared.asked.Asked.{Asked as Found}
-use Rattle.gd_trees.specs.View.{view as tree_view, trees_view}
 use Rattle.gd_window.specs.Kept.{Kept, HasSeen}
 use Rattle.gd_shape.specs.Shaping.{page_of, body_print, IsOf, IsBodyOf}
 use Rattle.gd_shape.specs.declared.shape.PageBody.{PageBody}

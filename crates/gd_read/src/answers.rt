@@ -11,12 +11,12 @@ ghost use Rattle.gd_read.specs.KeysAt.{holds, is_answer_at};
 use gd_base::datum::Datum;
 use gd_base::id::Id;
 use gd_base::steps::Steps;
+use gd_compile::{Property, is_of};
 use gd_datum::value::Kind;
 use gd_iter_core::budget::Budget;
 use gd_plan::constraint::asked_end;
 use gd_plan::expects::{Expects, expects_of};
 use gd_prim::Primitive;
-use gd_resolve::property::{Property, is_of};
 use gd_store::view::View;
 
 /// Whether a primitive without typ stands at the place.

@@ -1,6 +1,9 @@
 //! Reads over a store, in slices of a budget of steps.
 #![tactic(auto)]
 
+pub use gd_compile::compile::compile;
+pub use gd_compile::fault::Unknown;
+
 mod advance;
 mod answers;
 mod building;

@@ -11,7 +11,7 @@ ghost use Rattle.gd_mql.specs.Requests.{cursor_view};
 ghost use Rattle.gd_plan.specs.Asked.{asked_view};
 ghost use Rattle.gd_read.specs.Marked.{mark_of, printed_view};
 ghost use Rattle.gd_window.specs.Laws.{defined};
-ghost use Rattle.gd_suspended_laws.specs.Standing.{rows_of, page_rows};
+ghost use Rattle.gd_shape.specs.PassedOn.{rows_of, page_rows};
 ghost use Rattle.gd_reply.specs.Answers.{Tells};
 ghost use Rattle.gd_read.specs.Stages.{Prints, IsBuilt};
 ghost use Rattle.gd_read.specs.Rounds.{RoundGives, RoundGoes};

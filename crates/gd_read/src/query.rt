@@ -22,7 +22,7 @@ ghost use Rattle.gd_frozen.specs.Meaning.{reading_of};
 ghost use Rattle.gd_frozen.specs.Meant.{meant};
 ghost use Rattle.gd_window.specs.Kept.{HasSeen};
 ghost use Rattle.gd_read.specs.Marked.{mark_of};
-ghost use Rattle.gd_suspended_laws.specs.Standing.{window_of};
+ghost use Rattle.gd_shape.specs.PassedOn.{window_of};
 ghost use Rattle.gd_read.specs.Begun.{fault_at, HasOffset, asked_from, dateline_from, Begins};
 ghost use Rattle.gd_read.specs.Begun.{IsMeaningless};
 ghost use Rattle.gd_reply.specs.Answers.{Tells};

@@ -7,15 +7,15 @@ use Rattle.gd_fault.specs.declared.fault.LineFault.{LineFault}
 use Rattle.gd_fault.specs.declared.fault.LineFault.TheVariants as fault
 use Rattle.gd_mql.specs.Line.{fault_view}
 use Rattle.gd_json.specs.Reading.{json_from}
-use Rattle.gd_runs.specs.Owed.{MembersOf}
+use Rattle.gd_sessions.specs.PassedOn.{one_member}
 use Rattle.gd_runs.specs.Input.{input_fault_line, line_too_long, no_json, no_line, max_line}
 use Rattle.gd_runs.specs.Explained.{tells_fault}
 use Rattle.gd_runs.specs.Side.{IsFresh}
 use Rattle.gd_runs.specs.Core as core
 use Rattle.gd_runs.specs.Core.{Event, State}
 use Rattle.gd_runs.specs.Replay.{event_from, event_of}
-use Rattle.gd_replay_laws.specs.Built.{StepBuilt, Takes}
-use Rattle.gd_replay_laws.specs.Runs.{BuiltLine, IsBounded, AreBelow}
+use Rattle.gd_replay_laws.specs.Steps.{StepOver, Takes}
+use Rattle.gd_replay_laws.specs.Runs.{LineOver, IsBounded, AreBelow}
 use Rattle.gd_runs.specs.Pace.{DueOf, Left}
 use Rattle.gd_replay_laws.specs.Faults.{IsCounted}
 use Rattle.gd_replay_laws.specs.Paced.{AreWithin, Paces, LinePaces}
@@ -61,15 +61,15 @@ may_take s k core.reopen below bounds = tt
 
 -- ---- a line
 
-pub takes_line : (told : Bool) (members : MembersOf) (may : ℕ → Bool) (s : State) (k bytes : ℕ) (piece : List ℕ) (e : Event) (reply : List ℕ) (t : State) → event_from piece ≡ Ok e → bytes ≡ length piece → Takes told members may s k bytes e reply t
-    → BuiltLine told members may s k piece reply t
-takes_line told members may s k bytes piece e reply t event long takes = ⊎_elim
-    (λ taken. inr (inl (e, event, subst (λ (n : ℕ). StepBuilt told members may s k n e reply t) long taken)))
+pub takes_line : (told : Bool) (may : ℕ → Bool) (s : State) (k bytes : ℕ) (piece : List ℕ) (e : Event) (reply : List ℕ) (t : State) → event_from piece ≡ Ok e → bytes ≡ length piece → Takes told one_member may s k bytes e reply t
+    → LineOver told one_member may s k piece reply t
+takes_line told may s k bytes piece e reply t event long takes = ⊎_elim
+    (λ taken. inr (inl (e, event, subst (λ (n : ℕ). StepOver told one_member may s k n e reply t) long taken)))
     (λ lacks. inr (inr (lacks.0, inr (e, event, lacks.1))))
     takes
 
-pub refuses_line : (told : Bool) (members : MembersOf) (may : ℕ → Bool) (s : State) (k : ℕ) (piece : List ℕ) (f : LineFault) (reply : List ℕ) → (f ≢ fault.Memory → event_from piece ≡ Err (fault_view f)) → TellsFault k f reply → BuiltLine told members may s k piece reply s
-refuses_line told members may s k piece f reply asked tells = ⊎_elim
+pub refuses_line : (told : Bool) (may : ℕ → Bool) (s : State) (k : ℕ) (piece : List ℕ) (f : LineFault) (reply : List ℕ) → (f ≢ fault.Memory → event_from piece ≡ Err (fault_view f)) → TellsFault k f reply → LineOver told one_member may s k piece reply s
+refuses_line told may s k piece f reply asked tells = ⊎_elim
     (λ told. inl (fault_view f, asked told.0, told.1, refl))
     (λ lacks. inr (inr (lacks, inl refl)))
     tells
@@ -78,8 +78,8 @@ refuses_line told members may s k piece f reply asked tells = ⊎_elim
 long_is : (piece : List ℕ) → max_line < length piece → event_from piece ≡ Err line_too_long
 long_is piece long = ap (λ (b : Bool). if b then Err line_too_long else (map_err no_json (json_from piece) >>= λ j. map_err no_line (event_of j))) (lt-ltb max_line (length piece) long)
 
-pub long_line : (told : Bool) (members : MembersOf) (may : ℕ → Bool) (s : State) (k : ℕ) (piece : List ℕ) (reply : List ℕ) → max_line < length piece → TellsTooLong k reply → BuiltLine told members may s k piece reply s
-long_line told members may s k piece reply long tells = ⊎_elim
+pub long_line : (told : Bool) (may : ℕ → Bool) (s : State) (k : ℕ) (piece : List ℕ) (reply : List ℕ) → max_line < length piece → TellsTooLong k reply → LineOver told one_member may s k piece reply s
+long_line told may s k piece reply long tells = ⊎_elim
     (λ told. inl (line_too_long, long_is piece long, told, refl))
     (λ lacks. inr (inr (lacks, inl refl)))
     tells
@@ -103,9 +103,9 @@ tells_fault_of k f (Err e) reply told none is = inr is
 -- ---- counts of faults
 
 -- opening again tells no failure of the disk
-pub reopened_counted : (told : Bool) (members : MembersOf) (may : ℕ → Bool) (s : State) (k bytes : ℕ) (t : State) (before after : ℕ) (result : Result Reply Memory) → Answers (λ line. Takes told members may s k bytes core.reopen line t) result
-    → Answers (λ line. Takes told members may s k bytes core.reopen line t × IsCounted k line before after) result
-reopened_counted told members may s k bytes t before after result = answers_counted (λ line. Takes told members may s k bytes core.reopen line t) k before after result (λ line taken. takes_quiet k told members may s bytes core.reopen line t tt taken)
+pub reopened_counted : (told : Bool) (may : ℕ → Bool) (s : State) (k bytes : ℕ) (t : State) (before after : ℕ) (result : Result Reply Memory) → Answers (λ line. Takes told one_member may s k bytes core.reopen line t) result
+    → Answers (λ line. Takes told one_member may s k bytes core.reopen line t × IsCounted k line before after) result
+reopened_counted told may s k bytes t before after result = answers_counted (λ line. Takes told one_member may s k bytes core.reopen line t) k before after result (λ line taken. takes_quiet k told one_member may s bytes core.reopen line t tt taken)
 
 -- nor does the refusal of what is no event
 pub fault_told_quiet : (k : ℕ) (f : LineFault) (line : List ℕ) → TellsFault k f line → tells_fault k line ≡ false
@@ -123,24 +123,24 @@ long_told_quiet k line tells = ⊎_elim
 -- ---- the pace
 
 -- opening again keeps it
-pub reopened_paced : (told : Bool) (members : MembersOf) (may : ℕ → Bool) (s : State) (k bytes : ℕ) (t : State) (before after : ℕ) (had has : Left) (result : Result Reply Memory) → AreWithin has had
-    → Answers (λ line. Takes told members may s k bytes core.reopen line t × IsCounted k line before after) result
-    → Answers (λ line. Takes told members may s k bytes core.reopen line t × IsCounted k line before after × ((d : DueOf) → Paces members d s k core.reopen line t had has)) result
-reopened_paced told members may s k bytes t before after had has result less =
-    answers_more (λ line. Takes told members may s k bytes core.reopen line t × IsCounted k line before after) (λ line. Takes told members may s k bytes core.reopen line t × IsCounted k line before after × ((d : DueOf) → Paces members d s k core.reopen line t had has)) result
-    (λ line (taken, counted). (taken, counted, λ d. reopen_paces members d s k line t had has less))
+pub reopened_paced : (told : Bool) (may : ℕ → Bool) (s : State) (k bytes : ℕ) (t : State) (before after : ℕ) (had has : Left) (result : Result Reply Memory) → AreWithin has had
+    → Answers (λ line. Takes told one_member may s k bytes core.reopen line t × IsCounted k line before after) result
+    → Answers (λ line. Takes told one_member may s k bytes core.reopen line t × IsCounted k line before after × ((d : DueOf) → Paces one_member d s k core.reopen line t had has)) result
+reopened_paced told may s k bytes t before after had has result less =
+    answers_more (λ line. Takes told one_member may s k bytes core.reopen line t × IsCounted k line before after) (λ line. Takes told one_member may s k bytes core.reopen line t × IsCounted k line before after × ((d : DueOf) → Paces one_member d s k core.reopen line t had has)) result
+    (λ line (taken, counted). (taken, counted, λ d. reopen_paces one_member d s k line t had has less))
 
 -- so does the refusal of what is no event
-pub refuses_paced : (members : MembersOf) (d : DueOf) (s : State) (k : ℕ) (piece : List ℕ) (f : LineFault) (reply : List ℕ) (had has : Left) → (f ≢ fault.Memory → event_from piece ≡ Err (fault_view f)) → AreWithin has had → TellsFault k f reply → LinePaces members d s k piece reply s had has
-refuses_paced members d s k piece f reply had has asked less tells = ⊎_elim
-    (λ told. fault_line_paces members d s k piece reply (fault_view f) s had has (asked told.0) less)
-    (λ lacks. memory_line_paces members d s k piece reply s had has lacks less)
+pub refuses_paced : (d : DueOf) (s : State) (k : ℕ) (piece : List ℕ) (f : LineFault) (reply : List ℕ) (had has : Left) → (f ≢ fault.Memory → event_from piece ≡ Err (fault_view f)) → AreWithin has had → TellsFault k f reply → LinePaces one_member d s k piece reply s had has
+refuses_paced d s k piece f reply had has asked less tells = ⊎_elim
+    (λ told. fault_line_paces one_member d s k piece reply (fault_view f) s had has (asked told.0) less)
+    (λ lacks. memory_line_paces one_member d s k piece reply s had has lacks less)
     tells
 
-pub long_paced : (members : MembersOf) (d : DueOf) (s : State) (k : ℕ) (piece reply : List ℕ) (had has : Left) → max_line < length piece → AreWithin has had → TellsTooLong k reply → LinePaces members d s k piece reply s had has
-long_paced members d s k piece reply had has long less tells = ⊎_elim
-    (λ told. fault_line_paces members d s k piece reply line_too_long s had has (long_is piece long) less)
-    (λ lacks. memory_line_paces members d s k piece reply s had has lacks less)
+pub long_paced : (d : DueOf) (s : State) (k : ℕ) (piece reply : List ℕ) (had has : Left) → max_line < length piece → AreWithin has had → TellsTooLong k reply → LinePaces one_member d s k piece reply s had has
+long_paced d s k piece reply had has long less tells = ⊎_elim
+    (λ told. fault_line_paces one_member d s k piece reply line_too_long s had has (long_is piece long) less)
+    (λ lacks. memory_line_paces one_member d s k piece reply s had has lacks less)
     tells
 
 pub stays_within : (a : Left) → AreWithin a a

@@ -5,17 +5,14 @@ use Rattle.gd_base.specs.Counts.{Rose}
 use Rattle.gd_prim.specs.declared.Batch.{Batch}
 use Rattle.gd_journal.specs.declared.fault.JournalFault.{JournalFault}
 use Rattle.gd_journal.specs.declared.fault.JournalFault.TheVariants as journal
-use Rattle.gd_runs.specs.Owed.{MembersOf}
+use Rattle.gd_sessions.specs.PassedOn.{one_member, Tells, SideValue, GoesOn, Opens}
 use Rattle.gd_bytes.specs.File.{StandsFor, MayStandFor}
 use Rattle.gd_runs.specs.Side.{doubt_groups}
 use Rattle.gd_runs.specs.Legal.{Entry, batches}
 use Rattle.gd_runs.specs.Core.{Event, State, opened, reopen, ReopenStep}
-use Rattle.gd_replay_laws.specs.Built.{Takes}
+use Rattle.gd_replay_laws.specs.Steps.{Takes}
 use Rattle.gd_replay_laws.specs.Runs.{AreBelow}
 use Rattle.gd_replay_laws.proofs.Below.{later, opened_below, takes_below}
-use Rattle.gd_writer.specs.Parts.{Tells}
-use Rattle.gd_writer.specs.Side.{SideValue, GoesOn}
-use Rattle.gd_writer.specs.Opened.{Opens}
 use Rattle.gd_reply.specs.declared.reply.Reply.{Reply}
 use Rattle.gd_sessions.specs.Running.{Answers, StandsForState}
 use Rattle.gd_replay.specs.Kept.{Grows, IsHindrance}
@@ -33,22 +30,19 @@ anew_below k s t loaded below anew = ⊎_elim
     anew
 
 -- an event that was taken
-pub taken_below : (may : ℕ → Bool) (s : State) (k bytes : ℕ) (e : Event) (t : State) (reply : List ℕ) → AreBelow k s → ((told : Bool) (members : MembersOf) → Takes told members may s k bytes e reply t) → AreBelow (k + 1) t
+pub taken_below : (may : ℕ → Bool) (s : State) (k bytes : ℕ) (e : Event) (t : State) (reply : List ℕ) → AreBelow k s → ((told : Bool) → Takes told one_member may s k bytes e reply t) → AreBelow (k + 1) t
 taken_below may s k bytes e t reply below takes =
-    let none : MembersOf = λ prims hop template. 0 in
-    takes_below true none may s k bytes e reply t below (takes true none)
+    takes_below true one_member may s k bytes e reply t below (takes true)
 
 -- the batches that there were stay in front
-pub taken_grows : (may : ℕ → Bool) (s : State) (k bytes : ℕ) (e : Event) (t : State) (reply : List ℕ) → ((told : Bool) (members : MembersOf) → Takes told members may s k bytes e reply t) → Grows (batches s.history) (batches t.history)
+pub taken_grows : (may : ℕ → Bool) (s : State) (k bytes : ℕ) (e : Event) (t : State) (reply : List ℕ) → ((told : Bool) → Takes told one_member may s k bytes e reply t) → Grows (batches s.history) (batches t.history)
 taken_grows may s k bytes e t reply takes =
-    let none : MembersOf = λ prims hop template. 0 in
-    takes_grows true none may s k bytes e reply t refl (takes true none)
+    takes_grows true may s k bytes e reply t refl (takes true)
 
 -- so they do where it was taken by a reply that is due
-pub due_grows : (told : Bool) → IsTrue told → (may : ℕ → Bool) (s : State) (k bytes : ℕ) (e : Event) (t : State) (reply : Result Reply Memory) → ((members : MembersOf) → Answers (λ line. Takes told members may s k bytes e line t) reply) → Grows (batches s.history) (batches t.history)
+pub due_grows : (told : Bool) → IsTrue told → (may : ℕ → Bool) (s : State) (k bytes : ℕ) (e : Event) (t : State) (reply : Result Reply Memory) → Answers (λ line. Takes told one_member may s k bytes e line t) reply → Grows (batches s.history) (batches t.history)
 due_grows told tells may s k bytes e t reply takes =
-    let none : MembersOf = λ prims hop template. 0 in
-    answers_say (λ line. Takes told none may s k bytes e line t) (Grows (batches s.history) (batches t.history)) reply (λ line taken. takes_grows told none may s k bytes e line t tells taken) (takes none)
+    answers_say (λ line. Takes told one_member may s k bytes e line t) (Grows (batches s.history) (batches t.history)) reply (λ line taken. takes_grows told may s k bytes e line t tells taken) takes
 
 -- ---- a store that was opened again
 
@@ -67,18 +61,17 @@ reopened_before s k line t step = λ file stands. ⊎_elim
     (λ (e, doubt, with_it). subst (λ (d : Option Entry). MayStandFor (batches s.history) (doubt_groups d) file) (sym doubt) (inr (opened_stands (batches s.history ++ e.batch ∷ []) t file with_it stands)))
     step.1
 
-takes_before : (told : Bool) (members : MembersOf) (may : ℕ → Bool) (s : State) (k bytes : ℕ) (line : List ℕ) (t : State) → IsTrue told → Takes told members may s k bytes reopen line t → StandsBefore s t
-takes_before told members may s k bytes line t tells takes = ⊎_elim
+takes_before : (told : Bool) (may : ℕ → Bool) (s : State) (k bytes : ℕ) (line : List ℕ) (t : State) → IsTrue told → Takes told one_member may s k bytes reopen line t → StandsBefore s t
+takes_before told may s k bytes line t tells takes = ⊎_elim
     (λ step. reopened_before s k line t (step.0 tells))
     (λ lacks. λ file stands. subst (λ (u : State). StandsForState u file) lacks.1 stands)
     takes
 
 -- where there was no memory for its reply
-pub unmade_before : (told : Bool) → IsTrue told → (may : ℕ → Bool) (s : State) (k bytes : ℕ) (t : State) (reply : Result Reply Memory) → ((members : MembersOf) → Answers (λ line. Takes told members may s k bytes reopen line t) reply) → OnErr reply (StandsBefore s t)
+pub unmade_before : (told : Bool) → IsTrue told → (may : ℕ → Bool) (s : State) (k bytes : ℕ) (t : State) (reply : Result Reply Memory) → Answers (λ line. Takes told one_member may s k bytes reopen line t) reply → OnErr reply (StandsBefore s t)
 unmade_before told tells may s k bytes t (Ok made) takes = tt
 unmade_before told tells may s k bytes t (Err none) takes =
-    let zero : MembersOf = λ prims hop template. 0 in
-    let (line, taken) = takes zero in takes_before told zero may s k bytes line t tells taken
+    let (line, taken) = takes in takes_before told may s k bytes line t tells taken
 
 -- ---- the clock and the disk
 

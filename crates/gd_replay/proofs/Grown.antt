@@ -3,14 +3,15 @@ use Rattle.std.proofs.Common.{◌≡◌, ℕ, List, [], ◌∷◌, ◌++◌, Boo
 use Rattle.gd_prim.specs.declared.Batch.{Batch}
 use Rattle.gd_defs.specs.Lines.{Refusal}
 use Rattle.gd_defs.specs.Write.{WriteRequest}
-use Rattle.gd_runs.specs.Owed.{MembersOf}
-use Rattle.gd_runs.specs.Request.{ReadSet, one_query, queries}
+use Rattle.gd_sessions.specs.PassedOn.{one_member}
+use Rattle.gd_runs.specs.Request.{ReadSet}
 use Rattle.gd_runs.specs.Legal.{Entry, History, batches, with_entry}
 use Rattle.gd_runs.specs.Core as core
 use Rattle.gd_runs.specs.Core.{Event, Reading, State, opened, reading_of, Settles, Writable, WriteStep, stores, stores_late, refuses, doubts, leaves_doubt, lacks_memory, lacks_memory_settled, BeginStep, SliceStep, LearnStep}
 use Rattle.gd_runs.specs.Replay.{LacksMemory}
 use Rattle.gd_runs.proofs.Rounds.{batches_more}
-use Rattle.gd_replay_laws.specs.Built.{StepBuilt, Takes}
+use Rattle.gd_replay_laws.specs.Steps.{StepOver, Takes}
+use Rattle.gd_replay_laws.proofs.Below.{freeze_same, thaw_same}
 use Rattle.gd_replay.specs.Kept.{Grows}
 
 pub grows_same : (bs : List Batch) → Grows bs bs
@@ -69,8 +70,8 @@ begin_goes s k i r line t step = by (reading_of (batches s.history) s.shown r) r
     by (Ok reading) is = stays s (core.entered s i (Some reading)) t refl (rw is at step).1
     by (Err f) is = stays s (core.entered s i None) t refl (rw is at step).1
 
-slice_goes : (members : MembersOf) (s : State) (k i : ℕ) (line : List ℕ) (t : State) → SliceStep members s k i line t → Goes s t
-slice_goes members s k i line t step = by (s.sessions i).reading refl
+slice_goes : (s : State) (k i : ℕ) (line : List ℕ) (t : State) → SliceStep one_member s k i line t → Goes s t
+slice_goes s k i line t step = by (s.sessions i).reading refl
   where
     by : (o : Option Reading) → (s.sessions i).reading ≡ o → Goes s t
     by None is = stays s s t refl (rw is at step).1
@@ -90,15 +91,14 @@ learn_goes s k i m line t step = by (nat_lt s.shown m) refl
 opened_with : (bs cs : List Batch) → Grows bs cs → Grows bs (batches (opened cs).history)
 opened_with bs cs grows = subst (Grows bs) (sym (append-nil cs)) grows
 
-step_goes : (told : Bool) (members : MembersOf) (may : ℕ → Bool) (s : State) (k bytes : ℕ) (e : Event) (line : List ℕ) (t : State) → IsTrue told → StepBuilt told members may s k bytes e line t → Goes s t
-step_goes told members may s k bytes (core.begin i r) line t tells step = begin_goes s k i r line t step
-step_goes told members may s k bytes (core.slice i n) line t tells step = slice_goes members s k i line t step
-step_goes told members may s k bytes (core.write i w) line t tells step = write_goes may s k bytes i w line t step
-step_goes told members may s k bytes (core.learn i m) line t tells step = learn_goes s k i m line t step
-step_goes told members may s k bytes (core.freeze i) line t tells step = stays s s t refl step.1
-step_goes told members may s k bytes (core.thaw i (one_query r) frozen) line t tells step = stays s s t refl step.1
-step_goes told members may s k bytes (core.thaw i (queries rs) frozen) line t tells step = stays s s t refl step.1
-step_goes told members may s k bytes core.reopen line t tells step = ⊎_elim
+step_goes : (told : Bool) (may : ℕ → Bool) (s : State) (k bytes : ℕ) (e : Event) (line : List ℕ) (t : State) → IsTrue told → StepOver told one_member may s k bytes e line t → Goes s t
+step_goes told may s k bytes (core.begin i r) line t tells step = begin_goes s k i r line t step
+step_goes told may s k bytes (core.slice i n) line t tells step = slice_goes s k i line t step
+step_goes told may s k bytes (core.write i w) line t tells step = write_goes may s k bytes i w line t step
+step_goes told may s k bytes (core.learn i m) line t tells step = learn_goes s k i m line t step
+step_goes told may s k bytes (core.freeze i) line t tells step = stays s t t (freeze_same one_member s k i line t step).0 refl
+step_goes told may s k bytes (core.thaw i r frozen) line t tells step = stays s t t (thaw_same one_member s k i r frozen line t step).0 refl
+step_goes told may s k bytes core.reopen line t tells step = ⊎_elim
     (λ without. subst (λ (v : State). Goes s v) (sym without) (opened_with (batches s.history) (batches s.history) (grows_same (batches s.history))))
     (λ (e, doubt, with_it). subst (λ (v : State). Goes s v) (sym with_it) (opened_with (batches s.history) (batches s.history ++ e.batch ∷ []) (record { more = e.batch ∷ []; is = refl })))
     (step.0 tells).1
@@ -118,5 +118,5 @@ lacks_goes s (core.freeze i) t lacks = stays s s t refl lacks
 lacks_goes s core.reopen t lacks = stays s s t refl lacks
 
 -- an event that is taken, or for which no memory was found
-pub takes_grows : (told : Bool) (members : MembersOf) (may : ℕ → Bool) (s : State) (k bytes : ℕ) (e : Event) (line : List ℕ) (t : State) → IsTrue told → Takes told members may s k bytes e line t → Grows (batches s.history) (batches t.history)
-takes_grows told members may s k bytes e line t tells takes = ⊎_elim (λ taken. step_goes told members may s k bytes e line t tells taken) (λ lacks. lacks_goes s e t lacks.1) takes
+pub takes_grows : (told : Bool) (may : ℕ → Bool) (s : State) (k bytes : ℕ) (e : Event) (line : List ℕ) (t : State) → IsTrue told → Takes told one_member may s k bytes e line t → Grows (batches s.history) (batches t.history)
+takes_grows told may s k bytes e line t tells takes = ⊎_elim (λ taken. step_goes told may s k bytes e line t tells taken) (λ lacks. lacks_goes s e t lacks.1) takes

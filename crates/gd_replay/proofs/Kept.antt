@@ -12,8 +12,7 @@ use Rattle.gd_log.specs.Opening.{Refuses}
 use Rattle.gd_runs.specs.Legal.{Entry, batches}
 use Rattle.gd_runs.specs.Core.{State}
 use Rattle.gd_runs.specs.Side.{doubt_groups}
-use Rattle.gd_writer.specs.Parts.{Tells}
-use Rattle.gd_writer.specs.Opened.{Opens}
+use Rattle.gd_sessions.specs.PassedOn.{Tells, Opens}
 use Rattle.gd_replay.specs.declared.stop.Stop.{Stop}
 use Rattle.gd_replay.specs.declared.stop.Stop.TheVariants as stop
 use Rattle.gd_replay.specs.Stops.{stop_of, Leaves, IsHalt, EndsSent}

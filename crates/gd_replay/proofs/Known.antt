@@ -6,7 +6,6 @@ use Rattle.gd_base.specs.Counts.{RoseBy}
 use Rattle.gd_replay_laws.proofs.Faults.{rose_then}
 use Rattle.gd_prim.specs.declared.Batch.{Batch}
 use Rattle.gd_outside.specs.declared.Failed.{Failed}
-use Rattle.gd_runs.specs.Owed.{MembersOf}
 use Rattle.gd_runs.specs.Explained.{Numbered, lines_of}
 use Rattle.gd_runs.specs.Core.{State, opened}
 use Rattle.gd_input.specs.declared.fault.InputFault.{InputFault}
@@ -33,9 +32,9 @@ rose_alone a b n rose = omega (arith, rose)
 
 -- ---- the loop
 
-pub start_known : (told : Bool) (members : MembersOf) (may : ℕ → Bool) (loaded : List Batch) (held : Option (List ℕ)) (n : ℕ) (had : Left) → AreWithin had (λ i. 0) → (x : Option (List ℕ)) → Known x (prepend_known [] x) (RunUpto told members may loaded held held n n 0 (opened loaded) had)
-start_known told members may loaded held n had none None = tt
-start_known told members may loaded held n had none (Some x) = upto_start told members may loaded held n had none x
+pub start_known : (told : Bool) (may : ℕ → Bool) (loaded : List Batch) (held : Option (List ℕ)) (n : ℕ) (had : Left) → AreWithin had (λ i. 0) → (x : Option (List ℕ)) → Known x (prepend_known [] x) (RunUpto told may loaded held held n n 0 (opened loaded) had)
+start_known told may loaded held n had none None = tt
+start_known told may loaded held n had none (Some x) = upto_start told may loaded held n had none x
 
 -- nothing was taken yet
 pub advances_none : (a : Option (List ℕ)) → Advances a (prepend_known [] a) 0 0
@@ -54,35 +53,35 @@ advances_then (Some x) (Some y) (Some z) n m first more =
     joined : (bs cs : List ℕ) → x ≡ bs ++ y → y ≡ cs ++ z → x ≡ (bs ++ cs) ++ z
     joined bs cs p q = p ∙ (ap (λ (l : List ℕ). bs ++ l) q ∙ sym (append_assoc bs cs z))
 
-module _ (told : Bool) (members : MembersOf) (may : ℕ → Bool) (loaded : List Batch) (old mid new : Option (List ℕ)) (a b c : ℕ) (k : ℕ) (s : State) (had : Left) where
+module _ (told : Bool) (may : ℕ → Bool) (loaded : List Batch) (old mid new : Option (List ℕ)) (a b c : ℕ) (k : ℕ) (s : State) (had : Left) where
   -- a piece more
-  pub more_known : (n : ℕ) (t : State) (has : Left) (x y z : Option (List ℕ)) (piece : Piece) → piece.by_newline ≡ true → Known x y (RunUpto told members may loaded old mid a b k s had) → Known y z (TakesPiece piece)
-      → ((bytes : List ℕ) → IsKept 262_144 piece.line bytes → PiecePrints told members may s k bytes t n mid new b c had has) → Known x z (RunUpto told members may loaded old new a c n t has)
+  pub more_known : (n : ℕ) (t : State) (has : Left) (x y z : Option (List ℕ)) (piece : Piece) → piece.by_newline ≡ true → Known x y (RunUpto told may loaded old mid a b k s had) → Known y z (TakesPiece piece)
+      → ((bytes : List ℕ) → IsKept 262_144 piece.line bytes → PiecePrints told may s k bytes t n mid new b c had has) → Known x z (RunUpto told may loaded old new a c n t has)
   more_known n t has None y z piece newline upto takes prints = tt
   more_known n t has (Some x) None z piece newline upto takes prints = absurd upto
   more_known n t has (Some x) (Some y) None piece newline upto takes prints = absurd takes
-  more_known n t has (Some x) (Some y) (Some z) piece newline upto takes prints = upto_more told members may loaded old mid new a b c k n s t had has x y z piece upto takes newline (prints takes.line takes.kept)
+  more_known n t has (Some x) (Some y) (Some z) piece newline upto takes prints = upto_more told may loaded old mid new a b c k n s t had has x y z piece upto takes newline (prints takes.line takes.kept)
 
   -- the last one
-  pub done_known : (leaves : State → Type 0) (n : ℕ) (t : State) (has : Left) (x y z : Option (List ℕ)) (piece : Piece) → piece.by_newline ≡ false → Known x y (RunUpto told members may loaded old mid a b k s had) → Known y z (TakesPiece piece)
-      → ((bytes : List ℕ) → IsKept 262_144 piece.line bytes → PiecePrints told members may s k bytes t n mid new b c had has) → leaves t → IfSome x (Replays told members may (λ l. l ≡ loaded) leaves (RoseWith a c (Ok tt)) old new)
+  pub done_known : (leaves : State → Type 0) (n : ℕ) (t : State) (has : Left) (x y z : Option (List ℕ)) (piece : Piece) → piece.by_newline ≡ false → Known x y (RunUpto told may loaded old mid a b k s had) → Known y z (TakesPiece piece)
+      → ((bytes : List ℕ) → IsKept 262_144 piece.line bytes → PiecePrints told may s k bytes t n mid new b c had has) → leaves t → IfSome x (Replays told may (λ l. l ≡ loaded) leaves (RoseWith a c (Ok tt)) old new)
   done_known leaves n t has None y z piece last upto takes prints left = tt
   done_known leaves n t has (Some x) None z piece last upto takes prints left = absurd upto
   done_known leaves n t has (Some x) (Some y) None piece last upto takes prints left = absurd takes
-  done_known leaves n t has (Some x) (Some y) (Some z) piece last upto takes prints left = upto_end told members may loaded leaves (RoseWith a c (Ok tt)) a b c (rose_alone a c) old mid new k n s t had has x y z piece upto takes last (prints takes.line takes.kept) left
+  done_known leaves n t has (Some x) (Some y) (Some z) piece last upto takes prints left = upto_end told may loaded leaves (RoseWith a c (Ok tt)) a b c (rose_alone a c) old mid new k n s t had has x y z piece upto takes last (prints takes.line takes.kept) left
 
   -- a line of which nothing was printed
-  lost_some : (leaves : State → Type 0) (why : Stop) (x y : List ℕ) → RunUpto told members may loaded old mid a b k s had x y → LineLost s leaves mid new b c (end_faults (Err why)) → ReplaysTaken told members may (λ l. l ≡ loaded) leaves (RoseWith a c (Err why)) old new x
+  lost_some : (leaves : State → Type 0) (why : Stop) (x y : List ℕ) → RunUpto told may loaded old mid a b k s had x y → LineLost s leaves mid new b c (end_faults (Err why)) → ReplaysTaken told may (λ l. l ≡ loaded) leaves (RoseWith a c (Err why)) old new x
   lost_some leaves why x y upto lost =
-      upto_taken told members may loaded leaves (RoseWith a c (Err why)) a b (λ n rose. rose_then a b c n (end_faults (Err why)) rose lost.rose) old mid new k s had x y upto lost.left lost.kept
+      upto_taken told may loaded leaves (RoseWith a c (Err why)) a b (λ n rose. rose_then a b c n (end_faults (Err why)) rose lost.rose) old mid new k s had x y upto lost.left lost.kept
 
   -- a piece at which it stops
-  stops_some : (leaves : State → Type 0) (why : Stop) (x y z : List ℕ) (piece : Piece) → RunUpto told members may loaded old mid a b k s had x y → (takes : TakesPiece piece y z) → PieceStops told members may s k takes.line leaves why mid new b c had
-      → EndsAs (Err why) (Replays told members may (λ l. l ≡ loaded) leaves (RoseWith a c (Err why)) old new x) (ReplaysTaken told members may (λ l. l ≡ loaded) leaves (RoseWith a c (Err why)) old new x) (ReplaysFront told members may (λ l. l ≡ loaded) leaves (RoseWith a c (Err why)) old new x) ⊥
+  stops_some : (leaves : State → Type 0) (why : Stop) (x y z : List ℕ) (piece : Piece) → RunUpto told may loaded old mid a b k s had x y → (takes : TakesPiece piece y z) → PieceStops told may s k takes.line leaves why mid new b c had
+      → EndsAs (Err why) (Replays told may (λ l. l ≡ loaded) leaves (RoseWith a c (Err why)) old new x) (ReplaysTaken told may (λ l. l ≡ loaded) leaves (RoseWith a c (Err why)) old new x) (ReplaysFront told may (λ l. l ≡ loaded) leaves (RoseWith a c (Err why)) old new x) ⊥
   stops_some leaves stop.ReadFault x y z piece upto takes stops = absurd stops
   stops_some leaves stop.TooMuch x y z piece upto takes stops = absurd stops
   stops_some leaves (stop.Unopened f) x y z piece upto takes stops = stops
-  stops_some leaves stop.SinkFault x y z piece upto takes stops = upto_front told members may loaded leaves (RoseWith a c (Err stop.SinkFault)) a b c (rose_alone a c) old mid new k s had x y z piece upto takes stops
+  stops_some leaves stop.SinkFault x y z piece upto takes stops = upto_front told may loaded leaves (RoseWith a c (Err stop.SinkFault)) a b c (rose_alone a c) old mid new k s had x y z piece upto takes stops
   stops_some leaves stop.Memory x y z piece upto takes stops = lost_some leaves stop.Memory x y upto stops
   stops_some leaves (stop.Lost f) x y z piece upto takes stops = lost_some leaves (stop.Lost f) x y upto stops
 
@@ -94,33 +93,33 @@ module _ (told : Bool) (members : MembersOf) (may : ℕ → Bool) (loaded : List
   stops_none stop.Memory p q whole between within m n caused = m
   stops_none (stop.Lost f) p q whole between within m n caused = m
 
-  pub stops_known : (leaves : State → Type 0) (why : Stop) (p q : Type 0) → IsCaused why p q → (x y z : Option (List ℕ)) (piece : Piece) → Known x y (RunUpto told members may loaded old mid a b k s had) → Known y z (TakesPiece piece)
-      → ((bytes : List ℕ) → IsKept 262_144 piece.line bytes → PieceStops told members may s k bytes leaves why mid new b c had)
-      → EndsAs (Err why) (IfSome x (Replays told members may (λ l. l ≡ loaded) leaves (RoseWith a c (Err why)) old new)) (IfSome x (ReplaysTaken told members may (λ l. l ≡ loaded) leaves (RoseWith a c (Err why)) old new))
-      (IfSome x (ReplaysFront told members may (λ l. l ≡ loaded) leaves (RoseWith a c (Err why)) old new)) ⊥
+  pub stops_known : (leaves : State → Type 0) (why : Stop) (p q : Type 0) → IsCaused why p q → (x y z : Option (List ℕ)) (piece : Piece) → Known x y (RunUpto told may loaded old mid a b k s had) → Known y z (TakesPiece piece)
+      → ((bytes : List ℕ) → IsKept 262_144 piece.line bytes → PieceStops told may s k bytes leaves why mid new b c had)
+      → EndsAs (Err why) (IfSome x (Replays told may (λ l. l ≡ loaded) leaves (RoseWith a c (Err why)) old new)) (IfSome x (ReplaysTaken told may (λ l. l ≡ loaded) leaves (RoseWith a c (Err why)) old new))
+      (IfSome x (ReplaysFront told may (λ l. l ≡ loaded) leaves (RoseWith a c (Err why)) old new)) ⊥
   stops_known leaves why p q caused None y z piece upto takes stops = stops_none why p q _ _ _ tt tt caused
   stops_known leaves why p q caused (Some x) None z piece upto takes stops = absurd upto
   stops_known leaves why p q caused (Some x) (Some y) None piece upto takes stops = absurd takes
   stops_known leaves why p q caused (Some x) (Some y) (Some z) piece upto takes stops = stops_some leaves why x y z piece upto takes (stops takes.line takes.kept)
 
 -- the input could not be read further
-pub input_known : (told : Bool) (members : MembersOf) (may : ℕ → Bool) (loaded : List Batch) (leaves : State → Type 0) (old new : Option (List ℕ)) (a b : ℕ) (k : ℕ) (s : State) (had : Left) (fault : InputFault) (x y : Option (List ℕ)) → Known x y (RunUpto told members may loaded old new a b k s had) → leaves s
-    → EndsAs (Err (stop_of fault)) (IfSome x (Replays told members may (λ l. l ≡ loaded) leaves (RoseWith a b (Err (stop_of fault))) old new)) (IfSome x (ReplaysTaken told members may (λ l. l ≡ loaded) leaves (RoseWith a b (Err (stop_of fault))) old new))
-    (IfSome x (ReplaysFront told members may (λ l. l ≡ loaded) leaves (RoseWith a b (Err (stop_of fault))) old new)) ⊥
-input_known told members may loaded leaves old new a b k s had fault None y upto left = by fault
+pub input_known : (told : Bool) (may : ℕ → Bool) (loaded : List Batch) (leaves : State → Type 0) (old new : Option (List ℕ)) (a b : ℕ) (k : ℕ) (s : State) (had : Left) (fault : InputFault) (x y : Option (List ℕ)) → Known x y (RunUpto told may loaded old new a b k s had) → leaves s
+    → EndsAs (Err (stop_of fault)) (IfSome x (Replays told may (λ l. l ≡ loaded) leaves (RoseWith a b (Err (stop_of fault))) old new)) (IfSome x (ReplaysTaken told may (λ l. l ≡ loaded) leaves (RoseWith a b (Err (stop_of fault))) old new))
+    (IfSome x (ReplaysFront told may (λ l. l ≡ loaded) leaves (RoseWith a b (Err (stop_of fault))) old new)) ⊥
+input_known told may loaded leaves old new a b k s had fault None y upto left = by fault
   where
     by : (f : InputFault) → EndsAs (Err (stop_of f)) (Unit {0}) (Unit {0}) (Unit {0}) ⊥
     by input.Failed = tt
     by input.TooMuch = tt
     by input.Memory = tt
-input_known told members may loaded leaves old new a b k s had fault (Some x) None upto left = absurd upto
-input_known told members may loaded leaves old new a b k s had fault (Some x) (Some y) upto left = by fault
+input_known told may loaded leaves old new a b k s had fault (Some x) None upto left = absurd upto
+input_known told may loaded leaves old new a b k s had fault (Some x) (Some y) upto left = by fault
   where
-    taken : (rises : ℕ → Type 0) → ((n : ℕ) → RoseBy a b n → rises n) → ReplaysTaken told members may (λ l. l ≡ loaded) leaves rises old new x
-    taken rises rose = upto_taken told members may loaded leaves rises a b rose old new new k s had x y upto left (Keeps-refl new)
+    taken : (rises : ℕ → Type 0) → ((n : ℕ) → RoseBy a b n → rises n) → ReplaysTaken told may (λ l. l ≡ loaded) leaves rises old new x
+    taken rises rose = upto_taken told may loaded leaves rises a b rose old new new k s had x y upto left (Keeps-refl new)
 
-    by : (f : InputFault) → EndsAs (Err (stop_of f)) (Replays told members may (λ l. l ≡ loaded) leaves (RoseWith a b (Err (stop_of f))) old new x) (ReplaysTaken told members may (λ l. l ≡ loaded) leaves (RoseWith a b (Err (stop_of f))) old new x)
-        (ReplaysFront told members may (λ l. l ≡ loaded) leaves (RoseWith a b (Err (stop_of f))) old new x) ⊥
+    by : (f : InputFault) → EndsAs (Err (stop_of f)) (Replays told may (λ l. l ≡ loaded) leaves (RoseWith a b (Err (stop_of f))) old new x) (ReplaysTaken told may (λ l. l ≡ loaded) leaves (RoseWith a b (Err (stop_of f))) old new x)
+        (ReplaysFront told may (λ l. l ≡ loaded) leaves (RoseWith a b (Err (stop_of f))) old new x) ⊥
     by input.Failed = taken (RoseWith a b (Err stop.ReadFault)) (rose_alone a b)
     by input.TooMuch = taken (RoseWith a b (Err stop.TooMuch)) (rose_alone a b)
     by input.Memory = taken (RoseWith a b (Err stop.Memory)) (rose_alone a b)
@@ -195,28 +194,28 @@ wider_ends (Err (stop.Unopened journal.Memory)) r s d wide l more ends = tt
 
 -- ---- the output is sent on
 
-module _ (told : Bool) (members : MembersOf) (may : ℕ → Bool) (loads also : List Batch → Type 0) (more : (l : List Batch) → loads l → also l) (leaves : State → Type 0) (rises wider : ℕ → Type 0) (rose : (n : ℕ) → rises n → wider n) (old mid new : Option (List ℕ)) (kept : Keeps mid new) where
-  accounts_on : (given : List Numbered) (output : List ℕ) → Accounts told members may loads leaves rises given output → Accounts told members may also leaves wider given output
+module _ (told : Bool) (may : ℕ → Bool) (loads also : List Batch → Type 0) (more : (l : List Batch) → loads l → also l) (leaves : State → Type 0) (rises wider : ℕ → Type 0) (rose : (n : ℕ) → rises n → wider n) (old mid new : Option (List ℕ)) (kept : Keeps mid new) where
+  accounts_on : (given : List Numbered) (output : List ℕ) → Accounts told may loads leaves rises given output → Accounts told may also leaves wider given output
   accounts_on given output has = record { loaded = has.loaded; state = has.state; begun = more has.loaded has.begun; replies = has.replies; paced = has.paced; left = has.left; counted = rose _ has.counted }
 
-  whole_on : (input : List ℕ) → Replays told members may loads leaves rises old mid input → Replays told members may also leaves wider old new input
+  whole_on : (input : List ℕ) → Replays told may loads leaves rises old mid input → Replays told may also leaves wider old new input
   whole_on input has = record { output = has.output; accounts = accounts_on (lines_of input) has.output has.accounts; gained = Appends-kept old mid new has.output has.gained kept }
 
-  between_on : (input : List ℕ) → ReplaysTaken told members may loads leaves rises old mid input → ReplaysTaken told members may also leaves wider old new input
+  between_on : (input : List ℕ) → ReplaysTaken told may loads leaves rises old mid input → ReplaysTaken told may also leaves wider old new input
   between_on input has = record { taken = has.taken; output = has.output; accounts = accounts_on (take has.taken (lines_of input)) has.output has.accounts; gained = Appends-kept old mid new has.output has.gained kept }
 
-  within_on : (input : List ℕ) → ReplaysFront told members may loads leaves rises old mid input → ReplaysFront told members may also leaves wider old new input
+  within_on : (input : List ℕ) → ReplaysFront told may loads leaves rises old mid input → ReplaysFront told may also leaves wider old new input
   within_on input has = record { taken = has.taken; output = has.output; rest = has.rest; accounts = accounts_on (take has.taken (lines_of input)) (has.output ++ has.rest) has.accounts; gained = Appends-kept old mid new has.output has.gained kept }
 
   -- all of it, of which not all may have been sent on
-  whole_within : (input : List ℕ) → Replays told members may loads leaves rises old mid input → ReplaysFront told members may also leaves wider old new input
+  whole_within : (input : List ℕ) → Replays told may loads leaves rises old mid input → ReplaysFront told may also leaves wider old new input
   whole_within input has =
       let all : take (length (lines_of input)) (lines_of input) ≡ lines_of input = take_all (length (lines_of input)) (lines_of input) (omega arith) in
       record {
         taken = length (lines_of input);
         output = has.output;
         rest = [];
-        accounts = subst (λ (ls : List Numbered). Accounts told members may also leaves wider ls (has.output ++ [])) (sym all) (subst (λ (out : List ℕ). Accounts told members may also leaves wider (lines_of input) out) (sym (append-nil has.output)) (accounts_on (lines_of input) has.output has.accounts));
+        accounts = subst (λ (ls : List Numbered). Accounts told may also leaves wider ls (has.output ++ [])) (sym all) (subst (λ (out : List ℕ). Accounts told may also leaves wider (lines_of input) out) (sym (append-nil has.output)) (accounts_on (lines_of input) has.output has.accounts));
         gained = Appends-kept old mid new has.output has.gained kept;
       }
 
@@ -225,15 +224,15 @@ module _ (told : Bool) (members : MembersOf) (may : ℕ → Bool) (loads also : 
   known_on P Q on (Some x) has = on x has
 
   pub sent_ends : (idle : Type 0) (x : Option (List ℕ)) (end : Result (Unit {0}) Stop) (sent : Result (Unit {0}) Failed) (result : Result (Unit {0}) Stop) → EndsSent end sent result
-      → EndsAs end (IfSome x (Replays told members may loads leaves rises old mid)) (IfSome x (ReplaysTaken told members may loads leaves rises old mid)) (IfSome x (ReplaysFront told members may loads leaves rises old mid)) ⊥
-      → EndsAs result (IfSome x (Replays told members may also leaves wider old new)) (IfSome x (ReplaysTaken told members may also leaves wider old new)) (IfSome x (ReplaysFront told members may also leaves wider old new)) idle
-  sent_ends idle x (Ok u) (Ok v) result is ends = rw is (known_on (Replays told members may loads leaves rises old mid) (Replays told members may also leaves wider old new) whole_on x ends)
-  sent_ends idle x (Ok u) (Err e) result is ends = rw is (known_on (Replays told members may loads leaves rises old mid) (ReplaysFront told members may also leaves wider old new) whole_within x ends)
-  sent_ends idle x (Err stop.ReadFault) sent result is ends = rw is (known_on (ReplaysTaken told members may loads leaves rises old mid) (ReplaysTaken told members may also leaves wider old new) between_on x ends)
-  sent_ends idle x (Err stop.TooMuch) sent result is ends = rw is (known_on (ReplaysTaken told members may loads leaves rises old mid) (ReplaysTaken told members may also leaves wider old new) between_on x ends)
-  sent_ends idle x (Err (stop.Lost f)) sent result is ends = rw is (known_on (ReplaysTaken told members may loads leaves rises old mid) (ReplaysTaken told members may also leaves wider old new) between_on x ends)
-  sent_ends idle x (Err stop.SinkFault) sent result is ends = rw is (known_on (ReplaysFront told members may loads leaves rises old mid) (ReplaysFront told members may also leaves wider old new) within_on x ends)
-  sent_ends idle x (Err stop.Memory) sent result is ends = rw is (known_on (ReplaysTaken told members may loads leaves rises old mid) (ReplaysTaken told members may also leaves wider old new) between_on x ends)
+      → EndsAs end (IfSome x (Replays told may loads leaves rises old mid)) (IfSome x (ReplaysTaken told may loads leaves rises old mid)) (IfSome x (ReplaysFront told may loads leaves rises old mid)) ⊥
+      → EndsAs result (IfSome x (Replays told may also leaves wider old new)) (IfSome x (ReplaysTaken told may also leaves wider old new)) (IfSome x (ReplaysFront told may also leaves wider old new)) idle
+  sent_ends idle x (Ok u) (Ok v) result is ends = rw is (known_on (Replays told may loads leaves rises old mid) (Replays told may also leaves wider old new) whole_on x ends)
+  sent_ends idle x (Ok u) (Err e) result is ends = rw is (known_on (Replays told may loads leaves rises old mid) (ReplaysFront told may also leaves wider old new) whole_within x ends)
+  sent_ends idle x (Err stop.ReadFault) sent result is ends = rw is (known_on (ReplaysTaken told may loads leaves rises old mid) (ReplaysTaken told may also leaves wider old new) between_on x ends)
+  sent_ends idle x (Err stop.TooMuch) sent result is ends = rw is (known_on (ReplaysTaken told may loads leaves rises old mid) (ReplaysTaken told may also leaves wider old new) between_on x ends)
+  sent_ends idle x (Err (stop.Lost f)) sent result is ends = rw is (known_on (ReplaysTaken told may loads leaves rises old mid) (ReplaysTaken told may also leaves wider old new) between_on x ends)
+  sent_ends idle x (Err stop.SinkFault) sent result is ends = rw is (known_on (ReplaysFront told may loads leaves rises old mid) (ReplaysFront told may also leaves wider old new) within_on x ends)
+  sent_ends idle x (Err stop.Memory) sent result is ends = rw is (known_on (ReplaysTaken told may loads leaves rises old mid) (ReplaysTaken told may also leaves wider old new) between_on x ends)
   sent_ends idle x (Err (stop.Unopened f)) sent result is ends = absurd ends
 
 -- as many failures of the disk as before

@@ -3,11 +3,11 @@ use Rattle.std.proofs.Common.{◌≡◌, ℕ, List, [], ◌∷◌, ◌++◌, Boo
 use Rattle.std.specs.Io.KnownBytes.{Appends}
 use Rattle.gd_base.specs.Counts.{Rose, RoseBy}
 use Rattle.gd_base.specs.declared.memory.Memory.{Memory}
-use Rattle.gd_runs.specs.Owed.{MembersOf}
+use Rattle.gd_sessions.specs.PassedOn.{one_member}
 use Rattle.gd_runs.specs.Core.{State}
 use Rattle.gd_runs.specs.Pace.{DueOf, Left}
 use Rattle.gd_replay_laws.specs.Paced.{LinePaces}
-use Rattle.gd_replay_laws.specs.Runs.{BuiltLine}
+use Rattle.gd_replay_laws.specs.Runs.{LineOver}
 use Rattle.gd_replay_laws.specs.Faults.{IsCounted}
 use Rattle.gd_replay_laws.proofs.Faults.{rose_none}
 use Rattle.gd_reply.specs.Replies.{reply_text}
@@ -22,31 +22,31 @@ use Rattle.gd_outside.specs.Gains.{GainsFront}
 use Rattle.gd_replay.specs.Runs.{IsDue, IsUnmade, LinePrints, LineFront, LineLost, LineStops}
 
 -- the reply was made and printed
-pub printed_line : (told : Bool) (members : MembersOf) (may : ℕ → Bool) (s t : State) (k : ℕ) (bytes : List ℕ) (old new : Option (List ℕ)) (a b : ℕ) (had has : Left) (reply : Result Reply Memory) → Answers (λ line. BuiltLine told members may s k bytes line t × IsCounted k line a b × ((d : DueOf) → LinePaces members d s k bytes line t had has)) reply
-    → MatchResult reply (λ made. Appends old new (reply_text made ++ 10 ∷ [])) (λ none. ⊥) → LinePrints told members may s k bytes t old new a b had has
-printed_line told members may s t k bytes old new a b had has (Ok made) answers printed = record { reply = reply_text made; line = answers.0; counted = answers.1; paced = answers.2; gained = printed }
-printed_line told members may s t k bytes old new a b had has (Err none) answers printed = absurd printed
+pub printed_line : (told : Bool) (may : ℕ → Bool) (s t : State) (k : ℕ) (bytes : List ℕ) (old new : Option (List ℕ)) (a b : ℕ) (had has : Left) (reply : Result Reply Memory) → Answers (λ line. LineOver told one_member may s k bytes line t × IsCounted k line a b × ((d : DueOf) → LinePaces one_member d s k bytes line t had has)) reply
+    → MatchResult reply (λ made. Appends old new (reply_text made ++ 10 ∷ [])) (λ none. ⊥) → LinePrints told may s k bytes t old new a b had has
+printed_line told may s t k bytes old new a b had has (Ok made) answers printed = record { reply = reply_text made; line = answers.0; counted = answers.1; paced = answers.2; gained = printed }
+printed_line told may s t k bytes old new a b had has (Err none) answers printed = absurd printed
 
 -- or a front of it was
-front_line : (told : Bool) (members : MembersOf) (may : ℕ → Bool) (s t : State) (k : ℕ) (bytes : List ℕ) (leaves : State → Type 0) (old new : Option (List ℕ)) (a b : ℕ) (had has : Left) (reply : Result Reply Memory) → Answers (λ line. BuiltLine told members may s k bytes line t × IsCounted k line a b × ((d : DueOf) → LinePaces members d s k bytes line t had has)) reply
-    → ((line : List ℕ) → IsDue reply line → GainsFront old new (line ++ 10 ∷ [])) → leaves t → LineFront told members may s k bytes leaves old new a b had
-front_line told members may s t k bytes leaves old new a b had has (Ok made) answers front left = record { reply = reply_text made; state = t; line = answers.0; counted = answers.1; next = has; paced = answers.2; left = left; front = front (reply_text made) refl }
-front_line told members may s t k bytes leaves old new a b had has (Err none) (due, answers) front left = record { reply = due; state = t; line = answers.0; counted = answers.1; next = has; paced = answers.2; left = left; front = front due tt }
+front_line : (told : Bool) (may : ℕ → Bool) (s t : State) (k : ℕ) (bytes : List ℕ) (leaves : State → Type 0) (old new : Option (List ℕ)) (a b : ℕ) (had has : Left) (reply : Result Reply Memory) → Answers (λ line. LineOver told one_member may s k bytes line t × IsCounted k line a b × ((d : DueOf) → LinePaces one_member d s k bytes line t had has)) reply
+    → ((line : List ℕ) → IsDue reply line → GainsFront old new (line ++ 10 ∷ [])) → leaves t → LineFront told may s k bytes leaves old new a b had
+front_line told may s t k bytes leaves old new a b had has (Ok made) answers front left = record { reply = reply_text made; state = t; line = answers.0; counted = answers.1; next = has; paced = answers.2; left = left; front = front (reply_text made) refl }
+front_line told may s t k bytes leaves old new a b had has (Err none) (due, answers) front left = record { reply = due; state = t; line = answers.0; counted = answers.1; next = has; paced = answers.2; left = left; front = front due tt }
 
 -- there was no memory for it
 unmade_line : (s t : State) (leaves : State → Type 0) (old new : Option (List ℕ)) (a b : ℕ) (reply : Result Reply Memory) → IsUnmade reply old new → OnErr reply (leaves t → leaves s) → leaves t → a ≤ b → LineLost s leaves old new a b 0
 unmade_line s t leaves old new a b (Ok made) unmade back left later = absurd unmade.none
 unmade_line s t leaves old new a b (Err none) unmade back left later = record { left = back left; kept = unmade.kept; rose = rose_none a b later }
 
-pub halted_line : (told : Bool) (members : MembersOf) (may : ℕ → Bool) (s t : State) (k : ℕ) (bytes : List ℕ) (leaves : State → Type 0) (why : Stop) (rose : Type 0) (old new : Option (List ℕ)) (a b : ℕ) (had has : Left) (reply : Result Reply Memory) → IsHalt why rose (IsUnmade reply old new)
-    → Answers (λ line. BuiltLine told members may s k bytes line t × IsCounted k line a b × ((d : DueOf) → LinePaces members d s k bytes line t had has)) reply → ((line : List ℕ) → IsDue reply line → GainsFront old new (line ++ 10 ∷ [])) → leaves t → OnErr reply (leaves t → leaves s) → a ≤ b
-    → LineStops told members may s k bytes leaves why old new a b had
-halted_line told members may s t k bytes leaves stop.SinkFault rose old new a b had has reply halt answers front left back later = front_line told members may s t k bytes leaves old new a b had has reply answers front left
-halted_line told members may s t k bytes leaves stop.Memory rose old new a b had has reply halt answers front left back later = unmade_line s t leaves old new a b reply halt back left later
-halted_line told members may s t k bytes leaves stop.ReadFault rose old new a b had has reply halt answers front left back later = absurd halt
-halted_line told members may s t k bytes leaves stop.TooMuch rose old new a b had has reply halt answers front left back later = absurd halt
-halted_line told members may s t k bytes leaves (stop.Unopened f) rose old new a b had has reply halt answers front left back later = absurd halt
-halted_line told members may s t k bytes leaves (stop.Lost f) rose old new a b had has reply halt answers front left back later = absurd halt
+pub halted_line : (told : Bool) (may : ℕ → Bool) (s t : State) (k : ℕ) (bytes : List ℕ) (leaves : State → Type 0) (why : Stop) (rose : Type 0) (old new : Option (List ℕ)) (a b : ℕ) (had has : Left) (reply : Result Reply Memory) → IsHalt why rose (IsUnmade reply old new)
+    → Answers (λ line. LineOver told one_member may s k bytes line t × IsCounted k line a b × ((d : DueOf) → LinePaces one_member d s k bytes line t had has)) reply → ((line : List ℕ) → IsDue reply line → GainsFront old new (line ++ 10 ∷ [])) → leaves t → OnErr reply (leaves t → leaves s) → a ≤ b
+    → LineStops told may s k bytes leaves why old new a b had
+halted_line told may s t k bytes leaves stop.SinkFault rose old new a b had has reply halt answers front left back later = front_line told may s t k bytes leaves old new a b had has reply answers front left
+halted_line told may s t k bytes leaves stop.Memory rose old new a b had has reply halt answers front left back later = unmade_line s t leaves old new a b reply halt back left later
+halted_line told may s t k bytes leaves stop.ReadFault rose old new a b had has reply halt answers front left back later = absurd halt
+halted_line told may s t k bytes leaves stop.TooMuch rose old new a b had has reply halt answers front left back later = absurd halt
+halted_line told may s t k bytes leaves (stop.Unopened f) rose old new a b had has reply halt answers front left back later = absurd halt
+halted_line told may s t k bytes leaves (stop.Lost f) rose old new a b had has reply halt answers front left back later = absurd halt
 
 -- its cause
 pub halted_cause : (why : Stop) (rose unmade disk_failed : Type 0) → IsHalt why rose unmade → IsCaused why rose disk_failed

@@ -6,12 +6,12 @@ use Rattle.std.proofs.KnownBytes.{Appends-trans, Appends-nil, Appends-kept}
 use Rattle.std.specs.Io.KnownBytes.{Keeps}
 use Rattle.gd_base.specs.Counts.{RoseBy}
 use Rattle.gd_prim.specs.declared.Batch.{Batch}
-use Rattle.gd_runs.specs.Owed.{MembersOf}
+use Rattle.gd_sessions.specs.PassedOn.{one_member}
 use Rattle.gd_runs.specs.Explained.{Numbered, pieces, numbered, lines_of, max_round, faults_told}
 use Rattle.gd_runs.specs.Core.{State, opened}
 use Rattle.gd_input.specs.declared.piece.Piece.{Piece}
 use Rattle.gd_input.specs.Pieces.{TakesPiece, later_pieces}
-use Rattle.gd_replay_laws.specs.Runs.{BuiltReplies, PieceRuns, lines_at}
+use Rattle.gd_replay_laws.specs.Runs.{RepliesOver, PieceRuns, lines_at}
 use Rattle.gd_replay_laws.specs.Faults.{faults_from}
 use Rattle.gd_runs.specs.Pace.{Left}
 use Rattle.gd_replay_laws.specs.Paced.{AreWithin, PacedRun}
@@ -46,32 +46,32 @@ same_many round (c ∷ cs) = refl
 
 -- ---- a run
 
-module _ (told : Bool) (members : MembersOf) (may : ℕ → Bool) (loaded : List Batch) where
-  pub upto_start : (held : Option (List ℕ)) (n : ℕ) (had : Left) → AreWithin had (λ i. 0) → (input : List ℕ) → RunUpto told members may loaded held held n n 0 (opened loaded) had input input
+module _ (told : Bool) (may : ℕ → Bool) (loaded : List Batch) where
+  pub upto_start : (held : Option (List ℕ)) (n : ℕ) (had : Left) → AreWithin had (λ i. 0) → (input : List ℕ) → RunUpto told may loaded held held n n 0 (opened loaded) had input input
   upto_start held n had none input = record { round = 0; in_round = 0; given = []; output = []; lines = refl; replies = (refl, refl); paced = λ d. (λ i. 0, (refl, refl, refl), none); many = refl; gained = Appends-nil held; rose = rose_none n n (omega arith) }
 
   -- the lines up to and with a piece print this
-  replies_then : (given : List Numbered) (output rest : List ℕ) (k round : ℕ) (piece : List ℕ) (s t : State) → BuiltReplies told members may (opened loaded) 0 given output s → k ≡ length given → PieceRuns told members may s k piece rest t
-      → BuiltReplies told members may (opened loaded) 0 (given ++ lines_at round piece) (output ++ rest) t
+  replies_then : (given : List Numbered) (output rest : List ℕ) (k round : ℕ) (piece : List ℕ) (s t : State) → RepliesOver told one_member may (opened loaded) 0 given output s → k ≡ length given → PieceRuns told one_member may s k piece rest t
+      → RepliesOver told one_member may (opened loaded) 0 (given ++ lines_at round piece) (output ++ rest) t
   replies_then given output rest k round piece s t replies many runs =
       let at : k ≡ 0 + length given = omega (arith, many) in
-      runs_join told members may (opened loaded) s t 0 given (lines_at round piece) output rest replies (subst (λ (n : ℕ). BuiltReplies told members may s n (lines_at round piece) rest t) at (runs round))
+      runs_join told one_member may (opened loaded) s t 0 given (lines_at round piece) output rest replies (subst (λ (n : ℕ). RepliesOver told one_member may s n (lines_at round piece) rest t) at (runs round))
 
   -- within what the readings have left
-  paced_then : (given : List Numbered) (output rest : List ℕ) (k round : ℕ) (piece : List ℕ) (s t : State) (had has : Left) → RunPaces told members may loaded given output s had → k ≡ length given → PiecePaces told members may s k piece rest t had has
-      → RunPaces told members may loaded (given ++ lines_at round piece) (output ++ rest) t has
+  paced_then : (given : List Numbered) (output rest : List ℕ) (k round : ℕ) (piece : List ℕ) (s t : State) (had has : Left) → RunPaces told may loaded given output s had → k ≡ length given → PiecePaces told may s k piece rest t had has
+      → RunPaces told may loaded (given ++ lines_at round piece) (output ++ rest) t has
   paced_then given output rest k round piece s t had has paced many runs = λ d.
       let at : k ≡ 0 + length given = omega (arith, many) in
       let (b, before, within) = paced d in
       let (z, behind_it, left) = runs d b within in
-      (z, paced_join told members d may (opened loaded) s t (λ i. 0) b z 0 given (lines_at round piece) output rest before (subst (λ (n : ℕ). PacedRun told members d may s b n (lines_at round piece) rest t z) at (behind_it round)), left)
+      (z, paced_join told one_member d may (opened loaded) s t (λ i. 0) b z 0 given (lines_at round piece) output rest before (subst (λ (n : ℕ). PacedRun told one_member d may s b n (lines_at round piece) rest t z) at (behind_it round)), left)
 
   -- and tell so many faults
-  rose_piece : (given : List Numbered) (output rest : List ℕ) (k : ℕ) (s : State) (a b c : ℕ) → BuiltReplies told members may (opened loaded) 0 given output s → k ≡ length given → RoseBy a b (faults_told output) → RoseBy b c (faults_from k rest)
+  rose_piece : (given : List Numbered) (output rest : List ℕ) (k : ℕ) (s : State) (a b c : ℕ) → RepliesOver told one_member may (opened loaded) 0 given output s → k ≡ length given → RoseBy a b (faults_told output) → RoseBy b c (faults_from k rest)
       → RoseBy a c (faults_told (output ++ rest))
   rose_piece given output rest k s a b c replies many first more =
       let at : 0 + length given ≡ k = omega (arith, many) in
-      subst (RoseBy a c) (sym (faults_run told members may (opened loaded) s 0 given output rest replies ∙ ap (λ (n : ℕ). faults_told output + faults_from n rest) at)) (rose_then a b c (faults_told output) (faults_from k rest) first more)
+      subst (RoseBy a c) (sym (faults_run told one_member may (opened loaded) s 0 given output rest replies ∙ ap (λ (n : ℕ). faults_told output + faults_from n rest) at)) (rose_then a b c (faults_told output) (faults_from k rest) first more)
 
   -- the lines of the input, with a piece in the middle
   lines_then : (given : List Numbered) (round in_round : ℕ) (piece : List ℕ) (ps : List (List ℕ)) (input left : List ℕ) → lines_of input ≡ given ++ numbered round in_round (pieces [] left) → pieces [] left ≡ piece ∷ ps
@@ -81,8 +81,8 @@ module _ (told : Bool) (members : MembersOf) (may : ℕ → Bool) (loaded : List
       ∙ (ap (λ (ls : List Numbered). given ++ ls) (behind round in_round piece ps).parts ∙ sym (append_assoc given (lines_at round piece) (numbered (behind round in_round piece ps).round_then (behind round in_round piece ps).in_then ps))))
 
   -- a piece more
-  pub upto_more : (old mid new : Option (List ℕ)) (a b c : ℕ) (k n : ℕ) (s t : State) (had has : Left) (input left after : List ℕ) (piece : Piece) → RunUpto told members may loaded old mid a b k s had input left → (takes : TakesPiece piece left after) → piece.by_newline ≡ true
-      → PiecePrints told members may s k takes.line t n mid new b c had has → RunUpto told members may loaded old new a c n t has input after
+  pub upto_more : (old mid new : Option (List ℕ)) (a b c : ℕ) (k n : ℕ) (s t : State) (had has : Left) (input left after : List ℕ) (piece : Piece) → RunUpto told may loaded old mid a b k s had input left → (takes : TakesPiece piece left after) → piece.by_newline ≡ true
+      → PiecePrints told may s k takes.line t n mid new b c had has → RunUpto told may loaded old new a c n t has input after
   upto_more old mid new a b c k n s t had has input left after piece upto takes newline prints =
       let ps = pieces [] after in
       let first : pieces [] left ≡ takes.line ∷ ps = takes.first ∙ ap (λ (b : Bool). takes.line ∷ later_pieces b after) newline in
@@ -106,9 +106,9 @@ module _ (told : Bool) (members : MembersOf) (may : ℕ → Bool) (loaded : List
 
   module _ (leaves : State → Type 0) (rises : ℕ → Type 0) where
     abbrev AccountsFor : List Numbered → List ℕ → Type 0
-    AccountsFor given output = Accounts told members may (λ l. l ≡ loaded) leaves rises given output
+    AccountsFor given output = Accounts told may (λ l. l ≡ loaded) leaves rises given output
 
-    accounts : (given : List Numbered) (output : List ℕ) (s : State) (had : Left) → BuiltReplies told members may (opened loaded) 0 given output s → RunPaces told members may loaded given output s had → leaves s → rises (faults_told output) → AccountsFor given output
+    accounts : (given : List Numbered) (output : List ℕ) (s : State) (had : Left) → RepliesOver told one_member may (opened loaded) 0 given output s → RunPaces told may loaded given output s had → leaves s → rises (faults_told output) → AccountsFor given output
     accounts given output s had replies paced left rose = record { loaded = loaded; state = s; begun = refl; replies = replies; paced = λ d. let (z, run, within) = paced d in (z, run); left = left; counted = rose }
 
     of_lines : (given lines : List Numbered) (output : List ℕ) → lines ≡ given → AccountsFor given output → AccountsFor lines output
@@ -118,8 +118,8 @@ module _ (told : Bool) (members : MembersOf) (may : ℕ → Bool) (loaded : List
     front_lines given more input lines = ap (take (length given)) lines ∙ take_front given more
 
     -- the last piece
-    pub upto_end : (a b c : ℕ) → ((n : ℕ) → RoseBy a c n → rises n) → (old mid new : Option (List ℕ)) (k n : ℕ) (s t : State) (had has : Left) (input left after : List ℕ) (piece : Piece) → RunUpto told members may loaded old mid a b k s had input left → (takes : TakesPiece piece left after) → piece.by_newline ≡ false
-        → PiecePrints told members may s k takes.line t n mid new b c had has → leaves t → Replays told members may (λ l. l ≡ loaded) leaves rises old new input
+    pub upto_end : (a b c : ℕ) → ((n : ℕ) → RoseBy a c n → rises n) → (old mid new : Option (List ℕ)) (k n : ℕ) (s t : State) (had has : Left) (input left after : List ℕ) (piece : Piece) → RunUpto told may loaded old mid a b k s had input left → (takes : TakesPiece piece left after) → piece.by_newline ≡ false
+        → PiecePrints told may s k takes.line t n mid new b c had has → leaves t → Replays told may (λ l. l ≡ loaded) leaves rises old new input
     upto_end a b c rose old mid new k n s t had has input left after piece upto takes last prints leave =
         let first : pieces [] left ≡ takes.line ∷ [] = takes.first ∙ ap (λ (b : Bool). takes.line ∷ later_pieces b after) last in
         let given = upto.given ++ lines_at upto.round takes.line in
@@ -133,8 +133,8 @@ module _ (told : Bool) (members : MembersOf) (may : ℕ → Bool) (loaded : List
         }
 
     -- nothing more
-    pub upto_taken : (a b : ℕ) → ((n : ℕ) → RoseBy a b n → rises n) → (old mid new : Option (List ℕ)) (k : ℕ) (s : State) (had : Left) (input left : List ℕ) → RunUpto told members may loaded old mid a b k s had input left → leaves s → Keeps mid new
-        → ReplaysTaken told members may (λ l. l ≡ loaded) leaves rises old new input
+    pub upto_taken : (a b : ℕ) → ((n : ℕ) → RoseBy a b n → rises n) → (old mid new : Option (List ℕ)) (k : ℕ) (s : State) (had : Left) (input left : List ℕ) → RunUpto told may loaded old mid a b k s had input left → leaves s → Keeps mid new
+        → ReplaysTaken told may (λ l. l ≡ loaded) leaves rises old new input
     upto_taken a b rose old mid new k s had input left upto leave kept = record {
       taken = length upto.given;
       output = upto.output;
@@ -144,8 +144,8 @@ module _ (told : Bool) (members : MembersOf) (may : ℕ → Bool) (loaded : List
     }
 
     -- a front of a piece
-    pub upto_front : (a b c : ℕ) → ((n : ℕ) → RoseBy a c n → rises n) → (old mid new : Option (List ℕ)) (k : ℕ) (s : State) (had : Left) (input left after : List ℕ) (piece : Piece) → RunUpto told members may loaded old mid a b k s had input left → (takes : TakesPiece piece left after)
-        → PieceFront told members may s k takes.line leaves mid new b c had → ReplaysFront told members may (λ l. l ≡ loaded) leaves rises old new input
+    pub upto_front : (a b c : ℕ) → ((n : ℕ) → RoseBy a c n → rises n) → (old mid new : Option (List ℕ)) (k : ℕ) (s : State) (had : Left) (input left after : List ℕ) (piece : Piece) → RunUpto told may loaded old mid a b k s had input left → (takes : TakesPiece piece left after)
+        → PieceFront told may s k takes.line leaves mid new b c had → ReplaysFront told may (λ l. l ≡ loaded) leaves rises old new input
     upto_front a b c rose old mid new k s had input left after piece upto takes front =
         let given = upto.given ++ lines_at upto.round takes.line in
         let ps = later_pieces piece.by_newline after in

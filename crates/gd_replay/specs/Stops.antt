@@ -9,8 +9,7 @@ use Rattle.gd_journal.specs.declared.fault.JournalFault.{JournalFault}
 use Rattle.gd_journal.specs.declared.fault.JournalFault.TheVariants as journal
 use Rattle.gd_runs.specs.Legal.{batches}
 use Rattle.gd_runs.specs.Core.{State}
-use Rattle.gd_writer.specs.Parts.{Tells}
-use Rattle.gd_writer.specs.Side.{SideValue}
+use Rattle.gd_sessions.specs.PassedOn.{Tells, SideValue}
 use Rattle.gd_sessions.specs.Running.{StandsForState}
 use Rattle.gd_replay.specs.declared.stop.Stop.{Stop}
 use Rattle.gd_replay.specs.declared.stop.Stop.TheVariants as stop

@@ -3,12 +3,11 @@ ghost use Rattle.std.specs.Prelude.{◌≡◌, ◌≤◌, ◌<◌, ◌+◌, ◌^
 ghost use Rattle.std.specs.Prelude.{OnErr, MatchResult, true, false};
 ghost use Rattle.std.specs.Option.{is_some};
 ghost use Rattle.gd_runs.specs.Core as core;
-ghost use Rattle.gd_runs.specs.Owed.{MembersOf};
+ghost use Rattle.gd_sessions.specs.PassedOn.{one_member, Tells};
 ghost use Rattle.gd_events.specs.Events.{event_view};
 ghost use Rattle.gd_input.specs.Line.{IsKept, IsShort};
-ghost use Rattle.gd_writer.specs.Parts.{Tells};
-ghost use Rattle.gd_replay_laws.specs.Built.{Takes};
-ghost use Rattle.gd_replay_laws.specs.Runs.{BuiltLine, IsBounded, AreBelow};
+ghost use Rattle.gd_replay_laws.specs.Steps.{Takes};
+ghost use Rattle.gd_replay_laws.specs.Runs.{LineOver, IsBounded, AreBelow};
 ghost use Rattle.gd_runs.specs.Pace.{DueOf};
 ghost use Rattle.gd_replay_laws.specs.Faults.{IsCounted};
 ghost use Rattle.gd_replay_laws.specs.Paced.{Paces, LinePaces};
@@ -54,12 +53,12 @@ fn carry<R: Wait, D: Disk, C: Clock>(
     requires bytes { bytes ≤ 262_144 }
     requires bounded { IsBounded (event_view event) }
     requires below { AreBelow line (core_state running) }
-    ensures takes { IfOk result (λ both. (members : MembersOf)
-        → Answers (λ reply. Takes (is_some (D.content running.side.log.disk)) members
+    ensures takes { IfOk result (λ both.
+        Answers (λ reply. Takes (is_some (D.content running.side.log.disk)) one_member
         (C.may running.side.clock) (core_state running) line bytes (event_view event) reply
         (core_state both.0)
         × IsCounted line reply (D.faults running.side.log.disk) (D.faults both.0.side.log.disk)
-        × ((d : DueOf) → Paces members d (core_state running) line (event_view event) reply
+        × ((d : DueOf) → Paces one_member d (core_state running) line (event_view event) reply
         (core_state both.0) (left_now running) (left_now both.0)))
         both.1) }
     ensures unmade { IfOk result (λ both. Tells (D.content running.side.log.disk)
@@ -90,12 +89,12 @@ pub(crate) fn answer<R: Wait, D: Disk, C: Clock>(
     requires line { line < 2 ^ 63 }
     requires short { IsShort text }
     requires below { AreBelow line (core_state running) }
-    ensures answers { IfOk result (λ both. (members : MembersOf) (piece : List ℕ)
+    ensures answers { IfOk result (λ both. (piece : List ℕ)
         → IsKept 262_144 text piece
-        → Answers (λ reply. BuiltLine (is_some (D.content running.side.log.disk)) members
+        → Answers (λ reply. LineOver (is_some (D.content running.side.log.disk)) one_member
         (C.may running.side.clock) (core_state running) line piece reply (core_state both.0)
         × IsCounted line reply (D.faults running.side.log.disk) (D.faults both.0.side.log.disk)
-        × ((d : DueOf) → LinePaces members d (core_state running) line piece reply
+        × ((d : DueOf) → LinePaces one_member d (core_state running) line piece reply
         (core_state both.0) (left_now running) (left_now both.0)))
         both.1) }
     ensures unmade { IfOk result (λ both. Tells (D.content running.side.log.disk)

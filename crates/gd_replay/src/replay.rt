@@ -1,5 +1,5 @@
 //! The whole run.
-ghost use Rattle.std.specs.Prelude.{◌≡◌, ◌≤◌, ◌^◌, ℕ, List, Ok, Err, true, OnOk, IfSome};
+ghost use Rattle.std.specs.Prelude.{◌≡◌, ◌≤◌, ◌^◌, List, Ok, Err, true, OnOk, IfSome};
 ghost use Rattle.std.specs.Option.{ForSome, is_some};
 ghost use Rattle.std.specs.Io.KnownBytes.{IsAtEnd};
 ghost use Rattle.gd_base.specs.Counts.{Rose};
@@ -9,9 +9,8 @@ ghost use Rattle.gd_input.specs.Taken.{TakesAtLeast};
 ghost use Rattle.gd_log.specs.Opening.{IsKept, Refuses};
 ghost use Rattle.gd_runs.specs.Core as core;
 ghost use Rattle.gd_runs.specs.Legal.{batches};
-ghost use Rattle.gd_runs.specs.Owed.{MembersOf};
 ghost use Rattle.gd_replay_laws.specs.Paced.{AreWithin};
-ghost use Rattle.gd_writer.specs.Parts.{Tells};
+ghost use Rattle.gd_sessions.specs.PassedOn.{Tells};
 ghost use Rattle.gd_sessions.specs.Running.{core_state, left_now};
 ghost use Rattle.gd_replay.specs.Stops.{Leaves, RoseWith, IfUnopened, EndsAs, EndsBy, EndsSent};
 ghost use Rattle.gd_replay.specs.Stops.{stop_of};
@@ -66,21 +65,21 @@ fn replay_lines<R: Wait, D: Disk, S: Source, K: Sink, C: Clock>(
 ) -> (Result<(), Stop>, D, C)
     requires opened { core_state running ≡ core.opened running.side.history.loaded }
     requires left { AreWithin (left_now running) (λ i. 0) }
-    ensures ends { (members : MembersOf) → EndsAs result.0
+    ensures ends { EndsAs result.0
         (IfSome (S.left source.old) (Replays
-        (is_some (D.content running.side.log.disk)) members (C.may running.side.clock)
+        (is_some (D.content running.side.log.disk)) (C.may running.side.clock)
         (λ loaded. loaded ≡ running.side.history.loaded)
         (λ s. Tells (D.content running.side.log.disk) → Leaves (D.images result.1) s)
         (RoseWith (D.faults running.side.log.disk) (D.faults result.1) result.0) (K.held sink.old)
         (K.held sink.new)))
         (IfSome (S.left source.old) (ReplaysTaken
-        (is_some (D.content running.side.log.disk)) members (C.may running.side.clock)
+        (is_some (D.content running.side.log.disk)) (C.may running.side.clock)
         (λ loaded. loaded ≡ running.side.history.loaded)
         (λ s. Tells (D.content running.side.log.disk) → Leaves (D.images result.1) s)
         (RoseWith (D.faults running.side.log.disk) (D.faults result.1) result.0) (K.held sink.old)
         (K.held sink.new)))
         (IfSome (S.left source.old) (ReplaysFront
-        (is_some (D.content running.side.log.disk)) members (C.may running.side.clock)
+        (is_some (D.content running.side.log.disk)) (C.may running.side.clock)
         (λ loaded. loaded ≡ running.side.history.loaded)
         (λ s. Tells (D.content running.side.log.disk) → Leaves (D.images result.1) s)
         (RoseWith (D.faults running.side.log.disk) (D.faults result.1) result.0) (K.held sink.old)
@@ -147,27 +146,26 @@ pub fn replay<R: Wait, D: Disk, S: Source, K: Sink, C: Clock>(
     sink: &mut K,
     clock: C,
 ) -> (Result<(), Stop>, D, C)
-    // What is printed is what the definitions' core replies to the lines of the input, as far as
-    // events are built, from some batches on: to all of them, or where the run has stopped between
-    // two lines to those before, or where it has stopped at a line a front of that. Over a disk
-    // that does not tell its content a line that opens the store again gives a store of some
-    // batches, whose number its reply tells. The disk's count of faults rose by at least as many as
+    // What is printed is what the definitions' core replies to the lines of the input, from some
+    // batches on: to all of them, or where the run has stopped between two lines to those before,
+    // or where it has stopped at a line a front of that. Over a disk that does not tell its content
+    // a line that opens the store again gives a store of some batches, whose number its reply tells. The disk's count of faults rose by at least as many as
     // there are lines that tell one, and by one more where the store was lost by one. A file that
     // is told stands for these batches, and what is left on the disk for the state that the lines
-    // make. No reading is unfinished too often: what is printed keeps the pace of what the readings
-    // have left, which begins with the first number of each.
-    ensures ends { (members : MembersOf) → EndsAs result.0
-        (IfSome (S.left source.old) (Replays (is_some (D.content disk)) members
+    // make. No reading that began is unfinished too often: what is printed keeps the pace of what
+    // the readings have left, which begins with the first number of each.
+    ensures ends { EndsAs result.0
+        (IfSome (S.left source.old) (Replays (is_some (D.content disk))
         (C.may clock) (Loads (D.content disk))
         (λ s. Tells (D.content disk) → Leaves (D.images result.1) s)
         (RoseWith (D.faults disk) (D.faults result.1) result.0) (K.held sink.old)
         (K.held sink.new)))
-        (IfSome (S.left source.old) (ReplaysTaken (is_some (D.content disk)) members
+        (IfSome (S.left source.old) (ReplaysTaken (is_some (D.content disk))
         (C.may clock) (Loads (D.content disk))
         (λ s. Tells (D.content disk) → Leaves (D.images result.1) s)
         (RoseWith (D.faults disk) (D.faults result.1) result.0) (K.held sink.old)
         (K.held sink.new)))
-        (IfSome (S.left source.old) (ReplaysFront (is_some (D.content disk)) members
+        (IfSome (S.left source.old) (ReplaysFront (is_some (D.content disk))
         (C.may clock) (Loads (D.content disk))
         (λ s. Tells (D.content disk) → Leaves (D.images result.1) s)
         (RoseWith (D.faults disk) (D.faults result.1) result.0) (K.held sink.old)

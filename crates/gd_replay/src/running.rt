@@ -5,9 +5,8 @@ ghost use Rattle.std.specs.Io.KnownBytes.{Appends};
 ghost use Rattle.std.specs.Option.{is_some};
 ghost use Rattle.gd_base.specs.Counts.{Rose};
 ghost use Rattle.gd_runs.specs.Legal.{batches};
-ghost use Rattle.gd_runs.specs.Owed.{MembersOf};
 ghost use Rattle.gd_input.specs.Line.{IsKept, IsShort};
-ghost use Rattle.gd_writer.specs.Parts.{Tells};
+ghost use Rattle.gd_sessions.specs.PassedOn.{Tells};
 ghost use Rattle.gd_replay_laws.specs.Runs.{AreBelow};
 ghost use Rattle.gd_reply.specs.Replies.{reply_text};
 ghost use Rattle.gd_sessions.specs.Running.{core_state, left_now};
@@ -86,9 +85,9 @@ fn take_line<R: Wait, D: Disk, K: Sink, C: Clock>(
     requires line { line < 2 ^ 63 }
     requires short { IsShort text }
     requires below { AreBelow line (core_state running) }
-    ensures prints { IfOk result (λ next. (members : MembersOf) (bytes : List ℕ)
+    ensures prints { IfOk result (λ next. (bytes : List ℕ)
         → IsKept 262_144 text bytes
-        → LinePrints (is_some (D.content running.side.log.disk)) members
+        → LinePrints (is_some (D.content running.side.log.disk))
         (C.may running.side.clock) (core_state running) line bytes (core_state next)
         (K.held sink.old) (K.held sink.new)
         (D.faults running.side.log.disk) (D.faults next.side.log.disk)
@@ -96,9 +95,9 @@ fn take_line<R: Wait, D: Disk, K: Sink, C: Clock>(
     ensures below { IfOk result (λ next. AreBelow (line + 1) (core_state next)) }
     ensures along { IfOk result (λ next. GoesAlong D.content D.faults C.may running.side
         next.side) }
-    ensures stops { IfErr result (λ halt. (members : MembersOf) (bytes : List ℕ)
+    ensures stops { IfErr result (λ halt. (bytes : List ℕ)
         → IsKept 262_144 text bytes
-        → LineStops (is_some (D.content running.side.log.disk)) members
+        → LineStops (is_some (D.content running.side.log.disk))
         (C.may running.side.clock) (core_state running) line bytes
         (λ s. Tells (D.content running.side.log.disk) → Leaves (D.images halt.1) s) halt.0
         (K.held sink.old) (K.held sink.new)
@@ -131,9 +130,9 @@ pub(crate) fn take_piece<R: Wait, D: Disk, K: Sink, C: Clock>(
     requires line { line < 2 ^ 63 }
     requires short { IsShort piece }
     requires below { AreBelow line (core_state running) }
-    ensures prints { IfOk result (λ both. (members : MembersOf) (bytes : List ℕ)
+    ensures prints { IfOk result (λ both. (bytes : List ℕ)
         → IsKept 262_144 piece bytes
-        → PiecePrints (is_some (D.content running.side.log.disk)) members
+        → PiecePrints (is_some (D.content running.side.log.disk))
         (C.may running.side.clock) (core_state running) line bytes (core_state both.0)
         both.1 (K.held sink.old) (K.held sink.new)
         (D.faults running.side.log.disk) (D.faults both.0.side.log.disk)
@@ -142,9 +141,9 @@ pub(crate) fn take_piece<R: Wait, D: Disk, K: Sink, C: Clock>(
     ensures few { IfOk result (λ both. both.1 ≤ line + 1) }
     ensures along { IfOk result (λ both. GoesAlong D.content D.faults C.may running.side
         both.0.side) }
-    ensures stops { IfErr result (λ halt. (members : MembersOf) (bytes : List ℕ)
+    ensures stops { IfErr result (λ halt. (bytes : List ℕ)
         → IsKept 262_144 piece bytes
-        → PieceStops (is_some (D.content running.side.log.disk)) members
+        → PieceStops (is_some (D.content running.side.log.disk))
         (C.may running.side.clock) (core_state running) line bytes
         (λ s. Tells (D.content running.side.log.disk) → Leaves (D.images halt.1) s) halt.0
         (K.held sink.old) (K.held sink.new)

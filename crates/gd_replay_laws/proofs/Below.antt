@@ -1,18 +1,21 @@
 -- No line of a run has the number of what stood before it.
 use Rattle.std.proofs.Common.{◌≡◌, ℕ, zero, suc, ◌+◌, ◌<◌, List, [], ◌∷◌, Bool, true, false, Option, Some, None, Result, Ok, Err, slice_get, nat_lt, ⊎_elim, refl, sym, subst, arith}
 use Rattle.gd_prim.specs.declared.Batch.{Batch}
+use Rattle.gd_bytes.specs.Frozen.{Frozen}
+use Rattle.gd_defs.specs.History.{prims_at}
+use Rattle.gd_defs.specs.Asked.{Asked, Unknown, asked_query}
 use Rattle.gd_runs.specs.Owed.{MembersOf}
 use Rattle.gd_defs.specs.Lines.{Refusal}
 use Rattle.gd_defs.specs.Write.{WriteRequest}
-use Rattle.gd_runs.specs.Request.{ReadSet, one_query, queries}
+use Rattle.gd_runs.specs.Request.{ReadRequest, ReadSet, one_query, queries}
 use Rattle.gd_runs.specs.Legal.{Entry, History, batches, with_entry}
 use Rattle.gd_runs.specs.Explained.{entry_at}
 use Rattle.gd_runs.specs.Core as core
-use Rattle.gd_runs.specs.Core.{Event, Reading, State, opened, reading_of, Settles, Writable, WriteStep, stores, stores_late, refuses, doubts, leaves_doubt, lacks_memory, lacks_memory_settled, BeginStep, SliceStep, LearnStep}
+use Rattle.gd_runs.specs.Core.{Event, Reading, State, opened, reading_of, Settles, Writable, WriteStep, stores, stores_late, refuses, doubts, leaves_doubt, lacks_memory, lacks_memory_settled, BeginStep, SliceStep, LearnStep, FreezeStep, ThawsAs, ThawStep}
 use Rattle.gd_runs.specs.Replay.{LacksMemory}
 use Rattle.gd_runs.proofs.Rounds.{entry_cases, some_same, no_some, slot}
-use Rattle.gd_replay_laws.specs.Built.{StepBuilt, Takes}
-use Rattle.gd_replay_laws.specs.Runs.{BuiltLine, AreBelow}
+use Rattle.gd_replay_laws.specs.Steps.{StepOver, Takes}
+use Rattle.gd_replay_laws.specs.Runs.{LineOver, AreBelow}
 
 -- ---- the same store
 
@@ -113,14 +116,54 @@ no_entry bs e x at = let (i, place, there) = slot bs [] e x at in no_some there
 pub opened_below : (k : ℕ) (bs : List Batch) → AreBelow k (opened bs)
 opened_below k bs = record { entries = λ e x at. absurd (no_entry bs e x at); doubted = no_doubt k }
 
-step_below : (told : Bool) (members : MembersOf) (may : ℕ → Bool) (s : State) (k bytes : ℕ) (e : Event) (line : List ℕ) (t : State) → AreBelow k s → StepBuilt told members may s k bytes e line t → AreBelow (k + 1) t
+-- a state has the batches of another, and what is in doubt there
+abbrev pub HasSame : State → State → Type 0
+HasSame s t = (t.history ≡ s.history) × (t.doubt ≡ s.doubt)
+
+has_same : (s u t : State) → HasSame s u → t ≡ u → HasSame s t
+has_same s u t has is = subst (HasSame s) (sym is) has
+
+pub freeze_same : (members : MembersOf) (s : State) (k i : ℕ) (line : List ℕ) (t : State) → FreezeStep members s k i line t → HasSame s t
+freeze_same members s k i line t step = by (s.sessions i).reading refl
+  where
+    by : (o : Option Reading) → (s.sessions i).reading ≡ o → HasSame s t
+    by None is = has_same s s t (refl, refl) (rw is at step).1
+    by (Some r) is = has_same s s t (refl, refl) (rw is at step).0
+
+thaws_same : (members : MembersOf) (s : State) (k i : ℕ) (r : ReadRequest) (bytes : List ℕ) (f : Frozen) (line : List ℕ) (t : State) → ThawsAs members s k i r bytes f line t → HasSame s t
+thaws_same members s k i r bytes f line t step = by (nat_lt s.shown f.dateline) refl
+  where
+    refused : t ≡ core.refused_thaw s i → HasSame s t
+    refused is = has_same s (core.refused_thaw s i) t (refl, refl) is
+
+    asked : (o : Result Asked Unknown) → nat_lt s.shown f.dateline ≡ false → asked_query (prims_at (batches s.history) f.dateline) r.query ≡ o → HasSame s t
+    asked (Err u) shown is = refused (rw is at (rw shown at step)).1
+    asked (Ok q) shown is = ⊎_elim
+        (λ (fit, tells, thawed). has_same s (core.entered s i (Some _)) t (refl, refl) thawed)
+        (λ (unfit, tells, same). refused same)
+        (rw is at (rw shown at step))
+
+    by : (b : Bool) → nat_lt s.shown f.dateline ≡ b → HasSame s t
+    by true is = refused (rw is at step).1
+    by false is = asked (asked_query (prims_at (batches s.history) f.dateline) r.query) is refl
+
+pub thaw_same : (members : MembersOf) (s : State) (k i : ℕ) (r : ReadSet) (frozen line : List ℕ) (t : State) → ThawStep members s k i r frozen line t → HasSame s t
+thaw_same members s k i (one_query r) frozen line t step = ⊎_elim
+    (λ (f, spelled, thaws). thaws_same members s k i r frozen f line t thaws)
+    (λ (n, bad, tells, same). has_same s (core.refused_thaw s i) t (refl, refl) same)
+    step
+thaw_same members s k i (queries rs) frozen line t step = has_same s s t (refl, refl) step.1
+
+same_below : (k : ℕ) (s t : State) → AreBelow k s → HasSame s t → AreBelow (k + 1) t
+same_below k s t below has = later k t (same k s t below has.0 has.1)
+
+step_below : (told : Bool) (members : MembersOf) (may : ℕ → Bool) (s : State) (k bytes : ℕ) (e : Event) (line : List ℕ) (t : State) → AreBelow k s → StepOver told members may s k bytes e line t → AreBelow (k + 1) t
 step_below told members may s k bytes (core.begin i r) line t below step = begin_below s k i r line t below step
 step_below told members may s k bytes (core.slice i n) line t below step = slice_below members s k i line t below step
 step_below told members may s k bytes (core.write i w) line t below step = write_below may s k bytes i w line t below step
 step_below told members may s k bytes (core.learn i m) line t below step = learn_below s k i m line t below step
-step_below told members may s k bytes (core.freeze i) line t below step = stays k s s t below refl refl step.1
-step_below told members may s k bytes (core.thaw i (one_query r) frozen) line t below step = stays k s s t below refl refl step.1
-step_below told members may s k bytes (core.thaw i (queries rs) frozen) line t below step = stays k s s t below refl refl step.1
+step_below told members may s k bytes (core.freeze i) line t below step = same_below k s t below (freeze_same members s k i line t step)
+step_below told members may s k bytes (core.thaw i r frozen) line t below step = same_below k s t below (thaw_same members s k i r frozen line t step)
 step_below told members may s k bytes core.reopen line t below (told_step, (loaded, tells, anew)) = subst (AreBelow (k + 1)) (sym anew) (opened_below (k + 1) loaded)
 
 -- ---- without memory
@@ -141,7 +184,7 @@ lacks_below s k core.reopen t below lacks = stays k s s t below refl refl lacks
 pub takes_below : (told : Bool) (members : MembersOf) (may : ℕ → Bool) (s : State) (k bytes : ℕ) (e : Event) (line : List ℕ) (t : State) → AreBelow k s → Takes told members may s k bytes e line t → AreBelow (k + 1) t
 takes_below told members may s k bytes e line t below takes = ⊎_elim (λ taken. step_below told members may s k bytes e line t below taken) (λ lacks. lacks_below s k e t below lacks.1) takes
 
-pub line_below : (told : Bool) (members : MembersOf) (may : ℕ → Bool) (s t : State) (k : ℕ) (bytes reply : List ℕ) → AreBelow k s → BuiltLine told members may s k bytes reply t → AreBelow (k + 1) t
+pub line_below : (told : Bool) (members : MembersOf) (may : ℕ → Bool) (s t : State) (k : ℕ) (bytes reply : List ℕ) → AreBelow k s → LineOver told members may s k bytes reply t → AreBelow (k + 1) t
 line_below told members may s t k bytes reply below step = ⊎_elim
     (λ (f, no_event, told, is). stays k s s t below refl refl is)
     (λ some. ⊎_elim

@@ -1,28 +1,31 @@
 -- Which replies tell a failure of the disk, and how many lines of an output do.
 use Rattle.std.proofs.Common.{◌≡◌, ℕ, ◌+◌, ◌≤◌, List, [], ◌∷◌, ◌++◌, length, codes, Bool, true, false, if◌then◌else◌, Option, Some, None, Result, Ok, Err, ⊎_elim, refl, sym, ap, subst, ◌∙◌, nat_lt, arith, append_assoc}
 use Rattle.gd_base.specs.Counts.{Rose, RoseBy}
-use Rattle.gd_tree.specs.Json.{Json, text, list, no_items}
-use Rattle.gd_defs.specs.Lines.{Refusal, ok_line, err_line, refusal, cursor_ahead, count_json}
-use Rattle.gd_defs.specs.Reply.{bad_query_refusal}
+use Rattle.gd_tree.specs.Json.{Json, text, object, no_members, member}
+use Rattle.gd_bytes.specs.Frozen.{Frozen, spelling}
+use Rattle.gd_defs.specs.History.{prims_at}
+use Rattle.gd_defs.specs.Asked.{Asked, Unknown, asked_query}
+use Rattle.gd_defs.specs.Lines.{Refusal, ok_line, err_line, refusal, too_large, cursor_ahead, count_json}
+use Rattle.gd_defs.specs.Reply.{bad_query_refusal, unknown_refusal, max_reply}
 use Rattle.gd_defs.specs.Write.{WriteRequest}
-use Rattle.gd_runs.specs.Request.{ReadSet, one_query, queries, bad_line, bad_form, change_refusal}
+use Rattle.gd_runs.specs.Request.{ReadRequest, ReadSet, one_query, queries, bad_line, bad_form, change_refusal}
 use Rattle.gd_runs.specs.Owed.{MembersOf}
 use Rattle.gd_runs.specs.Input.{InputFault, line_too_long, no_json, no_line, json_refusal, input_fault_line}
 use Rattle.gd_runs.specs.Legal.{batches, size}
 use Rattle.gd_runs.specs.Explained.{Numbered, memory_line, disk_line, tells_fault, fault_count}
 use Rattle.gd_runs.specs.Core as core
-use Rattle.gd_runs.specs.Core.{Event, Reading, State, reading_of, said, no_reading_line, many_queries_line, owed_line, BeginStep, SliceStep, LearnStep, WriteStep, ReopenStep}
+use Rattle.gd_runs.specs.Core.{Event, Reading, State, reading_of, no_reading_line, many_queries_line, frozen_line, bad_frozen, owed_line, BeginStep, SliceStep, LearnStep, FreezeStep, ThawsAs, ThawStep, WriteStep}
 use Rattle.gd_runs.specs.Replay.{event_from}
 use Rattle.gd_core_laws.proofs.Quiet.{Quiet, ok_quiet, err_quiet, fault_quiet, memory_quiet, owed_quiet}
-use Rattle.gd_replay_laws.specs.Built.{StepBuilt, IsUnfrozen, Takes, unbuilt_line}
-use Rattle.gd_replay_laws.specs.Runs.{BuiltLine, BuiltReplies}
+use Rattle.gd_replay_laws.specs.Steps.{StepOver, Takes}
+use Rattle.gd_replay_laws.specs.Runs.{LineOver, RepliesOver}
 use Rattle.gd_replay_laws.specs.Faults.{IsCounted, faults_from, IsNoWrite}
 use Rattle.gd_core_laws.proofs.Shapes.{owed_each}
 use Rattle.gd_replay_laws.proofs.Plain.{Plain, plain_ok, plain_cursor, plain_err, plain_refusal, first_piece}
 
 -- ---- the reply lines of an event that is no write, and what holds of each
 
-module _ (P : List ℕ → Type 0) (k : ℕ) (ok : (n k : ℕ) (j : Json) → P (ok_line n k j)) (err : (n k : ℕ) (r : Refusal) → P (err_line n k r)) (owed : (s : State) (r : Reading) → P (owed_line (batches s.history) k r)) (no_reading : P (no_reading_line k)) (many : P (many_queries_line k)) (unbuilt : P (unbuilt_line k)) (memory : P (memory_line k)) where
+module _ (P : List ℕ → Type 0) (k : ℕ) (ok : (n k : ℕ) (j : Json) → P (ok_line n k j)) (err : (n k : ℕ) (r : Refusal) → P (err_line n k r)) (owed : (s : State) (r : Reading) → P (owed_line (batches s.history) k r)) (no_reading : P (no_reading_line k)) (many : P (many_queries_line k)) (memory : P (memory_line k)) where
   begin_each : (s : State) (i : ℕ) (r : ReadSet) (line : List ℕ) (t : State) → BeginStep s k i r line t → P line
   begin_each s i r line t step = by (reading_of (batches s.history) s.shown r) refl
     where
@@ -47,24 +50,54 @@ module _ (P : List ℕ → Type 0) (k : ℕ) (ok : (n k : ℕ) (j : Json) → P 
       by true is = subst P (sym (rw is at step).0) (err s.shown k (cursor_ahead m s.shown))
       by false is = subst P (sym (rw is at step).0) (ok m k (text (codes "learnt")))
 
-  freeze_each : (o : Option Reading) (line : List ℕ) → IsUnfrozen o k line → P line
-  freeze_each None line is = subst P (sym is) no_reading
-  freeze_each (Some r) line is = by r.request refl
+  freeze_each : (members : MembersOf) (s : State) (i : ℕ) (line : List ℕ) (t : State) → FreezeStep members s k i line t → P line
+  freeze_each members s i line t step = by (s.sessions i).reading refl
     where
-      by : (q : ReadSet) → r.request ≡ q → P line
-      by (one_query q) one = subst P (sym (rw one at is)) unbuilt
-      by (queries qs) several = subst P (sym (rw several at is)) many
+      within : (n : ℕ) (j : Json) (long : Bool) → P (if long then err_line n k (too_large (length (ok_line n k j))) else ok_line n k j)
+      within n j true = err n k (too_large (length (ok_line n k j)))
+      within n j false = ok n k j
+
+      frozen : (r : Reading) (f : Frozen) → P (frozen_line k r f)
+      frozen r f = let j : Json = object (member (codes "frozen") (text (spelling f)) no_members) in within r.dateline j (nat_lt max_reply (length (ok_line r.dateline k j)))
+
+      of : (r : Reading) (q : ReadSet) → r.request ≡ q → (s.sessions i).reading ≡ Some r → P line
+      of r (one_query q) one is = let (f, freezes, tells) = rw one at (rw is at step).1 in subst P (sym tells) (frozen r f)
+      of r (queries qs) several is = subst P (sym (rw several at (rw is at step).1)) many
+
+      by : (o : Option Reading) → (s.sessions i).reading ≡ o → P line
+      by None is = subst P (sym (rw is at step).0) no_reading
+      by (Some r) is = of r r.request refl is
+
+  thaws_each : (members : MembersOf) (s : State) (i : ℕ) (r : ReadRequest) (bytes : List ℕ) (f : Frozen) (line : List ℕ) (t : State) → ThawsAs members s k i r bytes f line t → P line
+  thaws_each members s i r bytes f line t step = by (nat_lt s.shown f.dateline) refl
+    where
+      asked : (o : Result Asked Unknown) → nat_lt s.shown f.dateline ≡ false → asked_query (prims_at (batches s.history) f.dateline) r.query ≡ o → P line
+      asked (Err u) shown is = subst P (sym (rw is at (rw shown at step)).0) (err f.dateline k (unknown_refusal u))
+      asked (Ok q) shown is = ⊎_elim
+          (λ (fit, tells, thawed). subst P (sym tells) (ok f.dateline k (text (codes "thawed"))))
+          (λ (unfit, tells, same). subst P (sym tells) (err s.shown k (bad_frozen (length bytes))))
+          (rw is at (rw shown at step))
+
+      by : (b : Bool) → nat_lt s.shown f.dateline ≡ b → P line
+      by true is = subst P (sym (rw is at step).0) (err s.shown k (cursor_ahead f.dateline s.shown))
+      by false is = asked (asked_query (prims_at (batches s.history) f.dateline) r.query) is refl
+
+  thaw_each : (members : MembersOf) (s : State) (i : ℕ) (r : ReadSet) (frozen line : List ℕ) (t : State) → ThawStep members s k i r frozen line t → P line
+  thaw_each members s i (one_query r) frozen line t step = ⊎_elim
+      (λ (f, spelled, thaws). thaws_each members s i r frozen f line t thaws)
+      (λ (n, bad, tells, same). subst P (sym tells) (err s.shown k (bad_frozen n)))
+      step
+  thaw_each members s i (queries rs) frozen line t step = subst P (sym step.0) many
 
   -- by the event, where it is said of a write
   pub step_each : (told : Bool) (members : MembersOf) (may : ℕ → Bool) (s : State) (bytes : ℕ) (e : Event) (line : List ℕ) (t : State) → ((i : ℕ) (w : WriteRequest) → e ≡ core.write i w → WriteStep may s k bytes i w line t → P line)
-      → StepBuilt told members may s k bytes e line t → P line
+      → StepOver told members may s k bytes e line t → P line
   step_each told members may s bytes (core.begin i r) line t written step = begin_each s i r line t step
   step_each told members may s bytes (core.slice i n) line t written step = slice_each members s i line t step
   step_each told members may s bytes (core.write i w) line t written step = written i w refl step
   step_each told members may s bytes (core.learn i m) line t written step = learn_each s i m line t step
-  step_each told members may s bytes (core.freeze i) line t written step = freeze_each (s.sessions i).reading line step.0
-  step_each told members may s bytes (core.thaw i (one_query r) frozen) line t written step = subst P (sym step.0) unbuilt
-  step_each told members may s bytes (core.thaw i (queries rs) frozen) line t written step = subst P (sym step.0) many
+  step_each told members may s bytes (core.freeze i) line t written step = freeze_each members s i line t step
+  step_each told members may s bytes (core.thaw i r frozen) line t written step = thaw_each members s i r frozen line t step
   step_each told members may s bytes core.reopen line t written (told_step, (loaded, tells, anew)) = subst P (sym tells) (ok (length loaded) k (text (codes "reopened")))
 
   pub takes_each : (told : Bool) (members : MembersOf) (may : ℕ → Bool) (s : State) (bytes : ℕ) (e : Event) (line : List ℕ) (t : State) → ((i : ℕ) (w : WriteRequest) → e ≡ core.write i w → WriteStep may s k bytes i w line t → P line)
@@ -75,14 +108,14 @@ module _ (P : List ℕ → Type 0) (k : ℕ) (ok : (n k : ℕ) (j : Json) → P 
       takes
 
   line_each : (told : Bool) (members : MembersOf) (may : ℕ → Bool) (s : State) (bytes line : List ℕ) (t : State) → ((f : InputFault) → P (input_fault_line k f))
-      → ((i : ℕ) (w : WriteRequest) → event_from bytes ≡ Ok (core.write i w) → WriteStep may s k (length bytes) i w line t → P line) → BuiltLine told members may s k bytes line t → P line
-  line_each told members may s bytes line t fault written built = ⊎_elim
+      → ((i : ℕ) (w : WriteRequest) → event_from bytes ≡ Ok (core.write i w) → WriteStep may s k (length bytes) i w line t → P line) → LineOver told members may s k bytes line t → P line
+  line_each told members may s bytes line t fault written step = ⊎_elim
       (λ (f, asked, tells, same). subst P (sym tells) (fault f))
       (λ some. ⊎_elim
-      (λ (e, asked, step). step_each told members may s (length bytes) e line t (λ i w is. written i w (asked ∙ ap Ok is)) step)
+      (λ (e, asked, taken). step_each told members may s (length bytes) e line t (λ i w is. written i w (asked ∙ ap Ok is)) taken)
       (λ without. subst P (sym without.0) memory)
       some)
-      built
+      step
 
 -- ---- only the reply to a write tells a failure of the disk
 
@@ -90,12 +123,12 @@ module _ (k : ℕ) where
   -- an event that is taken, or for which no memory was found
   pub takes_quiet : (told : Bool) (members : MembersOf) (may : ℕ → Bool) (s : State) (bytes : ℕ) (e : Event) (line : List ℕ) (t : State) → IsNoWrite e → Takes told members may s k bytes e line t → Quiet k line
   takes_quiet told members may s bytes e line t other takes =
-      takes_each (Quiet k) k (ok_quiet k) (err_quiet k) (λ u. owed_quiet k (batches u.history) k) refl refl refl (memory_quiet k k) told members may s bytes e line t (λ i w is step. absurd (subst IsNoWrite is other)) takes
+      takes_each (Quiet k) k (ok_quiet k) (err_quiet k) (λ u. owed_quiet k (batches u.history) k) refl refl (memory_quiet k k) told members may s bytes e line t (λ i w is step. absurd (subst IsNoWrite is other)) takes
 
   -- a line
-  pub line_quiet : (told : Bool) (members : MembersOf) (may : ℕ → Bool) (s t : State) (bytes line : List ℕ) → ((i : ℕ) (w : WriteRequest) → event_from bytes ≡ Ok (core.write i w) → ⊥) → BuiltLine told members may s k bytes line t → Quiet k line
-  line_quiet told members may s t bytes line other built =
-      line_each (Quiet k) k (ok_quiet k) (err_quiet k) (λ u. owed_quiet k (batches u.history) k) refl refl refl (memory_quiet k k) told members may s bytes line t (fault_quiet k k) (λ i w is step. absurd (other i w is)) built
+  pub line_quiet : (told : Bool) (members : MembersOf) (may : ℕ → Bool) (s t : State) (bytes line : List ℕ) → ((i : ℕ) (w : WriteRequest) → event_from bytes ≡ Ok (core.write i w) → ⊥) → LineOver told members may s k bytes line t → Quiet k line
+  line_quiet told members may s t bytes line other step =
+      line_each (Quiet k) k (ok_quiet k) (err_quiet k) (λ u. owed_quiet k (batches u.history) k) refl refl (memory_quiet k k) told members may s bytes line t (fault_quiet k k) (λ i w is written. absurd (other i w is)) step
 
   -- a reply that tells none is counted
   pub quiet_counted : (reply : List ℕ) (before after : ℕ) → Quiet k reply → IsCounted k reply before after
@@ -127,10 +160,10 @@ plain_written may s k bytes i w _ _ (core.leaves_doubt e is) = plain_disk k (cod
 plain_written may s k bytes i w _ _ core.lacks_memory = plain_memory k
 plain_written may s k bytes i w _ _ (core.lacks_memory_settled t settles) = plain_memory k
 
-pub plain_built : (told : Bool) (members : MembersOf) (may : ℕ → Bool) (s : State) (k : ℕ) (bytes line : List ℕ) (t : State) → BuiltLine told members may s k bytes line t → Plain line
-plain_built told members may s k bytes line t built =
-    line_each Plain k plain_ok plain_err (λ s r. owed_each Plain plain_ok plain_cursor plain_err tt (batches s.history) k r) (plain_refusal k (refusal (codes "NoReading") [])) (plain_refusal k (refusal (codes "ManyQueries") []))
-    (plain_refusal k (refusal (codes "BadQuery") ((codes "code", text (codes "unbuilt")) ∷ (codes "path", list no_items) ∷ []))) (plain_memory k) told members may s bytes line t (plain_fault k) (λ i w is step. plain_written may s k (length bytes) i w line t step) built
+pub plain_reply : (told : Bool) (members : MembersOf) (may : ℕ → Bool) (s : State) (k : ℕ) (bytes line : List ℕ) (t : State) → LineOver told members may s k bytes line t → Plain line
+plain_reply told members may s k bytes line t step =
+    line_each Plain k plain_ok plain_err (λ s r. owed_each Plain plain_ok plain_cursor plain_err tt (batches s.history) k r) (plain_refusal k (refusal (codes "NoReading") [])) (plain_refusal k (refusal (codes "ManyQueries") [])) (plain_memory k)
+    told members may s bytes line t (plain_fault k) (λ i w is written. plain_written may s k (length bytes) i w line t written) step
 
 -- ---- how many lines tell one
 
@@ -143,7 +176,7 @@ pub faults_none : (k : ℕ) → faults_from k [] ≡ 0
 faults_none k = refl
 
 -- a run, and what is printed behind it
-pub faults_run : (told : Bool) (members : MembersOf) (may : ℕ → Bool) (s t : State) (k : ℕ) (given : List Numbered) (output rest : List ℕ) → BuiltReplies told members may s k given output t
+pub faults_run : (told : Bool) (members : MembersOf) (may : ℕ → Bool) (s t : State) (k : ℕ) (given : List Numbered) (output rest : List ℕ) → RepliesOver told members may s k given output t
     → faults_from k (output ++ rest) ≡ faults_from k output + faults_from (k + length given) rest
 faults_run told members may s t k [] output rest (none, same) =
     let all : faults_from k (output ++ rest) ≡ faults_from k rest = ap (λ (out : List ℕ). faults_from k (out ++ rest)) none in
@@ -152,7 +185,7 @@ faults_run told members may s t k [] output rest (none, same) =
     let later : faults_from (k + 0) rest ≡ faults_from k rest = ap (λ (n : ℕ). faults_from n rest) here in
     omega (arith, all, first, later)
 faults_run told members may s t k (l ∷ ls) output rest (reply, mid, more, line, prints, others) =
-    let plain = plain_built told members may s k l.bytes reply mid line in
+    let plain = plain_reply told members may s k l.bytes reply mid line in
     let all : faults_from k (output ++ rest) ≡ (if tells_fault k reply then 1 else 0) + faults_from (k + 1) (more ++ rest) =
     ap (λ (out : List ℕ). faults_from k (out ++ rest)) prints ∙ (ap (faults_from k) (append_assoc reply (10 ∷ more) rest) ∙ faults_line k reply (more ++ rest) plain) in
     let first : faults_from k output ≡ (if tells_fault k reply then 1 else 0) + faults_from (k + 1) more = ap (faults_from k) prints ∙ faults_line k reply more plain in

@@ -1,24 +1,22 @@
 -- Events keep the pace of what the readings have left.
-use Rattle.std.proofs.Common.{◌≡◌, ◌≢◌, ℕ, ◌+◌, ◌-◌, ◌≤◌, ◌==◌, List, [], ◌∷◌, codes, bytes_eq, Bool, true, false, if◌then◌else◌, Option, Some, None, Result, Ok, Err, ⊎_elim, refl, sym, ap, subst, ◌∙◌, arith}
+use Rattle.std.proofs.Common.{◌≡◌, ◌≢◌, ℕ, ◌+◌, ◌-◌, ◌≤◌, ◌==◌, List, [], codes, bytes_eq, Bool, true, false, ◌&&◌, if◌then◌else◌, Option, Some, None, Result, Ok, Err, ⊎_elim, refl, sym, ap, subst, ◌∙◌, arith}
 use Rattle.std.specs.Prelude.{IfSome}
 use Rattle.std.specs.Bool.{MatchBool}
 use Rattle.std.proofs.lemmas.Bool.{eqb-true}
-use Rattle.gd_tree.specs.Json.{text, list, object, no_items, no_members, member}
-use Rattle.gd_bytes.specs.Frozen.{spelling}
+use Rattle.gd_bytes.specs.Frozen.{Frozen}
 use Rattle.gd_defs.specs.Lines.{Refusal, refusal, err_line_plain}
 use Rattle.gd_defs.specs.Write.{WriteRequest}
 use Rattle.gd_runs.specs.Owed.{MembersOf}
-use Rattle.gd_runs.specs.Request.{ReadSet, one_query, queries}
+use Rattle.gd_runs.specs.Request.{ReadSet}
 use Rattle.gd_runs.specs.Input.{InputFault}
 use Rattle.gd_runs.specs.Legal.{batches}
 use Rattle.gd_runs.specs.Explained.{memory_line}
 use Rattle.gd_runs.specs.Core as core
-use Rattle.gd_runs.specs.Core.{Event, Reading, State, reading_of, said, entered, owed_line, no_reading_line, many_queries_line, frozen_line, BeginStep, SliceStep}
+use Rattle.gd_runs.specs.Core.{Event, Reading, State, reading_of, said, entered, owed_line, BeginStep, SliceStep}
 use Rattle.gd_runs.specs.Replay.{event_from}
-use Rattle.gd_runs.specs.Pace.{DueOf, Left, first_number, with_left, says_of, renewed, FreezePace, Pace}
-use Rattle.gd_replay_laws.specs.Built.{Takes, IsUnfrozen}
+use Rattle.gd_runs.specs.Pace.{DueOf, Left, first_number, with_left, says_of, renewed, is_counted, Pace}
 use Rattle.gd_replay_laws.specs.Paced.{AreWithin, Paces, LinePaces}
-use Rattle.gd_replay_laws.proofs.Words.{same_bytes, plain_says, plain_answers, owed_says}
+use Rattle.gd_replay_laws.proofs.Words.{same_bytes, plain_says, owed_says}
 
 -- ---- within
 
@@ -30,30 +28,28 @@ within_more now next a less within = λ i. within_then (next i) (now i) (a i) (l
 
 -- ---- replies that say nothing
 
+never : (b : Bool) → (b && false) ≡ false
+never true = refl
+never false = refl
+
 module _ (k : ℕ) (r : Refusal) where
   -- that of a refusal without a dateline says no word of any reading
   none_says : (o : Option Reading) (what : List ℕ) → says_of o k what (err_line_plain k r) ≡ false
   none_says None what = refl
   none_says (Some x) what = plain_says k r x.dateline what
 
-  -- and is no text of one
-  none_frozen : (members : MembersOf) (d : DueOf) (s : State) (o : Option Reading) (left : ℕ) → FreezePace members d s k (err_line_plain k r) o left
-  none_frozen members d s None left = tt
-  none_frozen members d s (Some x) left = by x.request
-    where
-      by : (q : ReadSet) → FreezePace members d s k (err_line_plain k r) (Some (record x { request = q })) left
-      by (one_query q) = λ f same. absurd (plain_answers k x.dateline r (object (member (codes "frozen") (text (spelling f)) no_members)) same)
-      by (queries qs) = tt
+  none_counted : (o : Option Reading) → (is_counted o && says_of o k (codes "unfinished") (err_line_plain k r)) ≡ false
+  none_counted o = rw (none_says o (codes "unfinished")) (never (is_counted o))
 
   -- so each event that it replies to keeps what is counted
   plain_pace : (members : MembersOf) (d : DueOf) (s : State) (e : Event) (t : State) (a : Left) → Pace members d s k e (err_line_plain k r) t a a
   plain_pace members d s (core.begin i q) t a = sym (ap (λ (b : Bool). if b then renewed d t i a else a) (none_says (t.sessions i).reading (codes "begun")))
   plain_pace members d s (core.slice i budget) t a =
-      subst (λ (b : Bool). MatchBool b ((budget ≤ a i) × (a ≡ with_left a i (a i - budget))) (a ≡ a)) (sym (none_says (s.sessions i).reading (codes "unfinished"))) refl
+      subst (λ (b : Bool). MatchBool b ((budget ≤ a i) × (a ≡ with_left a i (a i - budget))) (a ≡ a)) (sym (none_counted (s.sessions i).reading)) refl
   plain_pace members d s (core.write i w) t a = refl
   plain_pace members d s (core.learn i m) t a = refl
-  plain_pace members d s (core.freeze i) t a = (none_frozen members d s (s.sessions i).reading (a i), refl)
-  plain_pace members d s (core.thaw i q bytes) t a = sym (ap (λ (b : Bool). if b then renewed d t i a else a) (none_says (t.sessions i).reading (codes "thawed")))
+  plain_pace members d s (core.freeze i) t a = refl
+  plain_pace members d s (core.thaw i q bytes) t a = refl
   plain_pace members d s core.reopen t a = refl
 
   pub plain_paces : (members : MembersOf) (d : DueOf) (s : State) (e : Event) (reply : List ℕ) (t : State) (now next : Left) → reply ≡ err_line_plain k r → AreWithin next now → Paces members d s k e reply t now next
@@ -76,35 +72,12 @@ learn_paces members d s k i m reply t now next less = λ a within. (a, refl, wit
 pub reopen_paces : (members : MembersOf) (d : DueOf) (s : State) (k : ℕ) (reply : List ℕ) (t : State) (now next : Left) → AreWithin next now → Paces members d s k core.reopen reply t now next
 reopen_paces members d s k reply t now next less = λ a within. (a, refl, within_more now next a less within)
 
--- freezing and thawing, which are refused
-abbrev unbuilt : Refusal
-unbuilt = refusal (codes "BadQuery") ((codes "code", text (codes "unbuilt")) ∷ (codes "path", list no_items) ∷ [])
+-- freezing, and thawing
+pub freeze_paces : (members : MembersOf) (d : DueOf) (s : State) (k i : ℕ) (reply : List ℕ) (t : State) (now next : Left) → AreWithin next now → Paces members d s k (core.freeze i) reply t now next
+freeze_paces members d s k i reply t now next less = λ a within. (a, refl, within_more now next a less within)
 
-unfrozen_paces : (members : MembersOf) (d : DueOf) (s : State) (k i : ℕ) (o : Option Reading) (line : List ℕ) (t : State) (now next : Left) → IsUnfrozen o k line → AreWithin next now → Paces members d s k (core.freeze i) line t now next
-unfrozen_paces members d s k i None line t now next is less = plain_paces k (refusal (codes "NoReading") []) members d s (core.freeze i) line t now next is less
-unfrozen_paces members d s k i (Some x) line t now next is less = by x.request refl
-  where
-    by : (q : ReadSet) → x.request ≡ q → Paces members d s k (core.freeze i) line t now next
-    by (one_query q) one = plain_paces k unbuilt members d s (core.freeze i) line t now next (rw one at is) less
-    by (queries qs) many = plain_paces k (refusal (codes "ManyQueries") []) members d s (core.freeze i) line t now next (rw many at is) less
-
-pub freeze_paces : (told : Bool) (members : MembersOf) (d : DueOf) (may : ℕ → Bool) (s : State) (k bytes i : ℕ) (line : List ℕ) (t : State) (now next : Left) → Takes told members may s k bytes (core.freeze i) line t → AreWithin next now
-    → Paces members d s k (core.freeze i) line t now next
-freeze_paces told members d may s k bytes i line t now next takes less = ⊎_elim
-    (λ step. unfrozen_paces members d s k i (s.sessions i).reading line t now next step.0 less)
-    (λ lacks. memory_paces members d s k (core.freeze i) line t now next lacks.0 less)
-    takes
-
-pub thaw_paces : (told : Bool) (members : MembersOf) (d : DueOf) (may : ℕ → Bool) (s : State) (k bytes i : ℕ) (q : ReadSet) (frozen line : List ℕ) (t : State) (now next : Left) → Takes told members may s k bytes (core.thaw i q frozen) line t → AreWithin next now
-    → Paces members d s k (core.thaw i q frozen) line t now next
-thaw_paces told members d may s k bytes i (one_query r) frozen line t now next takes less = ⊎_elim
-    (λ step. plain_paces k unbuilt members d s (core.thaw i (one_query r) frozen) line t now next step.0 less)
-    (λ lacks. memory_paces members d s k (core.thaw i (one_query r) frozen) line t now next lacks.0 less)
-    takes
-thaw_paces told members d may s k bytes i (queries rs) frozen line t now next takes less = ⊎_elim
-    (λ step. plain_paces k (refusal (codes "ManyQueries") []) members d s (core.thaw i (queries rs) frozen) line t now next step.0 less)
-    (λ lacks. memory_paces members d s k (core.thaw i (queries rs) frozen) line t now next lacks.0 less)
-    takes
+pub thaw_paces : (members : MembersOf) (d : DueOf) (s : State) (k i : ℕ) (q : ReadSet) (frozen reply : List ℕ) (t : State) (now next : Left) → AreWithin next now → Paces members d s k (core.thaw i q frozen) reply t now next
+thaw_paces members d s k i q frozen reply t now next less = λ a within. (a, refl, within_more now next a less within)
 
 -- ---- one session
 
@@ -174,17 +147,21 @@ module _ (members : MembersOf) (d : DueOf) (s : State) (k i : ℕ) (q : ReadSet)
 
 -- ---- a slice
 
-module _ (members : MembersOf) (d : DueOf) (s : State) (k i budget : ℕ) (line : List ℕ) (t : State) (now next : Left) (step : SliceStep members s k i line t) (unthawed : (x : Reading) → (s.sessions i).reading ≡ Some x → x.thawed ≡ None)
-    (lower : next i ≤ now i) (reached : (t.sessions i).reading ≢ None → budget + next i ≤ now i) (others : (j : ℕ) → (j == i) ≡ false → next j ≤ now j) where
-  abbrev Count : Bool → Left → Left → Type 0
-  Count says a b = MatchBool says ((budget ≤ a i) × (b ≡ with_left a i (a i - budget))) (b ≡ a)
+module _ (members : MembersOf) (d : DueOf) (s : State) (k i budget : ℕ) (line : List ℕ) (t : State) (now next : Left) (step : SliceStep members s k i line t)
+    (lower : next i ≤ now i) (reached : is_counted (s.sessions i).reading ≡ true → (t.sessions i).reading ≢ None → budget + next i ≤ now i) (others : (j : ℕ) → (j == i) ≡ false → next j ≤ now j) where
+  -- the slice of a reading that is counted says that it is unfinished
+  abbrev says : Option Reading → Bool
+  says o = is_counted o && says_of o k (codes "unfinished") line
 
-  stays : says_of (s.sessions i).reading k (codes "unfinished") line ≡ false → Paces members d s k (core.slice i budget) line t now next
+  abbrev Count : Bool → Left → Left → Type 0
+  Count told a b = MatchBool told ((budget ≤ a i) × (b ≡ with_left a i (a i - budget))) (b ≡ a)
+
+  stays : says (s.sessions i).reading ≡ false → Paces members d s k (core.slice i budget) line t now next
   stays none = λ a within. (a, subst (λ (b : Bool). Count b a a) (sym none) refl, within_more now next a (within_all now next i lower others) within)
 
-  lowers : says_of (s.sessions i).reading k (codes "unfinished") line ≡ true → budget + next i ≤ now i → Paces members d s k (core.slice i budget) line t now next
-  lowers says less = λ a within.
-      (with_left a i (a i - budget), subst (λ (b : Bool). Count b a (with_left a i (a i - budget))) (sym says) (enough (a i) (within i), refl), within_one now next a i (a i - budget) within (rest (a i) (within i)) others)
+  lowers : says (s.sessions i).reading ≡ true → budget + next i ≤ now i → Paces members d s k (core.slice i budget) line t now next
+  lowers told less = λ a within.
+      (with_left a i (a i - budget), subst (λ (b : Bool). Count b a (with_left a i (a i - budget))) (sym told) (enough (a i) (within i), refl), within_one now next a i (a i - budget) within (rest (a i) (within i)) others)
     where
       enough : (m : ℕ) → now i ≤ m → budget ≤ m
       enough m within = omega (arith, less, within)
@@ -198,15 +175,29 @@ module _ (members : MembersOf) (d : DueOf) (s : State) (k i budget : ℕ) (line 
       none : Some x ≡ None → ⊥
       none same = cc
 
+  -- of a reading that was thawed nothing is counted
+  thawed_says : (x : Reading) (f : Frozen) → x.thawed ≡ Some f → says (Some x) ≡ false
+  thawed_says x f is = rw is refl
+
+  -- of one that began
+  began : (x : Reading) → (s.sessions i).reading ≡ Some x → x.thawed ≡ None → Paces members d s k (core.slice i budget) line t now next
+  began x is unthawed = ⊎_elim
+      (λ (more : (line ≡ said x.dateline k (codes "unfinished")) × (t ≡ entered s i (Some x))).
+      lowers (ap says is ∙ (rw unthawed (subst (λ (xs : List ℕ). bytes_eq line xs ≡ true) more.0 (same_bytes line)))) (reached (ap is_counted is ∙ rw unthawed refl) (subst (λ (u : State). (u.sessions i).reading ≢ None) (sym more.1) (some_held x))))
+      (λ (done : (line ≡ owed_line (batches s.history) k x) × (t ≡ entered s i None)).
+      stays (ap says is ∙ (rw unthawed (ap (λ (xs : List ℕ). bytes_eq xs (said x.dateline k (codes "unfinished"))) done.0 ∙ owed_says (batches s.history) k x (codes "unfinished") unthawed))))
+      (rw is at step)
+
   pub slice_paces : Paces members d s k (core.slice i budget) line t now next
   slice_paces = by (s.sessions i).reading refl
     where
+      of : (x : Reading) (o : Option Frozen) → (s.sessions i).reading ≡ Some x → x.thawed ≡ o → Paces members d s k (core.slice i budget) line t now next
+      of x None is unthawed = began x is unthawed
+      of x (Some f) is thawed = stays (ap says is ∙ thawed_says x f thawed)
+
       by : (o : Option Reading) → (s.sessions i).reading ≡ o → Paces members d s k (core.slice i budget) line t now next
-      by None is = stays (ap (λ (o : Option Reading). says_of o k (codes "unfinished") line) is)
-      by (Some x) is = ⊎_elim
-          (λ more. lowers (ap (λ (o : Option Reading). says_of o k (codes "unfinished") line) is ∙ subst (λ (xs : List ℕ). bytes_eq line xs ≡ true) more.0 (same_bytes line)) (reached (subst (λ (u : State). (u.sessions i).reading ≢ None) (sym more.1) (some_held x))))
-          (λ done. stays (ap (λ (o : Option Reading). says_of o k (codes "unfinished") line) is ∙ (ap (λ (xs : List ℕ). bytes_eq xs (said x.dateline k (codes "unfinished"))) done.0 ∙ owed_says (batches s.history) k x (codes "unfinished") (unthawed x is))))
-          (rw is at step)
+      by None is = stays (ap says is)
+      by (Some x) is = of x x.thawed is refl
 
 -- ---- lines
 

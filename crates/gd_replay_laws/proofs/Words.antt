@@ -1,5 +1,5 @@
 -- Which reply lines say a word: none that a refusal prints, nor one with another result.
-use Rattle.std.proofs.Common.{◌≡◌, ◌≢◌, ℕ, zero, suc, ◌+◌, ◌/◌, ◌%◌, ◌≤◌, ◌==◌, pos, negsuc, Bool, true, false, if◌then◌else◌, nat_lt, List, [], ◌∷◌, ◌++◌, length, map, codes, decimal, bytes_eq, Option, Some, None, Result, Ok, Err, refl, sym, ap, subst, ◌∙◌, arith}
+use Rattle.std.proofs.Common.{◌≡◌, ◌≢◌, ℕ, zero, suc, ◌+◌, ◌/◌, ◌%◌, ◌≤◌, ◌==◌, pos, negsuc, Bool, true, false, if◌then◌else◌, nat_lt, List, [], ◌∷◌, ◌++◌, length, map, codes, decimal, bytes_eq, Option, Some, None, Result, Ok, Err, refl, ap, subst, arith}
 use Rattle.std.specs.Fmt.{digits, digits_onto, digit_glyph}
 use Rattle.std.proofs.lemmas.List.{append_cancel_left, append_cancel_right}
 use Rattle.std.proofs.lemmas.Slice.Eq.{bytes_eq-Decides}
@@ -28,12 +28,6 @@ other_bytes xs ys apart = by (bytes_eq xs ys) refl
     by true is = absurd (apart ((bytes_eq-Decides xs ys).0 is))
     by false is = is
 
-pub not_both : (b : Bool) → b ≡ true → b ≡ false → ⊥
-not_both b is_true is_false = apart (sym is_false ∙ is_true)
-  where
-    apart : false ≡ true → ⊥
-    apart e = cc
-
 -- ---- a refusal says nothing
 
 -- a reply says no word, at no dateline
@@ -42,20 +36,6 @@ IsNoWord k reply = (n : ℕ) (what : List ℕ) → bytes_eq reply (said n k what
 
 pub plain_says : (k : ℕ) (r : Refusal) → IsNoWord k (err_line_plain k r)
 plain_says k r = λ n what. refl
-
-pub err_says : (m k : ℕ) (r : Refusal) → IsNoWord k (err_line m k r)
-err_says m k r = λ n what. refl
-
-pub cursor_says : (m k : ℕ) (c j : Json) → IsNoWord k (ok_cursor_line m k c j)
-cursor_says m k c j = λ n what. refl
-
--- nor is it an answer, or a refusal at a dateline
-pub plain_answers : (k n : ℕ) (r : Refusal) (j : Json) → err_line_plain k r ≡ within_reply n k (ok_line n k j) → ⊥
-plain_answers k n r j is = by (nat_lt max_reply (length (ok_line n k j))) is
-  where
-    by : (b : Bool) → err_line_plain k r ≡ (if b then err_line n k (too_large (length (ok_line n k j))) else ok_line n k j) → ⊥
-    by true same = not_both (bytes_eq (err_line_plain k r) (err_line n k (too_large (length (ok_line n k j))))) (subst (λ (xs : List ℕ). bytes_eq (err_line_plain k r) xs ≡ true) same (same_bytes (err_line_plain k r))) refl
-    by false same = not_both (bytes_eq (err_line_plain k r) (ok_line n k j)) (subst (λ (xs : List ℕ). bytes_eq (err_line_plain k r) xs ≡ true) same (same_bytes (err_line_plain k r))) refl
 
 -- ---- digits
 

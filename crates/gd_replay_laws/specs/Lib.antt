@@ -1,4 +1,4 @@
-pub mod Built
+pub mod Steps
 pub mod Runs
 pub mod Paced
 pub mod Faults

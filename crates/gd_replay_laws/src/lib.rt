@@ -1,9 +1,8 @@
-//! What a run of events prints, as far as events are built. Each law is the contract of a function
-//! that does nothing: whoever calls it may use the law, and code above cites its statement from
-//! `specs/Laws.antt`.
+//! What a run of events prints. Each law is the contract of a function that does nothing: whoever
+//! calls it may use the law, and code above cites its statement from `specs/Laws.antt`.
 #![tactic(auto)]
 
-ghost use Rattle.gd_replay_laws.specs.Laws.{LinesStayBelow, RunsFollow, BuiltRunsAreReplays};
+ghost use Rattle.gd_replay_laws.specs.Laws.{LinesStayBelow, RunsFollow, RunsAreReplays};
 ghost use Rattle.gd_replay_laws.specs.Laws.{PacedRunsFollow, PacedRunsAreReplays};
 ghost use Rattle.gd_replay_laws.specs.Laws.{EventsAreBounded, OnlyWritesTellFaults, FaultsAddUp};
 
@@ -17,10 +16,9 @@ pub fn lines_stay_below()
     ensures { LinesStayBelow }
 {}
 
-/// Where no line freezes, nor thaws one query, and the file is told or no line opens again, what is
-/// built prints what the definitions say.
-pub fn built_runs_are_replays()
-    ensures { BuiltRunsAreReplays }
+/// Where the file is told, or no line opens the store again, a run prints what the definitions say.
+pub fn runs_are_replays()
+    ensures { RunsAreReplays }
 {}
 
 /// A paced run of lines and one of the lines behind them are a paced run.
@@ -28,8 +26,8 @@ pub fn paced_runs_follow()
     ensures { PacedRunsFollow }
 {}
 
-/// Where no line freezes, nor thaws one query, and the file is told or no line opens again, a paced
-/// run is one of the definitions: no reading is unfinished too often.
+/// Where the file is told, or no line opens the store again, a paced run is one of the definitions:
+/// no reading is unfinished too often.
 pub fn paced_runs_are_replays()
     ensures { PacedRunsAreReplays }
 {}

@@ -31,6 +31,8 @@ pub(crate) enum Table {
     Source,
     /// With a sink of which one call fails, until a run meets none.
     Sink,
+    /// This read, over what the case leaves, put away and taken up again after each step.
+    Freezes(String),
 }
 
 /// What a run is given.
@@ -79,10 +81,17 @@ impl Table {
             "cuts" => Ok(Table::Cuts),
             "source" => Ok(Table::Source),
             "sink" => Ok(Table::Sink),
-            _ => match text.strip_prefix("bytes ") {
-                Some(digits) => Ok(Table::Bytes(hex(alloc, digits)?)),
-                None => Err(Trouble::BadLine),
-            },
+            _ => Table::told(alloc, text),
+        }
+    }
+
+    /// The same where it tells more than its name.
+    fn told(alloc: Global, text: &str) -> Result<Table, Trouble> {
+        let (name, rest) = text.split_once(' ').ok_or(Trouble::BadLine)?;
+        match name {
+            "bytes" => Ok(Table::Bytes(hex(alloc, rest)?)),
+            "freezes" => Ok(Table::Freezes(String::from_str(alloc, rest)?)),
+            _ => Err(Trouble::BadLine),
         }
     }
 }

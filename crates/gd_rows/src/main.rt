@@ -3,6 +3,7 @@
 #![tactic(auto)]
 
 mod case;
+mod frozen;
 mod hex;
 mod input;
 mod report;
@@ -13,6 +14,7 @@ mod tables;
 mod trouble;
 
 use crate::case::{Case, Table};
+use crate::frozen::put_away;
 use crate::report::report;
 use crate::served::{Lent, serve};
 use crate::stopped::{Broken, stopped};
@@ -64,6 +66,7 @@ fn run_case<R: Threads + Wait + Sync, W: Write>(
         Table::Bytes(bytes) => bytes_set(rt, alloc, case, bytes, out),
         Table::Source => streamed(rt, alloc, case, true, out),
         Table::Sink => streamed(rt, alloc, case, false, out),
+        Table::Freezes(read) => put_away(rt, alloc, case, read, out),
     }
 }
 

@@ -55,7 +55,7 @@ fn dump<R: Threads + Wait + Sync>(
 }
 
 /// What stands between two texts, the first time that the first one stands there.
-fn between<'a>(text: &'a str, before: &str, behind: &str) -> Option<&'a str> {
+pub(crate) fn between<'a>(text: &'a str, before: &str, behind: &str) -> Option<&'a str> {
     let (_, rest) = text.split_once(before)?;
     let (inside, _) = rest.split_once(behind)?;
     Some(inside)

@@ -1,5 +1,5 @@
 -- Which frozen readings fit a query at their dateline.
-use Rattle.std.specs.Prelude.{ℕ, ◌+◌, List, length, Bool, true, not, ◌&&◌, ◌==◌, nat_lt, nat_le, Option, Some, None, is_some, if◌then◌else◌}
+use Rattle.std.specs.Prelude.{ℕ, ◌+◌, List, [], ◌∷◌, length, Bool, true, not, ◌&&◌, ◌==◌, nat_lt, nat_le, Option, Some, None, is_some, if◌then◌else◌}
 use Rattle.std.specs.List.{list_all}
 use Rattle.gd_grammar.specs.Mark.{Mark}
 use Rattle.gd_prim.specs.declared.Primitive.{Primitive}
@@ -7,7 +7,7 @@ use Rattle.gd_prim.specs.Live.{value_at, text_of}
 use Rattle.gd_tree.specs.Trees.{Trees, list_of, trees_count}
 use Rattle.gd_defs.specs.Asked.{Asked}
 use Rattle.gd_defs.specs.Plan.{template_of}
-use Rattle.gd_bytes.specs.Frozen.{Walk, by_links, scanning, building, printing, Body, Frozen}
+use Rattle.gd_bytes.specs.Frozen.{Frame, Walk, by_links, scanning, building, printing, Body, Frozen}
 use Rattle.gd_runs.specs.Owed.{MembersOf, tree_fits, scan_fits, stack_fits}
 use Rattle.gd_runs.specs.Shape.Ids.{page_ids}
 
@@ -34,11 +34,16 @@ abbrev pub walk_fits : List Primitive → Walk → Bool
 walk_fits prims (by_links ks) = list_all (λ k. is_inside prims k && is_some (text_of (value_at prims k))) ks
 walk_fits prims _ = true
 
--- what a reading does fits a query: in building, the row is one of them and no member has accepted it; in printing, no more places and ids are printed than the trees have
+-- how many candidates frames try: one, if there are any
+abbrev pub tried_count : List Frame → ℕ
+tried_count [] = 0
+tried_count (f ∷ fs) = 1
+
+-- what a reading does fits a query: in building, the row is one of them, no member has accepted it, and there are not more trees than rows before it, with that of the row that is tried; in printing, no more places and ids are printed than the trees have
 abbrev pub body_fits : List Primitive → MembersOf → Asked → ℕ → Body → Bool
 body_fits prims members q rows (scanning s) = scan_fits prims members (template_of q) s
 body_fits prims members q rows (building w ts s) = trees_fit prims q rows ts && nat_le s.iter.place rows && not (is_some s.iter.accepted)
-    && stack_fits prims members (template_of q) s.frames
+    && stack_fits prims members (template_of q) s.frames && nat_le (length (list_of ts) + tried_count s.frames) s.iter.place
 body_fits prims members q rows (printing n ts walks) = trees_fit prims q rows ts && list_all (walk_fits prims) walks
     && nat_le n (trees_count ts) && nat_le (length walks) (page_ids prims q (list_of ts))
 

@@ -1,5 +1,5 @@
 -- How many steps beginning, freezing and thawing may take, and how many slices of a run may leave a reading unfinished.
-use Rattle.std.specs.Prelude.{◌≡◌, ℕ, ◌+◌, ◌-◌, ◌*◌, ◌≤◌, max, List, [], ◌∷◌, ◌++◌, length, take, sum_by, Bool, false, ◌==◌, Option, Some, None, Result, Ok, Err, if◌then◌else◌, codes, bytes_eq}
+use Rattle.std.specs.Prelude.{◌≡◌, ℕ, ◌+◌, ◌-◌, ◌*◌, ◌≤◌, max, List, [], ◌∷◌, ◌++◌, length, take, sum_by, Bool, false, not, ◌&&◌, ◌==◌, Option, Some, None, is_some, Result, Ok, Err, if◌then◌else◌, codes, bytes_eq}
 use Rattle.std.specs.Bool.{MatchBool}
 use Rattle.gd_prim.specs.declared.Primitive.{Primitive}
 use Rattle.gd_prim.specs.declared.Batch.{Batch}
@@ -122,7 +122,7 @@ renewed d t i a = by (t.sessions i).reading
     by None = a
     by (Some r) = with_left a i (first_number d (batches t.history) r)
 
--- of a frozen reading of a query is due at most what was left, and 24 for each of its frames
+-- of a frozen reading of a query is due at most what was left, and 24 for each of its frames (no clause says this of what is frozen yet)
 abbrev pub IsDueWithin : MembersOf → DueOf → List Batch → ReadRequest → Frozen → ℕ → Type 0
 IsDueWithin members d batches q f left = by (asked_query (prims_at batches f.dateline) q.query)
   where
@@ -139,13 +139,16 @@ FreezePace members d s k reply (Some r) left = by r.request
     by (one_query q) = (f : Frozen) → reply ≡ frozen_line k r f → IsDueWithin members d (batches s.history) q f left
     by (queries qs) = Unit {0}
 
+-- a reading that began is held: its steps are counted, and those of a reading that was thawed are not
+abbrev pub is_counted : Option Reading → Bool
+is_counted None = false
+is_counted (Some r) = not (is_some r.thawed)
+
 -- what the readings have left behind an event that printed this reply: a slice that was unfinished takes its budget off, which they had left
 abbrev pub Pace : MembersOf → DueOf → State → ℕ → Event → List ℕ → State → Left → Left → Type 0
 Pace members d s k (begin i r) reply t a b = b ≡ (if says_of (t.sessions i).reading k (codes "begun") reply then renewed d t i a else a)
-Pace members d s k (thaw i r bytes) reply t a b = b ≡ (if says_of (t.sessions i).reading k (codes "thawed") reply then renewed d t i a else a)
 Pace members d s k (slice i budget) reply t a b =
-    MatchBool (says_of (s.sessions i).reading k (codes "unfinished") reply) ((budget ≤ a i) × (b ≡ with_left a i (a i - budget))) (b ≡ a)
-Pace members d s k (freeze i) reply t a b = FreezePace members d s k reply (s.sessions i).reading (a i) × (b ≡ a)
+    MatchBool (is_counted (s.sessions i).reading && says_of (s.sessions i).reading k (codes "unfinished") reply) ((budget ≤ a i) × (b ≡ with_left a i (a i - budget))) (b ≡ a)
 Pace members d s k e reply t a b = b ≡ a
 
 -- what the readings have left behind a line that printed this reply; behind one that is no event it is as before

@@ -7,9 +7,7 @@ use Rattle.gd_defs.specs.Rows.{meets_given, candidates}
 use Rattle.gd_defs.specs.Reply.{Mark, asked_answer}
 use Rattle.gd_defs.specs.Template.{passes_template}
 use Rattle.gd_defs.specs.Plan.{template_of}
-use Rattle.gd_bytes.specs.Frozen.{scanning}
-use Rattle.gd_runs.specs.Scanned.{scan_order}
-use Rattle.gd_runs.specs.Thawed.{body_answer}
+use Rattle.gd_page_laws.specs.PassedOn.{scanning, scan_order, body_answer}
 use Rattle.gd_order_laws.specs.Window.{In}
 use Rattle.gd_order_laws.proofs.Sorted.{In-filter, In-filtered}
 use Rattle.gd_scan_laws.specs.Ordered.{start, scanned}

@@ -8,16 +8,14 @@ use Rattle.std.proofs.lemmas.Cmp.{nat_cmp_total}
 use Rattle.std.proofs.lemmas.List.Elements.{filter-append}
 use Rattle.gd_prim.specs.declared.Primitive.{Primitive}
 use Rattle.gd_prim.specs.Live.{is_live, is_current, passes_at}
-use Rattle.gd_list_laws.proofs.Fronts.{take_longer, more_than}
+use Rattle.gd_page_laws.proofs.PassedOn.{take_longer, more_than}
 use Rattle.gd_defs.specs.Asked.{Asked}
 use Rattle.gd_defs.specs.Lines.{too_wide, refused_at, count_json}
 use Rattle.gd_defs.specs.Plan.{template_of}
 use Rattle.gd_defs.specs.Reply.{Mark, mark_row, row_mark, page_cursor, max_candidate_weight, max_page_weight, Answer, page_answer}
 use Rattle.gd_defs.specs.Rows.{Row, row_of, row_cmp}
 use Rattle.gd_defs.specs.Template.{Template, template, passes_template, is_answer, meets_constraints, meets_clauses, holds}
-use Rattle.gd_runs.specs.Owed.{ScanOrder, Candidate, candidate, candidates_from, weighs_too_much}
-use Rattle.gd_runs.specs.Shape.{page_shape}
-use Rattle.gd_runs.specs.Thawed.{window, answering, built_trees, built_weight, row_candidates}
+use Rattle.gd_page_laws.specs.PassedOn.{ScanOrder, Candidate, candidate, candidates_from, weighs_too_much, page_shape, window, answering, built_trees, built_weight, row_candidates}
 use Rattle.gd_order_laws.specs.Window.{In, Each, Apart}
 use Rattle.gd_order_laws.proofs.Rows.{In-map, apart_rows}
 use Rattle.gd_order_laws.proofs.Sorted.{Apart-filter, In-filter, In-sorted}

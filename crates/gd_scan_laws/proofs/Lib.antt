@@ -8,3 +8,4 @@ pub mod Begun
 pub mod Settled
 pub mod Going
 pub mod Laws
+pub mod PassedOn

@@ -15,16 +15,14 @@ use Rattle.gd_defs.specs.Lines.{refused_at, too_wide, count_json}
 use Rattle.gd_defs.specs.Reply.{Mark, Path, mark_row, rows_after, page, has_more, page_cursor, object_json, each_row, as_list, is_ambiguous, has_heavy_candidate, max_candidate_weight, max_page_weight, Answer, page_answer, asked_answer}
 use Rattle.gd_defs.specs.Template.{Template, passes_template, is_answer, tree_of, weight}
 use Rattle.gd_defs.specs.Plan.{template_of}
-use Rattle.gd_runs.specs.Owed.{ScanOrder, Candidate, candidate, weighs_too_much}
-use Rattle.gd_runs.specs.Thawed.{window, built_trees, built_weight}
-use Rattle.gd_runs.specs.Shape.{Printed, rows_shape, list_shape, page_shape}
+use Rattle.gd_page_laws.specs.PassedOn.{ScanOrder, Candidate, candidate, weighs_too_much, window, built_trees, built_weight, Printed, rows_shape, list_shape, page_shape}
 use Rattle.gd_order_laws.specs.Window.{In, Each, Apart}
 use Rattle.gd_order_laws.proofs.Keys.{row_total}
 use Rattle.gd_order_laws.proofs.Sorted.{Apart-filter, Each-filter, Each-member, Each-from_members, In-filter, In-filtered, sorted-filter}
 use Rattle.gd_order_laws.proofs.Rows.{meeting, of_objects, In-map, In-mapped, apart_rows, apart_objects, row_known}
 use Rattle.gd_scan_laws.specs.Ordered.{start, scan_answer, scanned}
 use Rattle.gd_scan_laws.specs.Planned.{Planned}
-use Rattle.gd_template_laws.proofs.Results.{answer-passes}
+use Rattle.gd_page_laws.proofs.PassedOn.{answer-passes}
 use Rattle.gd_scan_laws.proofs.Objects.{both_true, true_both, object_is, is_object_in}
 use Rattle.gd_scan_laws.proofs.Start.{same_any, answer_rows, window_alike, answer_by, start_answer}
 

@@ -16,9 +16,7 @@ use Rattle.gd_defs.specs.Asked.{Own, its_id, its_guid, Asking, Members, no_membe
 use Rattle.gd_defs.specs.Data.{Test, equals}
 use Rattle.gd_defs.specs.Property.{Property, far_of}
 use Rattle.gd_defs.specs.Rows.{met}
-use Rattle.gd_runs.specs.Owed.{ScanOrder, is_among}
-use Rattle.gd_runs.specs.RootSets.{RootSet, everything, named_places, links_of, named, named_sets, link_sets, sets_by_name, sets_by_link, with_typ, with_far}
-use Rattle.gd_runs.specs.Scanned.{first_times, link_order, set_order, scan_order}
+use Rattle.gd_page_laws.specs.PassedOn.{ScanOrder, is_among, RootSet, everything, named_places, links_of, named, named_sets, link_sets, sets_by_name, sets_by_link, with_typ, with_far, first_times, link_order, set_order, scan_order}
 use Rattle.gd_order_laws.specs.Window.{In, Each, Rising}
 use Rattle.gd_order_laws.proofs.Places.{places_rise}
 use Rattle.gd_order_laws.proofs.Sorted.{Each-from_members, Each-member, Rising-filter}

@@ -6,7 +6,7 @@ use Rattle.gd_prim.specs.declared.Primitive.{Primitive}
 use Rattle.gd_defs.specs.Asked.{Asked}
 use Rattle.gd_defs.specs.Rows.{Row, row_of, row_cmp, sorted_onto, insert_row}
 use Rattle.gd_defs.specs.Reply.{Mark, mark_row, row_mark}
-use Rattle.gd_runs.specs.Thawed.{window}
+use Rattle.gd_page_laws.specs.PassedOn.{window}
 use Rattle.gd_order_laws.specs.Window.{In, Each, Apart, Rising, kept_onto}
 use Rattle.gd_order_laws.proofs.Keys.{row_total}
 use Rattle.gd_order_laws.proofs.Marks.{mark_of}

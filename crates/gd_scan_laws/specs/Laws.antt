@@ -9,12 +9,8 @@ use Rattle.gd_defs.specs.Rows.{Row, row_of, candidates}
 use Rattle.gd_defs.specs.Reply.{Mark, row_mark, answer}
 use Rattle.gd_defs.specs.Template.{is_answer}
 use Rattle.gd_defs.specs.Plan.{template_of}
-use Rattle.gd_bytes.specs.Frozen.{scanning}
-use Rattle.gd_runs.specs.Owed.{ScanOrder, candidate, weighs_too_much}
-use Rattle.gd_runs.specs.Scanned.{scan_order}
-use Rattle.gd_runs.specs.Thawed.{body_answer, window}
+use Rattle.gd_page_laws.specs.PassedOn.{scanning, ScanOrder, candidate, weighs_too_much, scan_order, body_answer, window, AreHeld}
 use Rattle.gd_order_laws.specs.Window.{In, Each, Apart, Rising}
-use Rattle.gd_template_laws.specs.Laws.{AreHeld}
 use Rattle.gd_scan_laws.specs.Ordered.{start, settled, scan_answer, scanned}
 
 -- A reading that has settled nothing and keeps no rows owes the answer to its query, with or without a cursor, from the start or behind a mark.

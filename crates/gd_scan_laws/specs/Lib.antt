@@ -1,3 +1,4 @@
 pub mod Ordered
 pub mod Planned
 pub mod Laws
+pub mod PassedOn

@@ -8,7 +8,7 @@ use Rattle.gd_defs.specs.Rows.{meets, meets_given, candidates, row_weight}
 use Rattle.gd_defs.specs.Reply.{object_json}
 use Rattle.gd_defs.specs.Template.{is_answer, passes_template, clause_lists, weight}
 use Rattle.gd_defs.specs.Plan.{template_of, clauses_of}
-use Rattle.gd_runs.specs.Shape.{object_shape}
+use Rattle.gd_page_laws.specs.PassedOn.{object_shape}
 use Rattle.gd_order_laws.specs.Window.{In}
 
 -- the template of a query has its rows as answers and its candidates as what passes, weighs them as the query does, and its lists print what the query prints

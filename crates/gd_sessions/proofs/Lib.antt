@@ -1,3 +1,6 @@
+pub mod Ascii
+pub mod Freezing
+pub mod Holding
 pub mod Steps
 pub mod Begun
 pub mod Growing

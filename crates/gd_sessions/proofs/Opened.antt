@@ -10,10 +10,11 @@ use Rattle.gd_reply.specs.declared.reply.Reply.{Reply}
 use Rattle.gd_bytes.specs.File.{groups, joined, StandsFor, MayStandFor}
 use Rattle.gd_runs.specs.Legal.{Entry, History, batches, size}
 use Rattle.gd_runs.specs.Core.{Session, State, opened, said, ReopenStep}
-use Rattle.gd_replay_laws.specs.Built.{ReopenBuilt}
+use Rattle.gd_replay_laws.specs.Steps.{ReopenOver}
 use Rattle.gd_runs.specs.Side.{doubt_groups}
 use Rattle.gd_writer.specs.Parts.{Tells}
 use Rattle.gd_writer.specs.Side.{SideValue, state_of, KeepsAll, Begins}
+use Rattle.gd_held.specs.Held.{nothing}
 use Rattle.gd_sessions.specs.declared.held.Held.{Held}
 use Rattle.gd_sessions.specs.Sessions.{new_session}
 use Rattle.gd_sessions.specs.Held.{session_view, sessions_of, IsGoingOn}
@@ -35,7 +36,7 @@ pub new_going : (bs : List Batch) (shown : ℕ) (hs : List Held) → AllByRecurs
 new_going bs shown hs all = all_weaker IsNew (IsGoingOn bs shown) (λ h is. subst (IsGoingOn bs shown) (sym is) tt) hs all
 
 -- one more
-pub one_more_new : (hs more : List Held) (h : Held) → more ≡ hs ++ h ∷ [] → h ≡ record { seen = 0; state = record { reading = None } } → AllByRecursion IsNew hs → AllByRecursion IsNew more
+pub one_more_new : (hs more : List Held) (h : Held) → more ≡ hs ++ h ∷ [] → h ≡ record { seen = 0; state = nothing } → AllByRecursion IsNew hs → AllByRecursion IsNew more
 one_more_new hs more h is new all = subst (AllByRecursion IsNew) (sym is) (push hs all)
   where
     push : (xs : List Held) → AllByRecursion IsNew xs → AllByRecursion IsNew (xs ++ h ∷ [])
@@ -99,12 +100,12 @@ module _ {D C : Type 0} (content : D → Option (List ℕ)) (images : D → List
   abbrev told_now : Bool
   told_now = is_some (content old.log.disk)
 
-  reopens : (k : ℕ) (line : List ℕ) → line ≡ said (size new.history) k (codes "reopened") → ReopenBuilt told_now (state_of old (sessions_of hs)) k line (state_of new (sessions_of held))
+  reopens : (k : ℕ) (line : List ℕ) → line ≡ said (size new.history) k (codes "reopened") → ReopenOver told_now (state_of old (sessions_of hs)) k line (state_of new (sessions_of held))
   reopens k line is =
       (λ tells. reopens_told tells k line is, (new.history.loaded, is ∙ ap (λ (n : ℕ). said n k (codes "reopened")) new_size, opens_as (content old.log.disk) given may new held begins all))
 
   pub reopens_ok : (k requests : ℕ) (result : Result Reply Memory) → requests ≡ size new.history → IfOk result (λ reply. reply_text reply ≡ said requests k (codes "reopened"))
-      → Answers (λ line. ReopenBuilt told_now (state_of old (sessions_of hs)) k line (state_of new (sessions_of held))) result
+      → Answers (λ line. ReopenOver told_now (state_of old (sessions_of hs)) k line (state_of new (sessions_of held))) result
   reopens_ok k requests (Ok reply) count told = reopens k (reply_text reply) (told ∙ ap (λ (n : ℕ). said n k (codes "reopened")) count)
   reopens_ok k requests (Err e) count told = (said (size new.history) k (codes "reopened"), reopens k (said (size new.history) k (codes "reopened")) refl)
 
@@ -112,7 +113,7 @@ module _ {D C : Type 0} (content : D → Option (List ℕ)) (images : D → List
 pub reopens_run : {D C : Type 0} (content : D → Option (List ℕ)) (images : D → List ℕ → Type 0) (may : C → ℕ → Bool) (given : ℕ → Bool) → ((disk : D) (file : List ℕ) → content disk ≡ Some file → images disk file)
     → (old : SideValue D C) (disk : D) (run : RunningValue D C) (hs held : List Held) → KeepsAll content images may old → disk ≡ old.log.disk → Begins (content disk) given may run.side → run.held ≡ held → AllByRecursion IsNew held
     → (k requests : ℕ) (result : Result Reply Memory) (side : SideValue D C) → side ≡ run.side → requests ≡ size side.history → IfOk result (λ reply. reply_text reply ≡ said requests k (codes "reopened"))
-    → Answers (λ line. ReopenBuilt (is_some (content old.log.disk)) (state_of old (sessions_of hs)) k line (core_state run)) result
+    → Answers (λ line. ReopenOver (is_some (content old.log.disk)) (state_of old (sessions_of hs)) k line (core_state run)) result
 reopens_run content images may given reads old disk run hs held keeps gave begins now all k requests result side same count told =
     reopens_ok content images may given reads old run.side hs run.held keeps (subst (λ (d : _). Begins (content d) given may run.side) gave begins) (subst (AllByRecursion IsNew) (sym now) all) k requests result
     (count ∙ ap (λ (s : SideValue _ _). size s.history) same) told

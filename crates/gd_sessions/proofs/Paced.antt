@@ -8,52 +8,28 @@ use Rattle.std.proofs.lemmas.List.{map-set, get_or-set_other}
 use Rattle.gd_base.specs.declared.memory.Memory.{Memory}
 use Rattle.gd_prim.specs.declared.Batch.{Batch}
 use Rattle.gd_defs.specs.Write.{WriteRequest}
-use Rattle.gd_runs.specs.Owed.{MembersOf}
 use Rattle.gd_runs.specs.Legal.{batches}
 use Rattle.gd_runs.specs.Request.{ReadSet}
 use Rattle.gd_runs.specs.Core as core
 use Rattle.gd_runs.specs.Core.{Reading, Session, State, BeginStep, SliceStep}
-use Rattle.gd_runs.specs.Pace.{DueOf, Left, first_number}
+use Rattle.gd_runs.specs.Pace.{DueOf, Left, first_number, is_counted}
+use Rattle.gd_held.specs.PassedOn.{one_member}
 use Rattle.gd_runs.proofs.Rounds.{length_batches}
 use Rattle.gd_replay_laws.specs.Paced.{AreWithin}
 use Rattle.gd_replay_laws.proofs.Paced.{within_all, IsFirst, begin_paces, slice_paces}
-use Rattle.gd_read.specs.Session.{reads, session_left}
-use Rattle.gd_read.specs.declared.session.SessionState.{SessionState}
-use Rattle.gd_read.specs.declared.reading.Reading.{Reading as ReadHere}
-use Rattle.gd_read.specs.declared.reading.Reading.TheVariants as reading
-use Rattle.gd_read.proofs.States.{left_more}
+use Rattle.gd_held.specs.Held.{reads, held_left}
+use Rattle.gd_held.specs.declared.held.HeldReading.{HeldReading}
 use Rattle.gd_writer.specs.Side.{SideValue, state_of}
 use Rattle.gd_sessions.specs.declared.held.Held.{Held}
 use Rattle.gd_sessions.specs.Opened.{IsNew}
-use Rattle.gd_sessions.specs.Sessions.{new_session}
+use Rattle.gd_sessions.specs.Sessions.{new_session, holds_thawed}
 use Rattle.gd_sessions.specs.Held.{session_view, sessions_of, IsGoingOn, left_at}
 use Rattle.gd_sessions.specs.Writes.{WritesFor}
 use Rattle.gd_sessions.specs.Running.{RunningValue, IsRunning, core_state, left_now, KeepsPace}
 use Rattle.gd_sessions.proofs.Growing.{write_grows}
+use Rattle.gd_sessions.proofs.Holding.{left_more, none_left, counted_began}
 use Rattle.gd_sessions.proofs.Table.{not_same, mapped_at, mapped_set}
 use Rattle.gd_sessions.proofs.Ran.{told_held}
-
--- ---- what is held
-
--- a reading that is held was not thawed
-unthawed : (state : SessionState) (x : Reading) → reads state ≡ Some x → x.thawed ≡ None
-unthawed state x is = by state.reading is
-  where
-    same : (y : Reading) → Some y ≡ Some x → y.thawed ≡ None → x.thawed ≡ None
-    same y one none = let which : y ≡ x = cc in sym (ap (λ (z : Reading). z.thawed) which) ∙ none
-
-    by : (o : Option ReadHere) → reads (record { reading = o }) ≡ Some x → x.thawed ≡ None
-    by None none = absurd (cc)
-    by (Some (reading.One r)) held = same _ held refl
-    by (Some (reading.Several r)) held = same _ held refl
-
--- where no reading is held, nothing is left
-none_left : (n : ℕ) (bs : List Batch) (state : SessionState) → reads state ≡ None → session_left n bs state ≡ 0
-none_left n bs state is = by state.reading is
-  where
-    by : (o : Option ReadHere) → reads (record { reading = o }) ≡ None → session_left n bs (record { reading = o }) ≡ 0
-    by None none = refl
-    by (Some r) held = absurd (cc)
 
 -- what is left is within itself
 pub left_stays : (a : Left) → AreWithin a a
@@ -66,7 +42,7 @@ left_stays a = λ j. same (a j)
 
 pub new_left : (n : ℕ) (bs : List Batch) (hs : List Held) (j : ℕ) → AllByRecursion IsNew hs → left_at n bs hs j ≡ 0
 new_left n bs [] j all = refl
-new_left n bs (h ∷ hs) zero all = ap (λ (x : Held). session_left n bs x.state) all.0
+new_left n bs (h ∷ hs) zero all = ap (λ (x : Held). held_left n bs x.state) all.0
 new_left n bs (h ∷ hs) (suc j) all = new_left n bs hs j all.1
 
 pub none_within : (bs : List Batch) (hs : List Held) → AllByRecursion IsNew hs → AreWithin (left_at (2 ^ 32) bs hs) (λ i. 0)
@@ -98,7 +74,7 @@ module _ {D C : Type 0} (side : SideValue D C) (hs : List Held) (i : ℕ) (befor
   new = record { side = side; held = set hs i after }
 
   abbrev pub left_of_it : List Batch → Held → ℕ
-  left_of_it bs h = session_left (2 ^ 32) bs h.state
+  left_of_it bs h = held_left (2 ^ 32) bs h.state
 
   others_set : (bs : List Batch) (j : ℕ) → (j == i) ≡ false → left_at (2 ^ 32) bs (set hs i after) j ≡ left_at (2 ^ 32) bs hs j
   others_set bs j other = ap (λ (ns : List ℕ). get_or ns j 0) (map-set (left_of_it bs) hs i after) ∙ get_or-set_other (map (left_of_it bs) hs) i j (left_of_it bs after) 0 (not_same i j other)
@@ -121,20 +97,20 @@ module _ {D C : Type 0} (side : SideValue D C) (hs : List Held) (i : ℕ) (befor
   reads_is : (sessions_of (set hs i after) i).reading ≡ reads after.state
   reads_is = ap (λ (x : Session). x.reading) (mapped_set session_view hs i after new_session lt)
 
-  pub set_within : session_left (2 ^ 32) (batches side.history) after.state ≤ session_left (2 ^ 32) (batches side.history) before.state → AreWithin (left_now new) (left_now old)
+  pub set_within : held_left (2 ^ 32) (batches side.history) after.state ≤ held_left (2 ^ 32) (batches side.history) before.state → AreWithin (left_now new) (left_now old)
   set_within less = within_all (left_now old) (left_now new) i (by _ _ _ _ it_was it_is less) others_within
     where
       by : (a b c d : ℕ) → a ≡ b → c ≡ d → d ≤ a → c ≤ b
       by a b c d first second third = omega (arith, first, second, third)
 
   pub same_within : after.state ≡ before.state → AreWithin (left_now new) (left_now old)
-  same_within same = set_within (by _ _ (ap (λ (state : SessionState). session_left (2 ^ 32) (batches side.history) state) same))
+  same_within same = set_within (by _ _ (ap (λ (state : HeldReading). held_left (2 ^ 32) (batches side.history) state) same))
     where
       by : (a b : ℕ) → a ≡ b → a ≤ b
       by a b is = omega (arith, is)
 
   -- a reading that begins
-  begun_first : (d : DueOf) → IfSome (reads after.state) (λ r. session_left (2 ^ 32) (batches side.history) after.state ≤ first_number d (batches side.history) r) → IsFirst d (core_state new) i (left_now new i)
+  begun_first : (d : DueOf) → IfSome (reads after.state) (λ r. held_left (2 ^ 32) (batches side.history) after.state ≤ first_number d (batches side.history) r) → IsFirst d (core_state new) i (left_now new i)
   begun_first d few = (
     subst (λ (o : Option Reading). IfSome o (λ r. left_now new i ≤ first_number d (batches side.history) r)) (sym reads_is)
         (subst (λ (m : ℕ). IfSome (reads after.state) (λ r. m ≤ first_number d (batches side.history) r)) (sym it_is) few),
@@ -142,32 +118,25 @@ module _ {D C : Type 0} (side : SideValue D C) (hs : List Held) (i : ℕ) (befor
   )
 
   pub begins_paced : (bs : List Batch) (k : ℕ) (r : ReadSet) (result : Result (Vec ℕ) Memory) → bs ≡ batches side.history → IfOk result (λ reply. BeginStep (core_state old) k i r reply.items (core_state new))
-      → IfOk result (λ _. (n : ℕ) (due : DueOf) → IfSome (reads after.state) (λ x. session_left n bs after.state ≤ first_number due bs x)) → IfOk result (λ reply. KeepsPace k (core.begin i r) reply.items old new)
-  begins_paced bs k r (Ok bytes) stored step first = λ members d.
-      begin_paces members d (core_state old) k i r bytes.items (core_state new) (left_now old) (left_now new) step
-      (begun_first d (subst (λ (b : List Batch). IfSome (reads after.state) (λ x. session_left (2 ^ 32) b after.state ≤ first_number d b x)) stored (first (2 ^ 32) d))) others_within
+      → IfOk result (λ _. (n : ℕ) (due : DueOf) → IfSome (reads after.state) (λ x. held_left n bs after.state ≤ first_number due bs x)) → IfOk result (λ reply. KeepsPace k (core.begin i r) reply.items old new)
+  begins_paced bs k r (Ok bytes) stored step first = λ d.
+      begin_paces one_member d (core_state old) k i r bytes.items (core_state new) (left_now old) (left_now new) step
+      (begun_first d (subst (λ (b : List Batch). IfSome (reads after.state) (λ x. held_left (2 ^ 32) b after.state ≤ first_number d b x)) stored (first (2 ^ 32) d))) others_within
   begins_paced bs k r (Err e) stored step first = tt
 
   -- a slice whose steps are counted from 0
-  pub slices_paced : (k budget s u : ℕ) (result : Result (Vec ℕ) Memory) → budget ≤ 1_000_000 → IfOk result (λ reply. (members : MembersOf) → SliceStep members (core_state old) k i reply.items (core_state new)) → AreWithin (left_now new) (left_now old)
-      → (reads after.state ≢ None → min (s + budget) (2 ^ 64 - 1) ≤ u) → u + session_left (2 ^ 32) (batches side.history) after.state ≤ s + session_left (2 ^ 32) (batches side.history) before.state
+  pub slices_paced : (k budget s u : ℕ) (result : Result (Vec ℕ) Memory) → budget ≤ 1_000_000 → IfOk result (λ reply. SliceStep one_member (core_state old) k i reply.items (core_state new)) → AreWithin (left_now new) (left_now old)
+      → (reads after.state ≢ None → min (s + budget) (2 ^ 64 - 1) ≤ u)
+      → (holds_thawed (reads before.state) ≡ false → u + held_left (2 ^ 32) (batches side.history) after.state ≤ s + held_left (2 ^ 32) (batches side.history) before.state)
       → IfOk result (λ reply. s ≡ 0 → KeepsPace k (core.slice i budget) reply.items old new)
   slices_paced k budget s u (Err e) small step within reached less = tt
-  slices_paced k budget s u (Ok bytes) small step within reached less = λ none members d.
-      slice_paces members d (core_state old) k i budget bytes.items (core_state new) (left_now old) (left_now new) (step members)
-      (λ x held. unthawed before.state x (reads_was ∙ held)) (within i)
-      (λ held. by _ _ _ _ it_was it_is (reached (λ gone. held (reads_is ∙ gone))) none less)
+  slices_paced k budget s u (Ok bytes) small step within reached less = λ none d.
+      slice_paces one_member d (core_state old) k i budget bytes.items (core_state new) (left_now old) (left_now new) step (within i)
+      (λ counted held. by _ _ _ _ it_was it_is (reached (λ gone. held (reads_is ∙ gone))) none (less (counted_began (reads before.state) (ap is_counted reads_was ∙ counted))))
       others_within
     where
       by : (a b c d : ℕ) → a ≡ b → c ≡ d → min (s + budget) (2 ^ 64 - 1) ≤ u → s ≡ 0 → u + d ≤ s + a → budget + c ≤ b
       by a b c d first second third fourth fifth = omega (arith, small, first, second, third, fourth, fifth)
-
-  -- a session whose steps are counted has no more left
-  pub slices_within : (s u : ℕ) → s ≤ u → u + session_left (2 ^ 32) (batches side.history) after.state ≤ s + session_left (2 ^ 32) (batches side.history) before.state → AreWithin (left_now new) (left_now old)
-  slices_within s u later less = set_within (by _ _ less)
-    where
-      by : (a b : ℕ) → u + a ≤ s + b → a ≤ b
-      by a b few = omega (arith, later, few)
 
   pub begins_left : (result : Result (Vec ℕ) Memory) → OnErr result (after ≡ before) → OnErr result (AreWithin (left_now new) (left_now old))
   begins_left (Ok bytes) same = tt
@@ -180,7 +149,7 @@ module _ {D C : Type 0} (side : SideValue D C) (hs : List Held) (i : ℕ) (befor
       by : (b : Bool) → (j == i) ≡ b → left_at (2 ^ 32) bs (set hs i after) j ≡ left_at (2 ^ 32) bs hs j
       by false other = others_set bs j other
       by true one = subst (λ (m : ℕ). left_at (2 ^ 32) bs (set hs i after) m ≡ left_at (2 ^ 32) bs hs m) (sym (eqb-true j i one))
-          (mapped_set (left_of_it bs) hs i after 0 lt ∙ (ap (λ (state : SessionState). session_left (2 ^ 32) bs state) same ∙ mapped_at (left_of_it bs) hs i before 0 lt is))
+          (mapped_set (left_of_it bs) hs i after 0 lt ∙ (ap (λ (state : HeldReading). held_left (2 ^ 32) bs state) same ∙ mapped_at (left_of_it bs) hs i before 0 lt is))
 
   pub writes_within : (next : SideValue D C) (may : ℕ → Bool) (faults : D → ℕ) (k bytes : ℕ) (w : WriteRequest) (reply : List ℕ) → length side.shown ≤ length (batches side.history) → IsRunning side hs
       → WritesFor may faults side k bytes w next before after reply → AreWithin (left_now (record { side = next; held = set hs i after })) (left_now old)

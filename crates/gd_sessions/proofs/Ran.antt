@@ -1,5 +1,5 @@
 -- What an event of a session does to a core.
-use Rattle.std.proofs.Common.{◌≡◌, ◌≢◌, ℕ, ◌+◌, ◌-◌, ◌^◌, ◌<◌, ◌≤◌, min, List, [], length, Bool, true, None, Result, Ok, Err, IfOk, OnErr, ◌⊎◌, inl, inr, ⊎_elim, refl, sym, ap, subst, ◌∙◌, arith}
+use Rattle.std.proofs.Common.{◌≡◌, ◌≢◌, ℕ, ◌+◌, ◌-◌, ◌^◌, ◌<◌, ◌≤◌, min, List, [], length, Bool, true, false, None, Result, Ok, Err, IfOk, OnErr, ◌⊎◌, inl, inr, ⊎_elim, refl, sym, ap, subst, ◌∙◌, arith}
 use Rattle.std.specs.Prelude.{get_or, set}
 use Rattle.std.specs.Global.{Vec}
 use Rattle.gd_base.specs.Counts.{Rose}
@@ -8,25 +8,24 @@ use Rattle.gd_runs.specs.Explained.{memory_line}
 use Rattle.std.proofs.lemmas.List.{length-set}
 use Rattle.gd_prim.specs.declared.Batch.{Batch}
 use Rattle.gd_defs.specs.Write.{WriteRequest}
-use Rattle.gd_runs.specs.Owed.{MembersOf}
 use Rattle.gd_runs.specs.Legal.{batches}
 use Rattle.gd_runs.specs.Request.{ReadSet}
-use Rattle.gd_runs.specs.Core.{Session, State, with_session, entered, BeginStep, SliceStep, LearnStep, WriteStep}
+use Rattle.gd_runs.specs.Core.{Session, State, with_session, entered, BeginStep, SliceStep, LearnStep, FreezeStep, ThawStep, WriteStep}
 use Rattle.gd_runs.specs.Side.{Kept, kept_stored, kept_late, kept_refused, kept_doubt, kept_unsettled, kept_memory, WriteKeeps, lacks_memory, is_fault}
 use Rattle.gd_runs.proofs.Rounds.{length_batches}
+use Rattle.gd_held.specs.PassedOn.{one_member, IsPastIds}
 use Rattle.gd_core_laws.specs.Round.{kept_reply}
 use Rattle.gd_replay_laws.specs.Faults.{IsCounted}
 use Rattle.gd_replay_laws.proofs.Faults.{quiet_counted}
 use Rattle.gd_core_laws.proofs.Laws.{kept_writes_are_steps}
 use Rattle.gd_writer.specs.Side.{SideValue, state_of}
 use Rattle.gd_sessions.specs.declared.held.Held.{Held}
-use Rattle.gd_read.specs.Left.{IsPastIds}
-use Rattle.gd_read.specs.Session.{reads, session_left}
-use Rattle.gd_sessions.specs.Sessions.{new_session, in_session, BeginsAs, SlicesAs, LearnsAs}
+use Rattle.gd_held.specs.Held.{reads, held_left}
+use Rattle.gd_sessions.specs.Sessions.{new_session, in_session, holds_thawed, BeginsAs, SlicesAs, LearnsAs, FreezesAs, ThawsAs}
 use Rattle.gd_sessions.specs.Held.{session_view, sessions_of, IsGoingOn}
 use Rattle.gd_sessions.specs.Writes.{IsToldKept, WritesFor}
 use Rattle.gd_sessions.specs.Running.{IsRunning, IsSliced}
-use Rattle.gd_sessions.proofs.Steps.{session_stays, begin_step, slice_step, learn_step}
+use Rattle.gd_sessions.proofs.Steps.{session_stays, begin_step, slice_step, learn_step, freeze_step, thaw_step}
 use Rattle.gd_sessions.proofs.Growing.{write_grows}
 use Rattle.gd_sessions.proofs.Table.{state_set, mapped_at, mapped_set, all_at, all_set, all_weaker, going_more}
 use Rattle.gd_sessions.proofs.Told.{told_state}
@@ -62,10 +61,10 @@ module _ {D C : Type 0} (side : SideValue D C) (hs : List Held) (i : ℕ) (befor
   pub run_begins : (k : ℕ) (r : ReadSet) (line : List ℕ) → BeginsAs (batches side.history) (length side.shown) k r line (session_view after) → BeginStep old_state k i r line new_state
   run_begins k r line begins = begin_step old_state new_state k i r line (session_view after) begins (state_set side hs i after lt)
 
-  pub run_slices : (members : MembersOf) (k : ℕ) (line : List ℕ) → SlicesAs (batches side.history) (length side.shown) k (session_view before) line (session_view after) → SliceStep members old_state k i line new_state
-  run_slices members k line slices =
+  pub run_slices : (k : ℕ) (line : List ℕ) → SlicesAs (batches side.history) (length side.shown) k (session_view before) line (session_view after) → SliceStep one_member old_state k i line new_state
+  run_slices k line slices =
       let at_i = subst (λ (x : Session). SlicesAs (batches side.history) (length side.shown) k x line (session_view after)) (mapped_at session_view hs i before new_session lt is) slices in
-      slice_step members old_state new_state k i line (session_view after) at_i (state_set side hs i after lt)
+      slice_step one_member old_state new_state k i line (session_view after) at_i (state_set side hs i after lt)
 
   pub run_learns : (k m : ℕ) (line : List ℕ) → LearnsAs (length side.shown) k m (session_view before) line (session_view after) → LearnStep old_state k i m line new_state
   run_learns k m line learns =
@@ -80,9 +79,9 @@ module _ {D C : Type 0} (side : SideValue D C) (hs : List Held) (i : ℕ) (befor
   begins_ok bs shown k r (Err e) stored count told = tt
 
   pub slices_ok : (bs : List Batch) (shown k : ℕ) (result : Result (Vec ℕ) Memory) → bs ≡ batches side.history → shown ≡ length side.shown
-      → IfOk result (λ reply. SlicesAs bs shown k (session_view before) reply.items (session_view after)) → IfOk result (λ reply. (members : MembersOf) → SliceStep members old_state k i reply.items new_state)
-  slices_ok bs shown k (Ok bytes) stored count told = λ members.
-      run_slices members k bytes.items (subst (λ (n : ℕ). SlicesAs (batches side.history) n k (session_view before) bytes.items (session_view after)) count
+      → IfOk result (λ reply. SlicesAs bs shown k (session_view before) reply.items (session_view after)) → IfOk result (λ reply. SliceStep one_member old_state k i reply.items new_state)
+  slices_ok bs shown k (Ok bytes) stored count told =
+      run_slices k bytes.items (subst (λ (n : ℕ). SlicesAs (batches side.history) n k (session_view before) bytes.items (session_view after)) count
       (subst (λ (b : List Batch). SlicesAs b shown k (session_view before) bytes.items (session_view after)) stored told))
   slices_ok bs shown k (Err e) stored count told = tt
 
@@ -96,14 +95,35 @@ module _ {D C : Type 0} (side : SideValue D C) (hs : List Held) (i : ℕ) (befor
   learns_ok shown k m (Ok bytes) count told = run_learns k m bytes.items (subst (λ (n : ℕ). LearnsAs n k m (session_view before) bytes.items (session_view after)) count told)
   learns_ok shown k m (Err e) count told = tt
 
+  -- freezing and thawing
+  pub run_freezes : (k : ℕ) (line : List ℕ) → FreezesAs (batches side.history) k (reads before.state) line → FreezeStep one_member old_state k i line old_state
+  run_freezes k line freezes =
+      freeze_step old_state k i line (subst (λ (x : Session). FreezesAs (batches side.history) k x.reading line) (mapped_at session_view hs i before new_session lt is) freezes)
+
+  pub freezes_ok : (bs : List Batch) (k : ℕ) (result : Result (Vec ℕ) Memory) → bs ≡ batches side.history → IfOk result (λ reply. FreezesAs bs k (reads before.state) reply.items) → IfOk result (λ reply. FreezeStep one_member old_state k i reply.items old_state)
+  freezes_ok bs k (Ok bytes) stored told = run_freezes k bytes.items (subst (λ (b : List Batch). FreezesAs b k (reads before.state) bytes.items) stored told)
+  freezes_ok bs k (Err e) stored told = tt
+
+  pub run_thaws : (k : ℕ) (r : ReadSet) (text line : List ℕ) → ThawsAs (batches side.history) (length side.shown) k r text (session_view before) line (session_view after) → ThawStep one_member old_state k i r text line new_state
+  run_thaws k r text line thaws =
+      let at_i = subst (λ (x : Session). ThawsAs (batches side.history) (length side.shown) k r text x line (session_view after)) (mapped_at session_view hs i before new_session lt is) thaws in
+      thaw_step old_state new_state k i r text line (session_view after) at_i (state_set side hs i after lt)
+
+  pub thaws_ok : (bs : List Batch) (shown k : ℕ) (r : ReadSet) (text : List ℕ) (result : Result (Vec ℕ) Memory) → bs ≡ batches side.history → shown ≡ length side.shown
+      → IfOk result (λ reply. ThawsAs bs shown k r text (session_view before) reply.items (session_view after)) → IfOk result (λ reply. ThawStep one_member old_state k i r text reply.items new_state)
+  thaws_ok bs shown k r text (Ok bytes) stored count told =
+      run_thaws k r text bytes.items (subst (λ (n : ℕ). ThawsAs (batches side.history) n k r text (session_view before) bytes.items (session_view after)) count
+      (subst (λ (b : List Batch). ThawsAs b shown k r text (session_view before) bytes.items (session_view after)) stored told))
+  thaws_ok bs shown k r text (Err e) stored count told = tt
+
   -- a slice: what it took, and what is left
   pub run_sliced : (budget s u : ℕ) → (reads after.state ≢ None → min (s + budget) (2 ^ 64 - 1) ≤ u) → u ≤ s + budget + 1024
-      → ((n : ℕ) → IsPastIds n → u + session_left n (batches side.history) after.state ≤ s + session_left n (batches side.history) before.state)
+      → (holds_thawed (reads before.state) ≡ false → (n : ℕ) → IsPastIds n → u + held_left n (batches side.history) after.state ≤ s + held_left n (batches side.history) before.state)
       → IsSliced i budget (record { side = side; held = hs }) (record { side = side; held = set hs i after }) s u
   run_sliced budget s u reached work less = record {
     reached = λ holds. reached (subst (λ (x : Session). x.reading ≢ None) (mapped_set session_view hs i after new_session lt) holds);
     work = work;
-    less = λ n most. by _ _ _ _ (mapped_at (λ (h : Held). session_left n (batches side.history) h.state) hs i before 0 lt is) (mapped_set (λ (h : Held). session_left n (batches side.history) h.state) hs i after 0 lt) (less n most);
+    less = λ began n most. by _ _ _ _ (mapped_at (λ (h : Held). held_left n (batches side.history) h.state) hs i before 0 lt is) (mapped_set (λ (h : Held). held_left n (batches side.history) h.state) hs i after 0 lt) (less (ap holds_thawed (ap (λ (x : Session). x.reading) (mapped_at session_view hs i before new_session lt is)) ∙ began) n most);
   }
     where
       by : (a b c d : ℕ) → a ≡ b → d ≡ c → u + c ≤ s + a → u + d ≤ s + b

@@ -6,10 +6,10 @@ use Rattle.std.proofs.lemmas.Bool.{eqb-true}
 use Rattle.std.proofs.lemmas.List.{map-set, get_or-set_same, get_or-set_other, length-map}
 use Rattle.gd_prim.specs.declared.Batch.{Batch}
 use Rattle.gd_runs.specs.Core.{Session, with_session}
-use Rattle.gd_read.proofs.States.{holds_more}
 use Rattle.gd_sessions.specs.Sessions.{new_session}
 use Rattle.gd_sessions.specs.declared.held.Held.{Held}
 use Rattle.gd_sessions.specs.Held.{session_view, sessions_of, IsGoingOn}
+use Rattle.gd_sessions.proofs.Holding.{holds_more}
 use Rattle.gd_writer.specs.Side.{SideValue, state_of}
 
 -- ---- what is said of one session

@@ -2,7 +2,7 @@
 use Rattle.std.specs.Prelude.{ℕ, List, map, get_or}
 use Rattle.gd_prim.specs.declared.Batch.{Batch}
 use Rattle.gd_runs.specs.Core.{Session}
-use Rattle.gd_read.specs.Session.{reads, HoldsGoing, session_left}
+use Rattle.gd_held.specs.Held.{reads, HoldsGoing, held_left}
 use Rattle.gd_sessions.specs.Sessions.{new_session}
 use Rattle.gd_sessions.specs.declared.held.Held.{Held}
 
@@ -18,6 +18,6 @@ sessions_of hs i = get_or (map session_view hs) i new_session
 abbrev pub IsGoingOn : List Batch → ℕ → Held → Type 0
 IsGoingOn batches shown h = HoldsGoing batches shown h.state
 
--- how much is left of the reading of the session of a number, at most; `n` is a number that no id reaches
+-- how much is left of the reading of the session of a number, at most, where that began; of one that was thawed no steps are counted. `n` is a number that no id reaches
 abbrev pub left_at : ℕ → List Batch → List Held → ℕ → ℕ
-left_at n batches hs i = get_or (map (λ h. session_left n batches h.state) hs) i 0
+left_at n batches hs i = get_or (map (λ h. held_left n batches h.state) hs) i 0

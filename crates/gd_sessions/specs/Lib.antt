@@ -3,3 +3,4 @@ pub mod Held
 pub mod Writes
 pub mod Running
 pub mod Opened
+pub mod PassedOn

@@ -1,19 +1,19 @@
 -- What contracts see of a core that is open, and what it keeps.
-use Rattle.std.specs.Prelude.{◌≡◌, ◌≢◌, ℕ, ◌+◌, ◌-◌, ◌^◌, ◌<◌, ◌≤◌, min, List, [], length, Option, None, Result, MatchResult}
+use Rattle.std.specs.Prelude.{◌≡◌, ◌≢◌, ℕ, ◌+◌, ◌-◌, ◌^◌, ◌<◌, ◌≤◌, min, List, [], length, false, Option, None, Result, MatchResult}
 use Rattle.std.specs.List.{AllByRecursion}
 use Rattle.gd_base.specs.declared.memory.Memory.{Memory}
 use Rattle.gd_runs.specs.Legal.{Entry, History, batches}
-use Rattle.gd_runs.specs.Owed.{MembersOf}
 use Rattle.gd_runs.specs.Core.{State, Event, begin, slice, write, learn, freeze, thaw, reopen}
 use Rattle.gd_runs.specs.Pace.{DueOf, Left}
+use Rattle.gd_held.specs.PassedOn.{one_member, IsPastIds}
 use Rattle.gd_replay_laws.specs.Paced.{Paces}
 use Rattle.gd_bytes.specs.File.{MayStandFor}
 use Rattle.gd_runs.specs.Side.{IsFresh, doubt_groups}
 use Rattle.gd_reply.specs.Replies.{reply_text}
 use Rattle.gd_reply.specs.declared.reply.Reply.{Reply}
-use Rattle.gd_read.specs.Left.{IsPastIds}
 use Rattle.gd_writer.specs.Side.{SideValue, state_of}
 use Rattle.gd_sessions.specs.declared.held.Held.{Held}
+use Rattle.gd_sessions.specs.Sessions.{holds_thawed}
 use Rattle.gd_sessions.specs.Held.{sessions_of, IsGoingOn, left_at}
 
 -- the write side, and the sessions in the order of their numbers
@@ -56,11 +56,11 @@ GoesBy _ = Unit {0}
 
 -- ---- how far a slice goes
 
--- a session has gone on with its reading for a budget: where it holds one still, the steps reach the budget, or their count stands at its end; they are at most 1,024 more than the budget; and what is left of the reading fell by at least the steps. `n` is a number that no id reaches
+-- a session has gone on with its reading for a budget: where it holds one still, the steps reach the budget, or their count stands at its end; they are at most 1,024 more than the budget; and what is left of the reading fell by at least the steps, unless it was thawed, of which no steps are counted. `n` is a number that no id reaches
 pub record IsSliced {D C : Type 0} (i budget : ℕ) (old new : RunningValue D C) (steps steps_now : ℕ) : Type 0 where
   pub reached : ((core_state new).sessions i).reading ≢ None → min (steps + budget) (2 ^ 64 - 1) ≤ steps_now
   pub work : steps_now ≤ steps + budget + 1024
-  pub less : (n : ℕ) → IsPastIds n → steps_now + left_at n (batches new.side.history) new.held i ≤ steps + left_at n (batches old.side.history) old.held i
+  pub less : holds_thawed ((core_state old).sessions i).reading ≡ false → (n : ℕ) → IsPastIds n → steps_now + left_at n (batches new.side.history) new.held i ≤ steps + left_at n (batches old.side.history) old.held i
 
 -- so it is with an event that is a slice
 abbrev pub SlicesBy : {D C : Type 0} → Event → RunningValue D C → RunningValue D C → ℕ → ℕ → Type 0
@@ -75,4 +75,4 @@ left_now r i = left_at (2 ^ 32) (batches r.side.history) r.held i
 
 -- an event of line k that printed this reply keeps the pace of what the readings have left
 abbrev pub KeepsPace : {D C : Type 0} → ℕ → Event → List ℕ → (old new : RunningValue D C) → Type 0
-KeepsPace k e reply old new = (members : MembersOf) (d : DueOf) → Paces members d (core_state old) k e reply (core_state new) (left_now old) (left_now new)
+KeepsPace k e reply old new = (d : DueOf) → Paces one_member d (core_state old) k e reply (core_state new) (left_now old) (left_now new)

@@ -1,21 +1,22 @@
 //! A session of the core.
 ghost use Rattle.std.specs.Prelude.{◌≡◌, ◌≢◌, ◌+◌, ◌-◌, ◌<◌, ◌≤◌, ◌^◌, ◌⊎◌, ℕ, length, max, min};
-ghost use Rattle.std.specs.Prelude.{None, IfOk, IfSome, OnErr};
-ghost use Rattle.gd_mql.specs.Requests.{read_set_view};
+ghost use Rattle.std.specs.Prelude.{None, false, IfOk, IfSome, OnErr};
+ghost use Rattle.gd_mql.specs.Requests.{read_view, read_set_view};
 ghost use Rattle.gd_runs.specs.Core as core;
+ghost use Rattle.gd_runs.specs.Request.{one_query};
 ghost use Rattle.gd_runs.specs.Pace.{DueOf, first_number};
-ghost use Rattle.gd_replay_laws.specs.Built.{IsUnfrozen};
-ghost use Rattle.gd_read.specs.Left.{IsPastIds};
-ghost use Rattle.gd_read.specs.Session.{reads, session_left};
-ghost use Rattle.gd_sessions.specs.Sessions.{in_session, BeginsAs, SlicesAs, LearnsAs};
+ghost use Rattle.gd_held.specs.PassedOn.{IsPastIds};
+ghost use Rattle.gd_held.specs.Held.{nothing, reads, held_left};
+ghost use Rattle.gd_sessions.specs.Sessions.{in_session, holds_thawed, BeginsAs, SlicesAs, LearnsAs};
+ghost use Rattle.gd_sessions.specs.Sessions.{FreezesAs, ThawsAs};
 ghost use Rattle.gd_sessions.specs.Held.{session_view, IsGoingOn};
 
-use crate::lines::{many_queries_line, no_reading_line, said, unbuilt_line};
+use crate::lines::{frozen_line, many_queries_line, no_reading_line, said};
 use gd_base::memory::Memory;
 use gd_base::steps::Steps;
-use gd_mql::request::ReadSet;
-use gd_read::reading::Progress;
-use gd_read::session::SessionState;
+use gd_held::Progress;
+use gd_held::held::HeldReading;
+use gd_mql::request::{ReadRequest, ReadSet};
 use gd_reply::lines::err_line;
 use gd_reply::refusal::Refusal;
 use gd_store::store::Store;
@@ -25,11 +26,11 @@ use std::alloc::Global;
 #[derive(Drop)]
 pub(crate) struct Held {
     pub(crate) seen: u32,
-    pub(crate) state: SessionState,
+    pub(crate) state: HeldReading,
 }
 
 /// The reply line that says with this word at which dateline a reading is that is held.
-fn said_of(alloc: Global, state: &SessionState, line: u64, word: &str) -> Result<Vec<u8>, Memory>
+fn said_of(alloc: Global, state: &HeldReading, line: u64, word: &str) -> Result<Vec<u8>, Memory>
     requires held { reads state.now ≢ None }
     ensures { IfOk result (λ bytes. IfSome (reads state.now)
         (λ r. bytes.items ≡ core.said r.dateline line word.now)) }
@@ -43,16 +44,16 @@ fn said_of(alloc: Global, state: &SessionState, line: u64, word: &str) -> Result
 impl Held {
     /// A session that has seen nothing, and holds nothing.
     pub(crate) fn new() -> Held
-        ensures { result ≡ record { seen = 0; state = record { reading = None } } }
+        ensures { result ≡ record { seen = 0; state = nothing } }
     {
         Held {
             seen: 0,
-            state: SessionState::none(),
+            state: HeldReading::none(),
         }
     }
 
     /// The session has entered where so much is shown, and holds this.
-    fn enter(&mut self, shown: u32, state: SessionState)
+    fn enter(&mut self, shown: u32, state: HeldReading)
         ensures { self.new ≡ record { seen = shown; state = state } }
     {
         self.seen = shown;
@@ -80,10 +81,10 @@ impl Held {
 
         // No more is left of a reading that has begun than its first number.
         ensures first { IfOk result (λ _. (n : ℕ) (due : DueOf) → IfSome (reads self.new.state)
-            (λ r. session_left n store.now self.new.state ≤ first_number due store.now r)) }
+            (λ r. held_left n store.now self.new.state ≤ first_number due store.now r)) }
         ensures later { steps.old ≤ steps.new }
     {
-        match SessionState::begin(alloc, store, shown, request, steps) {
+        match HeldReading::begin(alloc, store, shown, request, steps) {
             Ok(state) => {
                 let reply = said_of(alloc, &state, line, "begun")?;
                 self.enter(shown, state);
@@ -91,7 +92,7 @@ impl Held {
             }
             Err(fault) => {
                 let reply = fault.line(alloc, shown, line)?;
-                self.enter(shown, SessionState::none());
+                self.enter(shown, HeldReading::none());
                 Ok(reply)
             }
         }
@@ -123,8 +124,14 @@ impl Held {
         // A reading is held still only where the budget was reached.
         ensures reached { reads self.new.state ≢ None → min (steps.old + budget) (2 ^ 64 - 1)
             ≤ steps.new }
-        ensures less { (n : ℕ) → IsPastIds n → steps.new + session_left n store.now self.new.state
-            ≤ steps.old + session_left n store.now self.old.state }
+
+        // What is left of a reading that was not thawed falls by at least the steps, and of none is
+        // left more than before.
+        ensures less { holds_thawed (reads self.old.state) ≡ false → (n : ℕ) → IsPastIds n
+            → steps.new + held_left n store.now self.new.state
+            ≤ steps.old + held_left n store.now self.old.state }
+        ensures fewer { (n : ℕ) → IsPastIds n
+            → held_left n store.now self.new.state ≤ held_left n store.now self.old.state }
         ensures work { steps.new ≤ steps.old + budget + 1024 }
         ensures later { steps.old ≤ steps.new }
     {
@@ -148,19 +155,91 @@ impl Held {
         }
     }
 
-    /// Tells why no text is given of the reading that is held: there is none, it is of several
-    /// queries, or else giving one is not built. `Memory`: there was none.
-    pub(crate) fn freeze(&self, alloc: Global, line: u64) -> Result<Vec<u8>, Memory>
-        requires { line < 2 ^ 63 }
-        ensures { IfOk result (λ reply. IsUnfrozen (reads self.now.state) line reply.items) }
+    /// Tells a text of the reading that is held, which stays as it is, or that there is none, or
+    /// that it is of several queries. `Memory`: there was none.
+    pub(crate) fn freeze(&self, alloc: Global, store: &Store, line: u64) -> Result<Vec<u8>, Memory>
+        requires line { line < 2 ^ 63 }
+        requires held { IsGoingOn store.now (length store.now) self.now }
+        ensures { IfOk result (λ reply. FreezesAs store.now line (reads self.now.state)
+            reply.items) }
     {
-        if self.state.dateline().is_none() {
+        let Some(dateline) = self.state.dateline() else {
             return no_reading_line(alloc, line);
+        };
+        match self.state.freeze(alloc, store)? {
+            Some(text) => frozen_line(alloc, dateline, line, text.as_slice()),
+            None => many_queries_line(alloc, line),
         }
-        if self.state.is_several() {
-            return many_queries_line(alloc, line);
+    }
+
+    /// Takes up a reading of one query again from a text, and tells so, or tells why it is not
+    /// taken up: what the session held stays then. Several queries are not thawed. `Memory`: there
+    /// was none, and the session stays.
+    pub(crate) fn thaw<L>(
+        &mut self,
+        alloc: Global,
+        store: &Store,
+        shown: u32,
+        line: u64,
+        request: ReadSet,
+        text: &[u8],
+        steps: &mut Steps<L>,
+    ) -> Result<Vec<u8>, Memory>
+        requires line { line < 2 ^ 63 }
+        requires shown { shown ≤ length store.now }
+        ensures thaws { IfOk result (λ reply. ThawsAs store.now shown line (read_set_view request)
+            text.now (session_view self.old) reply.items (session_view self.new)) }
+        ensures err { OnErr result (self.new ≡ self.old) }
+        ensures held { IsGoingOn store.now shown self.old → IsGoingOn store.now shown self.new }
+
+        // Of a reading that was thawed no steps are counted.
+        ensures left { (n : ℕ)
+            → held_left n store.now self.new.state ≤ held_left n store.now self.old.state }
+        ensures later { steps.old ≤ steps.new }
+    {
+        match request {
+            ReadSet::One(request) => {
+                self.thaw_one(alloc, store, shown, line, request, text, steps)
+            }
+            ReadSet::Several(_) => many_queries_line(alloc, line),
         }
-        unbuilt_line(alloc, line)
+    }
+
+    /// Takes up a reading of one query again from a text, and tells so, or tells why it is not
+    /// taken up.
+    fn thaw_one<L>(
+        &mut self,
+        alloc: Global,
+        store: &Store,
+        shown: u32,
+        line: u64,
+        request: ReadRequest,
+        text: &[u8],
+        steps: &mut Steps<L>,
+    ) -> Result<Vec<u8>, Memory>
+        requires line { line < 2 ^ 63 }
+        requires shown { shown ≤ length store.now }
+        ensures thaws { IfOk result (λ reply. ThawsAs store.now shown line
+            (one_query (read_view request)) text.now (session_view self.old) reply.items
+            (session_view self.new)) }
+        ensures err { OnErr result (self.new ≡ self.old) }
+        ensures held { IsGoingOn store.now shown self.old → IsGoingOn store.now shown self.new }
+        ensures left { (n : ℕ)
+            → held_left n store.now self.new.state ≤ held_left n store.now self.old.state }
+        ensures later { steps.old ≤ steps.new }
+    {
+        match HeldReading::thaw(alloc, store, shown, request, text, steps) {
+            Ok(state) => {
+                let reply = said_of(alloc, &state, line, "thawed")?;
+                self.enter(shown, state);
+                Ok(reply)
+            }
+            Err(fault) => {
+                let reply = fault.line(alloc, shown, line)?;
+                self.seen = shown;
+                Ok(reply)
+            }
+        }
     }
 
     /// Has seen at least this dateline, and at most what is shown.

@@ -7,10 +7,9 @@ ghost use Rattle.gd_base.specs.Counts.{Rose};
 ghost use Rattle.gd_bytes.specs.File.{meaning};
 ghost use Rattle.gd_log.specs.Opening.{Refuses};
 ghost use Rattle.gd_runs.specs.Legal.{batches};
-ghost use Rattle.gd_runs.specs.Owed.{MembersOf};
 ghost use Rattle.gd_events.specs.Events.{event_view};
 ghost use Rattle.gd_runs.specs.Core as core;
-ghost use Rattle.gd_runs.specs.Core.{BeginStep, SliceStep, LearnStep, WriteStep, entered};
+ghost use Rattle.gd_runs.specs.Core.{BeginStep, SliceStep, LearnStep, ThawStep, WriteStep, entered};
 ghost use Rattle.gd_runs.specs.Side.{IsFresh};
 ghost use Rattle.gd_mql.specs.Requests.{read_set_view, write_view};
 ghost use Rattle.gd_reply.specs.Replies.{reply_text};
@@ -18,7 +17,8 @@ ghost use Rattle.gd_writer.specs.Parts.{Tells};
 ghost use Rattle.gd_writer.specs.Side.{KeepsAll, GoesOn, Begins};
 ghost use Rattle.gd_writer.specs.Opened.{Opens};
 ghost use Rattle.gd_sessions.specs.Opened.{IsNew};
-ghost use Rattle.gd_replay_laws.specs.Built.{Takes, ReopenBuilt};
+ghost use Rattle.gd_held.specs.PassedOn.{one_member};
+ghost use Rattle.gd_replay_laws.specs.Steps.{Takes, ReopenOver};
 ghost use Rattle.gd_replay_laws.specs.Faults.{IsCounted};
 ghost use Rattle.gd_replay_laws.specs.Paced.{AreWithin};
 ghost use Rattle.gd_sessions.specs.Held.{session_view, sessions_of};
@@ -26,7 +26,7 @@ ghost use Rattle.gd_sessions.specs.Running.{core_state, StandsForState, Answers,
 ghost use Rattle.gd_sessions.specs.Running.{IsSliced, SlicesBy, left_now, KeepsPace};
 
 use crate::held::Held;
-use crate::lines::{said, unthawed_line};
+use crate::lines::said;
 use crate::writing;
 use gd_base::memory::Memory;
 use gd_base::steps::Steps;
@@ -181,8 +181,8 @@ impl<D: Disk, C: Clock> Running<D, C> {
         line: u64,
     ) -> Result<(Running<D, C>, Result<Reply, Memory>), (JournalFault, D, C)>
         requires { line < 2 ^ 63 }
-        ensures takes { IfOk result (λ both. (members : MembersOf) (may : ℕ → Bool) (bytes : ℕ)
-            → Answers (λ reply. Takes (is_some (D.content self.side.log.disk)) members may
+        ensures takes { IfOk result (λ both. (may : ℕ → Bool) (bytes : ℕ)
+            → Answers (λ reply. Takes (is_some (D.content self.side.log.disk)) one_member may
             (core_state self) line bytes core.reopen reply (core_state both.0)) both.1) }
         ensures clock { IfOk result (λ both. C.may both.0.side.clock ≡ C.may self.side.clock) }
 
@@ -221,7 +221,7 @@ impl<D: Disk, C: Clock> Running<D, C> {
         requires many { length held.items ≡ 64 }
         requires new { AllByRecursion IsNew held.items }
         ensures step { IfOk result (λ both. Answers
-            (λ reply. ReopenBuilt (is_some (D.content self.side.log.disk)) (core_state self) line
+            (λ reply. ReopenOver (is_some (D.content self.side.log.disk)) (core_state self) line
             reply (core_state both.0)) both.1) }
         ensures clock { IfOk result (λ both. C.may both.0.side.clock ≡ C.may self.side.clock) }
         ensures anew { IfOk result (λ both. core_state both.0
@@ -300,8 +300,8 @@ impl<D: Disk, C: Clock> Running<D, C> {
         requires sid { sid < SESSIONS }
         requires budget { 0 < budget }
         requires few { budget ≤ 1_000_000 }
-        ensures step { IfOk result (λ reply. (members : MembersOf)
-            → SliceStep members (core_state self.old) line sid reply.items (core_state self.new)) }
+        ensures step { IfOk result (λ reply. SliceStep one_member (core_state self.old) line sid
+            reply.items (core_state self.new)) }
         ensures err { OnErr result ((core_state self.new ≡ core_state self.old)
             ⊎ (core_state self.new ≡ entered (core_state self.old) sid None)) }
         ensures side { self.new.side ≡ self.old.side }
@@ -335,6 +335,31 @@ impl<D: Disk, C: Clock> Running<D, C> {
         let shown = shown_of(&self.side);
         let held = &mut self.held[sid as usize];
         held.learn(alloc, shown, line, dateline)
+    }
+
+    /// A session takes up a reading again from a text. `Memory`: there was none, and nothing has
+    /// changed.
+    fn try_thaw<L>(
+        &mut self,
+        alloc: Global,
+        line: u64,
+        sid: u32,
+        request: ReadSet,
+        text: &[u8],
+        steps: &mut Steps<L>,
+    ) -> Result<Vec<u8>, Memory>
+        requires line { line < 2 ^ 63 }
+        requires sid { sid < SESSIONS }
+        ensures step { IfOk result (λ reply. ThawStep one_member (core_state self.old) line sid
+            (read_set_view request) text.now reply.items (core_state self.new)) }
+        ensures err { OnErr result (core_state self.new ≡ core_state self.old) }
+        ensures side { self.new.side ≡ self.old.side }
+        ensures left { AreWithin (left_now self.new) (left_now self.old) }
+        ensures later { steps.old ≤ steps.new }
+    {
+        let shown = shown_of(&self.side);
+        let held = &mut self.held[sid as usize];
+        held.thaw(alloc, self.side.store(), shown, line, request, text, steps)
     }
 
     /// A session writes; `bytes` is the length of the line. Publishing waits for readers.
@@ -376,8 +401,8 @@ impl<D: Disk, C: Clock> Running<D, C> {
     ) -> Reply
         requires line { line < 2 ^ 63 }
         requires sid { sid < SESSIONS }
-        ensures takes { (told : Bool) (members : MembersOf) (may : ℕ → Bool) (bytes : ℕ)
-            → Takes told members may (core_state self.old) line bytes
+        ensures takes { (told : Bool) (may : ℕ → Bool) (bytes : ℕ)
+            → Takes told one_member may (core_state self.old) line bytes
             (core.begin sid (read_set_view request)) (reply_text result) (core_state self.new) }
         ensures side { self.new.side ≡ self.old.side }
         ensures paced { KeepsPace line (core.begin sid (read_set_view request))
@@ -401,8 +426,8 @@ impl<D: Disk, C: Clock> Running<D, C> {
         requires sid { sid < SESSIONS }
         requires budget { 0 < budget }
         requires few { budget ≤ 1_000_000 }
-        ensures takes { (told : Bool) (members : MembersOf) (may : ℕ → Bool) (bytes : ℕ)
-            → Takes told members may (core_state self.old) line bytes (core.slice sid budget)
+        ensures takes { (told : Bool) (may : ℕ → Bool) (bytes : ℕ)
+            → Takes told one_member may (core_state self.old) line bytes (core.slice sid budget)
             (reply_text result) (core_state self.new) }
         ensures side { self.new.side ≡ self.old.side }
         ensures paced { steps.old ≡ 0 → KeepsPace line (core.slice sid budget)
@@ -418,8 +443,8 @@ impl<D: Disk, C: Clock> Running<D, C> {
     fn learn(&mut self, alloc: Global, line: u64, sid: u32, dateline: u32) -> Reply
         requires line { line < 2 ^ 63 }
         requires sid { sid < SESSIONS }
-        ensures takes { (told : Bool) (members : MembersOf) (may : ℕ → Bool) (bytes : ℕ)
-            → Takes told members may (core_state self.old) line bytes (core.learn sid dateline)
+        ensures takes { (told : Bool) (may : ℕ → Bool) (bytes : ℕ)
+            → Takes told one_member may (core_state self.old) line bytes (core.learn sid dateline)
             (reply_text result) (core_state self.new) }
         ensures side { self.new.side ≡ self.old.side }
         ensures left { AreWithin (left_now self.new) (left_now self.old) }
@@ -428,27 +453,42 @@ impl<D: Disk, C: Clock> Running<D, C> {
         Reply::made(line, reply)
     }
 
-    /// The refusal of a session that asks for the text of its reading.
+    /// A session is told a text of its reading, which stays as it is.
     fn freeze(&self, alloc: Global, line: u64, sid: u32) -> Reply
         requires line { line < 2 ^ 63 }
         requires sid { sid < SESSIONS }
-        ensures { (told : Bool) (members : MembersOf) (may : ℕ → Bool) (bytes : ℕ)
-            → Takes told members may (core_state self.now) line bytes (core.freeze sid)
+        ensures { (told : Bool) (may : ℕ → Bool) (bytes : ℕ)
+            → Takes told one_member may (core_state self.now) line bytes (core.freeze sid)
             (reply_text result) (core_state self.now) }
     {
-        let reply = self.held[sid as usize].freeze(alloc, line);
+        // It is said here that what is shown is a front of what is stored.
+        let _shown = shown_of(&self.side);
+        let reply = self.held[sid as usize].freeze(alloc, self.side.store(), line);
         Reply::made(line, reply)
     }
 
-    /// The refusal of a session that begins a read from the text of a reading.
-    fn thaw(&self, alloc: Global, line: u64, request: &ReadSet) -> Reply
+    /// A session takes up a reading again from a text.
+    fn thaw<L>(
+        &mut self,
+        alloc: Global,
+        line: u64,
+        sid: u32,
+        request: ReadSet,
+        text: &[u8],
+        steps: &mut Steps<L>,
+    ) -> Reply
         requires line { line < 2 ^ 63 }
-        ensures { (told : Bool) (members : MembersOf) (may : ℕ → Bool) (bytes sid : ℕ)
-            (text : List ℕ) → Takes told members may (core_state self.now) line bytes
-            (core.thaw sid (read_set_view request.now) text) (reply_text result)
-            (core_state self.now) }
+        requires sid { sid < SESSIONS }
+        ensures takes { (told : Bool) (may : ℕ → Bool) (bytes : ℕ)
+            → Takes told one_member may (core_state self.old) line bytes
+            (core.thaw sid (read_set_view request) text.now) (reply_text result)
+            (core_state self.new) }
+        ensures side { self.new.side ≡ self.old.side }
+        ensures left { AreWithin (left_now self.new) (left_now self.old) }
+        ensures later { steps.old ≤ steps.new }
     {
-        Reply::made(line, unthawed_line(alloc, line, request))
+        let reply = self.try_thaw(alloc, line, sid, request, text, steps);
+        Reply::made(line, reply)
     }
 
     /// Carries an event out and gives its reply; `line` and `bytes` are the number and the length
@@ -470,8 +510,8 @@ impl<D: Disk, C: Clock> Running<D, C> {
 
         // The reply and the new state are what the event comes to, and the reply tells a failure of
         // the disk only where the disk's count rose.
-        ensures takes { (told : Bool) (members : MembersOf)
-            → Takes told members (C.may self.old.side.clock) (core_state self.old) line bytes
+        ensures takes { (told : Bool)
+            → Takes told one_member (C.may self.old.side.clock) (core_state self.old) line bytes
             (event_view event) (reply_text result) (core_state self.new) }
         ensures counted { IsCounted line (reply_text result) (D.faults self.old.side.log.disk)
             (D.faults self.new.side.log.disk) }
@@ -481,13 +521,14 @@ impl<D: Disk, C: Clock> Running<D, C> {
         ensures goes { GoesOn D.content D.moment D.images D.images_since D.faults C.may
             self.old.side self.new.side }
 
-        // A slice leaves a reading only where its budget was reached, and what is left of the
-        // reading falls by its steps.
+        // A slice leaves a reading only where its budget was reached, and what is left of a reading
+        // that began falls by its steps.
         ensures sliced { SlicesBy (event_view event) self.old self.new steps.old steps.new }
 
         // Where its steps are counted from 0, the event keeps the pace: a reading that begins has
-        // no more left than its first number, a slice that is unfinished takes its budget off, and
-        // of each other reading no more is left than before.
+        // no more left than its first number, a slice of it that is unfinished takes its budget off,
+        // and of each other reading no more is left than before. Of one that was thawed nothing is
+        // counted.
         ensures paced { steps.old ≡ 0
             → KeepsPace line (event_view event) (reply_text result) self.old self.new }
         ensures later { steps.old ≤ steps.new }
@@ -500,7 +541,10 @@ impl<D: Disk, C: Clock> Running<D, C> {
             Event::Write { sid, request } => self.write(rt, alloc, line, bytes, sid, &request),
             Event::Learn { sid, dateline } => self.learn(alloc, line, sid, dateline),
             Event::Freeze { sid } => self.freeze(alloc, line, sid),
-            Event::Thaw { request, .. } => self.thaw(alloc, line, &request),
+            Event::Thaw { sid, request, text } => {
+                let text = text.as_str().as_bytes();
+                self.thaw(alloc, line, sid, request, text, steps)
+            }
             Event::Reopen => unreachable!(),
         }
     }

@@ -12,7 +12,7 @@ use Rattle.gd_defs.specs.Template.{tree_of}
 use Rattle.gd_match_laws.specs.Walks.{rows_listed}
 use Rattle.gd_trees.specs.View.{view, trees_view}
 use Rattle.gd_trees.specs.declared.tree.Trees.{Trees, out-Trees}
-use Rattle.gd_work_laws.specs.Reading.{printing_most}
+use Rattle.gd_left_laws.specs.PassedOn.{printing_most}
 use Rattle.gd_shape.specs.Shaping.{body_due, AreCounted, IsBodyOf}
 use Rattle.gd_shape.specs.declared.shape.PageBody.{PageBody}
 use Rattle.gd_shape.specs.declared.shape.PageBody.TheVariants as body

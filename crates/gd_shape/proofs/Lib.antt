@@ -1,4 +1,5 @@
 pub mod Alike
+pub mod Counted
 pub mod Data
 pub mod Due
 pub mod InTrees
@@ -13,3 +14,4 @@ pub mod Telling
 pub mod WalkUp
 pub mod Walked
 pub mod Written
+pub mod PassedOn

@@ -8,3 +8,4 @@ pub mod Shaping
 pub mod Spelt
 pub mod Telling
 pub mod WalkUp
+pub mod PassedOn

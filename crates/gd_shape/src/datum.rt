@@ -27,10 +27,10 @@ use gd_base::memory::Memory;
 use gd_datum::moment::moment_text;
 use gd_fault::guid::guid;
 use gd_frozen::frozen::Walk;
+use gd_plan::Property;
 use gd_plan::asked::Own;
 use gd_plan::constraint::answers_of;
 use gd_plan::expects::holds_values;
-use gd_resolve::property::Property;
 use json::Writer;
 use std::alloc::Global;
 

@@ -13,7 +13,7 @@ use gd_base::id::Id;
 use gd_base::memory::Memory;
 use gd_json::value::JsonText;
 use gd_prim::Primitive;
-use gd_store::view::View;
+use gd_trees::View;
 use std::alloc::{AllocError, AllocFailed};
 use std::marker::Model;
 

@@ -20,11 +20,8 @@ use Rattle.gd_runs.specs.Thawed.{window, answering, built_trees, built_weight, p
 use Rattle.gd_order_laws.specs.Window.{In}
 use Rattle.gd_order_laws.proofs.Rows.{In-map}
 use Rattle.gd_order_laws.proofs.Sorted.{Each-from_members, In-filter}
-use Rattle.gd_page_laws.proofs.TreeRows.{place_of-tree}
-use Rattle.gd_scan_laws.specs.Ordered.{start, scanned}
-use Rattle.gd_scan_laws.proofs.Replies.{none_any}
-use Rattle.gd_scan_laws.proofs.Settled.{In-take}
-use Rattle.gd_scan_laws.proofs.Start.{any_map, owed_first}
+use Rattle.gd_match_laws.proofs.PassedOn.{place_of-tree, none_any, In-take, any_map, owed_first}
+use Rattle.gd_match_laws.specs.PassedOn.{start, scanned}
 use Rattle.gd_match_laws.specs.Moves.{order_from, Runs}
 use Rattle.gd_match_laws.specs.Laws.{AtEnd}
 use Rattle.gd_match_laws.specs.Rows.{rows_order}

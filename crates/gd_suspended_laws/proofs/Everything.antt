@@ -15,10 +15,8 @@ use Rattle.gd_order_laws.specs.Window.{In, Apart}
 use Rattle.gd_order_laws.proofs.Places.{places_rise}
 use Rattle.gd_order_laws.proofs.Rows.{Apart-rising}
 use Rattle.gd_order_laws.proofs.Sorted.{Apart-filter, In-filter, In-filtered}
-use Rattle.gd_scan_laws.specs.Ordered.{scanned}
-use Rattle.gd_scan_laws.specs.Planned.{Planned}
-use Rattle.gd_scan_laws.proofs.Laws.{planned}
-use Rattle.gd_scan_laws.proofs.Objects.{both_true, true_both, object_is, is_object_in, live_there, there_place}
+use Rattle.gd_match_laws.specs.PassedOn.{scanned, Planned}
+use Rattle.gd_match_laws.proofs.PassedOn.{planned, both_true, true_both, object_is, is_object_in, live_there, there_place}
 use Rattle.gd_suspended_laws.specs.Laws.{EverythingIs}
 
 pub themselves : (ps : List ℕ) → map (λ (c : ℕ × ℕ). c.1) (map (λ (place : ℕ). (place, place)) ps) ≡ ps

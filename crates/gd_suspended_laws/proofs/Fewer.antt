@@ -11,11 +11,8 @@ use Rattle.gd_defs.specs.Plan.{template_of}
 use Rattle.gd_runs.specs.Scanned.{scan_order}
 use Rattle.gd_order_laws.specs.Window.{In}
 use Rattle.gd_order_laws.proofs.Sorted.{Apart-filter, In-filter, In-filtered}
-use Rattle.gd_scan_laws.specs.Ordered.{scanned}
-use Rattle.gd_scan_laws.specs.Planned.{Planned}
-use Rattle.gd_scan_laws.proofs.Laws.{planned}
-use Rattle.gd_scan_laws.proofs.Objects.{both_true, true_both, object_is, is_object_in}
-use Rattle.gd_scan_laws.proofs.Orders.{scanned_once, scanned_all}
+use Rattle.gd_match_laws.specs.PassedOn.{scanned, Planned}
+use Rattle.gd_match_laws.proofs.PassedOn.{planned, both_true, true_both, object_is, is_object_in, scanned_once, scanned_all}
 use Rattle.gd_suspended_laws.specs.Laws.{FewerAre}
 
 fewer_candidate : (prims : List Primitive) (q : Asked) (ms : Members) → Planned prims q → ((o : ℕ) → meets_given prims q.members 0 o ≡ true → meets_given prims ms 0 o ≡ true) → (o : ℕ)

@@ -11,10 +11,8 @@ use Rattle.gd_defs.specs.Plan.{template_of}
 use Rattle.gd_runs.specs.Owed.{ScanOrder}
 use Rattle.gd_order_laws.specs.Window.{In}
 use Rattle.gd_order_laws.proofs.Sorted.{Apart-filter, In-filter, In-filtered}
-use Rattle.gd_scan_laws.specs.Ordered.{scanned}
-use Rattle.gd_scan_laws.specs.Planned.{Planned}
-use Rattle.gd_scan_laws.proofs.Laws.{planned}
-use Rattle.gd_scan_laws.proofs.Objects.{both_true, true_both, object_is, is_object_in}
+use Rattle.gd_match_laws.specs.PassedOn.{scanned, Planned}
+use Rattle.gd_match_laws.proofs.PassedOn.{planned, both_true, true_both, object_is, is_object_in}
 use Rattle.gd_suspended_laws.specs.Laws.{FullAre}
 
 full_candidate : (prims : List Primitive) (q : Asked) (order : ScanOrder) → Planned prims q → ((o : ℕ) → passes_template prims (template_of q) o ≡ true → In o (map (λ c. c.1) order)) → (o : ℕ)

@@ -10,7 +10,7 @@ use Rattle.gd_defs.specs.Rows as defs
 use Rattle.gd_defs.specs.Template.{tree_of}
 use Rattle.gd_runs.specs.Shape.Answers.{key_places, sort_lists}
 use Rattle.gd_order_laws.proofs.Marks.{mark_of}
-use Rattle.gd_template_laws.specs.Laws.{AreHeld}
+use Rattle.gd_match_laws.specs.PassedOn.{AreHeld}
 use Rattle.gd_window.specs.declared.row.Row.{Row}
 use Rattle.gd_window.specs.Kept.{Kept}
 use Rattle.gd_window.specs.Laws.{with_values, defined}

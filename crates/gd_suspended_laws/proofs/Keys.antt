@@ -1,9 +1,7 @@
 -- The sort keys of an object stand where its tree tells.
 use Rattle.std.proofs.Common.{ap, ◌∙◌}
-use Rattle.gd_template_laws.proofs.AskedQuery.{query-asked}
-use Rattle.gd_template_laws.proofs.Results.{held-typed}
+use Rattle.gd_match_laws.proofs.PassedOn.{query-asked, held-typed, sort_lists-behind, key_places-are}
 use Rattle.gd_runs.specs.Shape.Answers.{key_places}
-use Rattle.gd_page_laws.proofs.TreeRows.{sort_lists-behind, key_places-are}
 use Rattle.gd_suspended_laws.specs.Laws.{TreesTellKeys}
 
 pub trees_tell_keys : TreesTellKeys

@@ -14,7 +14,7 @@ use Rattle.gd_order_laws.proofs.Keys.{row_total}
 use Rattle.gd_order_laws.proofs.Orders.{not_itself}
 use Rattle.gd_order_laws.proofs.Rows.{In-map, apart_rows}
 use Rattle.gd_order_laws.proofs.Sorted.{Each-from_members, Each-member, Apart-filter, Rising-sorted}
-use Rattle.gd_scan_laws.proofs.Settled.{In-take}
+use Rattle.gd_match_laws.proofs.PassedOn.{In-take}
 use Rattle.gd_window.specs.Kept.{Kept}
 use Rattle.gd_suspended_laws.specs.Standing.{rows_of, page_rows, page_objects}
 use Rattle.gd_suspended_laws.proofs.Windows.{best_of, best_known}

@@ -12,7 +12,7 @@ use Rattle.gd_runs.specs.Thawed.{window}
 use Rattle.gd_order_laws.specs.Window.{In, Apart}
 use Rattle.gd_order_laws.proofs.Rows.{In-map, apart_rows}
 use Rattle.gd_order_laws.proofs.Sorted.{In-filter, In-sorted}
-use Rattle.gd_scan_laws.proofs.Settled.{first_of_window, marks_again, In-take}
+use Rattle.gd_match_laws.proofs.PassedOn.{first_of_window, marks_again, In-take}
 use Rattle.gd_window.specs.declared.row.Row.{Row}
 use Rattle.gd_window.specs.Kept.{Kept, HasSeen, rows_behind}
 use Rattle.gd_window.specs.Laws.{with_values, directions, defined, behind_mark, RowsBehindAreAsDefined}

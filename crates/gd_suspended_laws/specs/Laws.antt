@@ -19,9 +19,8 @@ use Rattle.gd_runs.specs.Scanned.{scan_order, set_order}
 use Rattle.gd_runs.specs.Shape.{page_shape}
 use Rattle.gd_runs.specs.Shape.Answers.{key_places, sort_lists}
 use Rattle.gd_runs.specs.Thawed.{built_trees, built_weight, body_answer}
-use Rattle.gd_template_laws.specs.Laws.{AreHeld}
+use Rattle.gd_match_laws.specs.PassedOn.{AreHeld, start}
 use Rattle.gd_order_laws.specs.Window.{In, Apart, Rising}
-use Rattle.gd_scan_laws.specs.Ordered.{start}
 use Rattle.gd_match_laws.specs.Links.{passing_links, link_order}
 use Rattle.gd_match_laws.specs.Moves.{Runs}
 use Rattle.gd_match_laws.specs.Laws.{AtEnd}

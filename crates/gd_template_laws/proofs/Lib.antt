@@ -17,3 +17,4 @@ pub mod Depths
 pub mod FormDepths
 pub mod Results
 pub mod Laws
+pub mod PassedOn

@@ -3,10 +3,10 @@ use Rattle.std.proofs.Common.{◌≡◌, refl, sym, ap, subst, ◌∙◌, ℕ, �
 use Rattle.std.specs.Prelude.{nat_le, option_map}
 use Rattle.gd_prim.specs.declared.Primitive.{Primitive}
 use Rattle.gd_tree.specs.Trees.{tree}
-use Rattle.gd_defs.specs.Template.{Template, template, passes_template}
+use Rattle.gd_defs.specs.Template.{Template, passes_template}
 use Rattle.gd_bytes.specs.Frozen.{IterAt, Frame, Scan}
 use Rattle.gd_runs.specs.Owed.{ScanOrder, Candidate}
-use Rattle.gd_scan_laws.specs.Ordered.{start}
+use Rattle.gd_match_laws.specs.PassedOn.{start}
 use Rattle.gd_match_laws.specs.Moves.{order_from, fresh, StackMoves, frame_moves, ScanMoves, scan_passes_over, picks, frames_move, gives, Runs, stays, moves}
 use Rattle.gd_thaw_laws.specs.Alone.{standing_at, FramesGoAlone, CandidatesGoAlone}
 

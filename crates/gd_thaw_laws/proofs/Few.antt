@@ -13,7 +13,8 @@ use Rattle.gd_runs.specs.Thawed.{built_trees}
 use Rattle.gd_match_laws.specs.Moves.{order_from}
 use Rattle.gd_match_laws.specs.Rows.{rows_order}
 use Rattle.gd_match_laws.proofs.Scans.{run-keeps}
-use Rattle.gd_thaw_laws.specs.Freezing.{tried_count, BuildsFew}
+use Rattle.gd_runs.specs.Fitting.{tried_count}
+use Rattle.gd_thaw_laws.specs.Freezing.{BuildsFew}
 
 length-map : {A B : Type 0} (f : A → B) (xs : List A) → length (map f xs) ≡ length xs
 length-map f [] = refl

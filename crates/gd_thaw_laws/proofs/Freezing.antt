@@ -2,7 +2,7 @@
 use Rattle.std.proofs.Common.{◌≡◌, ◌∙◌, inl, inr, ⊎_elim, refl, sym, ap, subst, arith, ◌==◌, ℕ, suc, ◌+◌, ◌<◌, ◌≤◌, List, [], ◌∷◌, ◌++◌, Bool, true, false, ◌&&◌, not, Option, Some, None, Result, Ok, Err, length, length-append, map, take}
 use Rattle.std.specs.Prelude.{nat_le, nat_lt, option_map, is_some, if◌then◌else◌}
 use Rattle.std.specs.List.{list_all}
-use Rattle.std.proofs.lemmas.Bool.{and_parts, and_from, eq-eqb, lt-ltb, ltb-true, le-leb}
+use Rattle.std.proofs.lemmas.Bool.{and_parts, and_from, eq-eqb, lt-ltb, ltb-true, le-leb, leb-true}
 use Rattle.std.proofs.lemmas.List.Folds.{list_all-append}
 use Rattle.gd_prim.specs.declared.Primitive.{Primitive}
 use Rattle.gd_prim.specs.declared.Batch.{Batch}
@@ -13,17 +13,18 @@ use Rattle.gd_defs.specs.Plan.{template_of}
 use Rattle.gd_defs.specs.Reply.{Mark, mark_row, row_mark, fitted}
 use Rattle.gd_defs.specs.Rows.{Row, row_of}
 use Rattle.gd_defs.specs.Template.{Template, template}
-use Rattle.gd_bytes.specs.Frozen.{Scan, Frozen}
+use Rattle.gd_bytes.specs.Frozen.{Scan, building, Frozen}
 use Rattle.gd_runs.proofs.Rounds.{prims_kept}
 use Rattle.gd_runs.specs.Core.{frozen_fits}
 use Rattle.gd_runs.specs.Request.{ReadRequest, asks_page}
 use Rattle.gd_runs.specs.Owed.{ScanOrder, Candidate, MembersOf, tree_fits, stack_fits, scan_fits}
 use Rattle.gd_runs.specs.Thawed.{answering, built_trees, thawed_line, window}
-use Rattle.gd_runs.specs.Fitting.{is_inside, key_inside, row_fits, trees_fit, fits}
+use Rattle.gd_runs.specs.Fitting.{is_inside, key_inside, row_fits, trees_fit, tried_count, body_fits, fits}
 use Rattle.gd_order_laws.specs.Window.{In}
 use Rattle.gd_order_laws.proofs.Rows.{In-map}
-use Rattle.gd_match_laws.specs.Moves.{ScanMoves, scan_passes_over, picks, frames_move, gives, stays, moves}
+use Rattle.gd_match_laws.specs.Moves.{ScanMoves, scan_passes_over, picks, frames_move, gives, Runs, stays, moves}
 use Rattle.gd_match_laws.proofs.Bodies.{filter_map-append}
+use Rattle.gd_match_laws.specs.Rows.{rows_order}
 use Rattle.gd_window.specs.Kept.{Kept}
 use Rattle.gd_suspended_laws.specs.Standing.{marks_of}
 use Rattle.gd_suspended_laws.proofs.Windows.{taken_few}
@@ -32,6 +33,7 @@ use Rattle.gd_thaw_laws.specs.Grown.{StackGrows, StackPlaced}
 use Rattle.gd_thaw_laws.specs.Gone.{HasGone, RowsTold}
 use Rattle.gd_thaw_laws.specs.Freezing.{LaterOwes, LaterFits, GoneRowsFit, GoneFits, GivenFit, BuildsFit}
 use Rattle.gd_thaw_laws.proofs.Going.{given_inside, in_either}
+use Rattle.gd_thaw_laws.proofs.Few.{builds_few}
 use Rattle.gd_thaw_laws.proofs.Gone.{gone_keeps}
 use Rattle.gd_thaw_laws.proofs.Kept.{in_best, IsAgain, mark_again, row_again}
 use Rattle.gd_thaw_laws.proofs.Grown.{OFits, ends_fit, scan_grows, runs_fit, runs_grow, fits_grow, grown_fit}
@@ -134,42 +136,61 @@ given_fit prims order t _ _ _ (moves s m e cs ds step rest) grows =
     ∙ list_all-append (tree_fits prims t) (built_trees cs) (built_trees ds)
     ∙ and_from _ _ (move_fit prims order t s cs m step grows) (given_fit prims order t m e ds rest (scan_grows prims order t s cs m step grows))
 
+module _ (prims : List Primitive) (members : MembersOf) (q : Asked) (page : List Row) (rows w : ℕ) (ts : Trees) (s m : Scan) (cs : List Candidate) (listed : q.count ≡ false)
+    (fit : body_fits prims members q rows (building w ts s) ≡ true) (run : Runs prims (rows_order page) (template_of q) s cs m) (up : s.iter.place ≤ m.iter.place) (at : m.iter.place ≤ rows) where
+  whole : ((trees_fit prims q rows ts && nat_le s.iter.place rows && not (is_some s.iter.accepted) && stack_fits prims members (template_of q) s.frames) ≡ true) × (nat_le (length (list_of ts) + tried_count s.frames) s.iter.place ≡ true)
+  whole = and_parts _ _ fit
+
+  outer : ((trees_fit prims q rows ts && nat_le s.iter.place rows && not (is_some s.iter.accepted)) ≡ true) × (stack_fits prims members (template_of q) s.frames ≡ true)
+  outer = and_parts _ _ whole.0
+
+  began : StackGrows prims (template_of q) s.frames
+  began = fits_grow prims members (template_of q) s.frames outer.1
+
+  -- the frames to which it goes grow
+  pub built_grows : StackGrows prims (template_of q) m.frames
+  built_grows = runs_grow prims (rows_order page) (template_of q) s m cs run began
+
+  before : list_all (tree_fits prims (template_of q)) (list_of ts) ≡ true
+  before = (and_parts _ _ (and_parts _ _ (and_parts _ _ outer.0).0).0).0
+
+  listed_are : (us : List Tree) → list_of (append ts (trees_of us)) ≡ list_of ts ++ us
+  listed_are us = by ts
+    where
+      again : (vs : List Tree) → list_of (trees_of vs) ≡ vs
+      again [] = refl
+      again (x ∷ vs) = ap (λ l. x ∷ l) (again vs)
+
+      by : (xs : Trees) → list_of (append xs (trees_of us)) ≡ list_of xs ++ us
+      by Rattle.gd_tree.specs.Trees.no_trees = again us
+      by (Rattle.gd_tree.specs.Trees.and_tree x xs) = ap (λ l. x ∷ l) (by xs)
+
+  few : length (list_of ts) + length (built_trees cs) + tried_count m.frames ≤ m.iter.place
+  few = builds_few prims (template_of q) page (length (list_of ts)) s m cs run up (leb-true (length (list_of ts) + tried_count s.frames) s.iter.place whole.1)
+
+  -- it has no more trees than rows before it, with that of the row that is tried
+  pub built_few : length (list_of (append ts (trees_of (built_trees cs)))) + tried_count m.frames ≤ m.iter.place
+  built_few =
+      let listed_so = ap length (listed_are (built_trees cs)) in
+      let same = length-append (list_of ts) (built_trees cs) in
+      omega (arith, listed_so, same, few)
+
+  count : length (list_of ts ++ built_trees cs) ≤ rows
+  count = let same = length-append (list_of ts) (built_trees cs) in omega (arith, same, few, at)
+
+  -- its trees fit
+  pub built_fit : trees_fit prims q rows (append ts (trees_of (built_trees cs))) ≡ true
+  built_fit = and_from _ _
+      (ap (list_all (tree_fits prims (template_of q))) (listed_are (built_trees cs)) ∙ list_all-append (tree_fits prims (template_of q)) (list_of ts) (built_trees cs) ∙ and_from _ _ before (given_fit prims (rows_order page) (template_of q) s m cs run began))
+      (ap (λ (c : Bool). if c then length (list_of (append ts (trees_of (built_trees cs)))) == 0 else nat_le (length (list_of (append ts (trees_of (built_trees cs))))) rows) listed
+      ∙ ap (λ l. nat_le (length l) rows) (listed_are (built_trees cs)) ∙ le-leb (length (list_of ts ++ built_trees cs)) rows count)
+
 pub builds_fit : BuildsFit
-builds_fit prims members q order rows w v ts s m cs listed fit run few at none placed =
-    and_from _ _ (and_from _ _ (and_from _ _ trees (le-leb m.iter.place rows at)) (ap (λ a. not (is_some a)) none))
-    (grown_fit prims members (template_of q) m.frames (runs_grow prims order (template_of q) s m cs run grows) placed)
-  where
-    outer : ((trees_fit prims q rows ts && nat_le s.iter.place rows && not (is_some s.iter.accepted)) ≡ true) × (stack_fits prims members (template_of q) s.frames ≡ true)
-    outer = and_parts _ _ fit
-
-    grows : StackGrows prims (template_of q) s.frames
-    grows = fits_grow prims members (template_of q) s.frames outer.1
-
-    before : list_all (tree_fits prims (template_of q)) (list_of ts) ≡ true
-    before = (and_parts _ _ (and_parts _ _ (and_parts _ _ outer.0).0).0).0
-
-    listed_are : (us : List Tree) → list_of (append ts (trees_of us)) ≡ list_of ts ++ us
-    listed_are us = by ts
-      where
-        again : (vs : List Tree) → list_of (trees_of vs) ≡ vs
-        again [] = refl
-        again (x ∷ vs) = ap (λ l. x ∷ l) (again vs)
-
-        by : (xs : Trees) → list_of (append xs (trees_of us)) ≡ list_of xs ++ us
-        by Rattle.gd_tree.specs.Trees.no_trees = again us
-        by (Rattle.gd_tree.specs.Trees.and_tree x xs) = ap (λ l. x ∷ l) (by xs)
-
-    all : List Tree
-    all = list_of ts ++ built_trees cs
-
-    count : length (list_of ts ++ built_trees cs) ≤ rows
-    count = let same = length-append (list_of ts) (built_trees cs) in omega (arith, same, few)
-
-    trees : trees_fit prims q rows (append ts (trees_of (built_trees cs))) ≡ true
-    trees = and_from _ _
-        (ap (list_all (tree_fits prims (template_of q))) (listed_are (built_trees cs)) ∙ list_all-append (tree_fits prims (template_of q)) (list_of ts) (built_trees cs) ∙ and_from _ _ before (given_fit prims order (template_of q) s m cs run grows))
-        (ap (λ (c : Bool). if c then length (list_of (append ts (trees_of (built_trees cs)))) == 0 else nat_le (length (list_of (append ts (trees_of (built_trees cs))))) rows) listed
-        ∙ ap (λ l. nat_le (length l) rows) (listed_are (built_trees cs)) ∙ le-leb (length (list_of ts ++ built_trees cs)) rows count)
+builds_fit prims members q page rows w v ts s m cs listed fit run up at none placed =
+    and_from _ _
+    (and_from _ _ (and_from _ _ (and_from _ _ (built_fit prims members q page rows w ts s m cs listed fit run up at) (le-leb m.iter.place rows at)) (ap (λ a. not (is_some a)) none))
+    (grown_fit prims members (template_of q) m.frames (built_grows prims members q page rows w ts s m cs listed fit run up at) placed))
+    (le-leb (length (list_of (append ts (trees_of (built_trees cs)))) + tried_count m.frames) m.iter.place (built_few prims members q page rows w ts s m cs listed fit run up at))
 
 -- ---- later stores, again
 

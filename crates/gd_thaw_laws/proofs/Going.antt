@@ -16,7 +16,7 @@ use Rattle.gd_runs.specs.Owed.{ScanOrder, Candidate, candidate, candidates_from,
 use Rattle.gd_runs.specs.Thawed.{window, answering}
 use Rattle.gd_order_laws.specs.Window.{In}
 use Rattle.gd_order_laws.proofs.Rows.{In-map}
-use Rattle.gd_scan_laws.proofs.Objects.{passes_there}
+use Rattle.gd_match_laws.proofs.PassedOn.{passes_there}
 use Rattle.gd_match_laws.specs.Moves.{Runs, stays}
 use Rattle.gd_match_laws.proofs.Bodies.{filter_map-append, map-append}
 use Rattle.gd_match_laws.proofs.Scans.{run-keeps}

@@ -16,8 +16,7 @@ use Rattle.gd_order_laws.proofs.Insertion.{IsUp-insert, IsUp-take}
 use Rattle.gd_order_laws.proofs.Keys.{row_total}
 use Rattle.gd_order_laws.proofs.Marks.{mark_of}
 use Rattle.gd_order_laws.proofs.Sorted.{Each-from_members, Each-append, In-filter, In-sorted, kept_row_by_row}
-use Rattle.gd_scan_laws.proofs.Replies.{keeps_all}
-use Rattle.gd_scan_laws.proofs.Settled.{In-take}
+use Rattle.gd_match_laws.proofs.PassedOn.{keeps_all, In-take}
 
 module _ {A : Type 0} (cmp : A → A → Ordering) where
   take_take : (n : ℕ) (xs : List A) → take n (take n xs) ≡ take n xs

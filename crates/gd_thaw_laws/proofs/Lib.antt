@@ -13,3 +13,5 @@ pub mod Spelled
 pub mod Standing
 pub mod Owing
 pub mod Thawed
+pub mod Telling
+pub mod PassedOn

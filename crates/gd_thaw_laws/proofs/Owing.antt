@@ -1,19 +1,18 @@
 -- What a reading owes that builds or prints the page of a window, whose rows are read again from their marks: whatever rows these are.
-use Rattle.std.proofs.Common.{◌≡◌, ◌∙◌, refl, sym, ap, subst, ℕ, ◌+◌, List, [], ◌∷◌, ◌++◌, Bool, true, false, ◌&&◌, not, Option, None, Some, Ok, length, take, map, Err}
+use Rattle.std.proofs.Common.{◌≡◌, ◌∙◌, refl, sym, ap, subst, ℕ, ◌+◌, List, [], ◌++◌, Bool, true, false, ◌&&◌, not, Option, None, Some, Ok, length, take, map, Err}
 use Rattle.std.specs.Prelude.{nat_lt, if◌then◌else◌, codes}
 use Rattle.std.specs.List.{list_any}
 use Rattle.gd_prim.specs.declared.Primitive.{Primitive}
-use Rattle.gd_tree.specs.Trees.{Tree, Trees, no_trees, append, trees_of, list_of}
+use Rattle.gd_tree.specs.Trees.{Tree, Trees, append, trees_of, list_of}
 use Rattle.gd_defs.specs.Asked.{Asked}
 use Rattle.gd_defs.specs.Lines.{too_wide, refused_at, count_json}
 use Rattle.gd_defs.specs.Plan.{template_of}
 use Rattle.gd_defs.specs.Reply.{Mark, mark_row, page_cursor, is_ambiguous, max_candidate_weight, max_page_weight, Answer, page_answer}
 use Rattle.gd_defs.specs.Rows.{Row}
-use Rattle.gd_bytes.specs.Frozen.{Scan, Walk, scanning, building, printing}
+use Rattle.gd_bytes.specs.Frozen.{Scan, Walk, building, printing}
 use Rattle.gd_runs.specs.Owed.{ScanOrder, Candidate, candidate, tried, owed_by, weighs_too_much}
 use Rattle.gd_runs.specs.Shape.{page_shape}
 use Rattle.gd_runs.specs.Thawed.{window, built_trees, built_weight, page_of_rows, row_candidates, row_tried, body_answer}
-use Rattle.gd_scan_laws.specs.Ordered.{start}
 use Rattle.gd_match_laws.specs.Moves.{order_from, Runs}
 use Rattle.gd_match_laws.specs.Laws.{AtEnd}
 use Rattle.gd_match_laws.specs.Rows.{rows_order}

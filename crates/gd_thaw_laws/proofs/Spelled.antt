@@ -1,6 +1,6 @@
 -- Frozen readings that fit lie within the bounds of texts.
-use Rattle.std.proofs.Common.{◌≡◌, ◌∙◌, refl, sym, ap, subst, arith, ◌==◌, ℕ, ◌+◌, ◌<◌, ◌≤◌, List, [], ◌∷◌, Bool, true, false, ◌&&◌, not, Option, Some, None, length, map}
-use Rattle.std.specs.Prelude.{nat_le, nat_lt, is_some, IsTrue, if◌then◌else◌}
+use Rattle.std.proofs.Common.{◌≡◌, refl, arith, ◌==◌, ℕ, ◌+◌, ◌<◌, ◌≤◌, List, [], ◌∷◌, Bool, true, ◌&&◌, not, Option, Some, None, length}
+use Rattle.std.specs.Prelude.{nat_le, nat_lt, is_some}
 use Rattle.std.specs.List.{list_all}
 use Rattle.std.specs.Option.{option_map_or}
 use Rattle.std.proofs.lemmas.Bool.{and_parts, and_from, eqb-true, ltb-true, leb-true, le-leb}
@@ -10,9 +10,9 @@ use Rattle.gd_defs.specs.Asked.{Asked}
 use Rattle.gd_defs.specs.Plan.{template_of}
 use Rattle.gd_defs.specs.Reply.{Mark}
 use Rattle.gd_defs.specs.Template.{Template, template, Clauses, no_clauses, clause, Hop, meets_constraints, led_to}
-use Rattle.gd_bytes.specs.Frozen.{IterAt, Frame, Scan, Body, scanning, building, printing, Frozen, Fits, place_in_bounds, key_in_bounds, row_in_bounds, iter_in_bounds, tree_in_bounds, trees_in_bounds, lists_in_bounds, frame_in_bounds, scan_in_bounds, body_in_bounds, max_number}
-use Rattle.gd_runs.specs.Owed.{is_among, tree_fits, lists_fit, iter_fits, frames_fit, frame_lists_fit, stack_fits, scan_fits}
-use Rattle.gd_runs.specs.Fitting.{is_inside, key_inside, row_fits, trees_fit, body_fits, fits}
+use Rattle.gd_bytes.specs.Frozen.{IterAt, Frame, Scan, Body, scanning, building, printing, place_in_bounds, key_in_bounds, row_in_bounds, iter_in_bounds, tree_in_bounds, trees_in_bounds, lists_in_bounds, frame_in_bounds, scan_in_bounds, body_in_bounds}
+use Rattle.gd_runs.specs.Owed.{is_among, tree_fits, lists_fit, iter_fits, frames_fit, frame_lists_fit, stack_fits}
+use Rattle.gd_runs.specs.Fitting.{is_inside, key_inside, row_fits, trees_fit, tried_count, body_fits, fits}
 use Rattle.gd_thaw_laws.specs.Spelled.{one_member, NumbersFit, FittingAreSpelled}
 use Rattle.gd_thaw_laws.proofs.Going.{met_inside}
 
@@ -123,7 +123,8 @@ module _ (prims : List Primitive) (few : length prims ≤ 2_097_151) where
       let parts = and_parts (iter_fits (length prims) 1 s.iter) (stack_fits prims one_member (template_of q) s.frames) fit in
       scan_bound (template_of q) s light (iter_bound s.iter parts.0) parts.1
   body_bound q rows (building w ts s) few_rows light fit =
-      let last = and_parts (trees_fit prims q rows ts && nat_le s.iter.place rows && not (is_some s.iter.accepted)) (stack_fits prims one_member (template_of q) s.frames) fit in
+      let whole = and_parts (trees_fit prims q rows ts && nat_le s.iter.place rows && not (is_some s.iter.accepted) && stack_fits prims one_member (template_of q) s.frames) (nat_le (length (list_of ts) + tried_count s.frames) s.iter.place) fit in
+      let last = and_parts (trees_fit prims q rows ts && nat_le s.iter.place rows && not (is_some s.iter.accepted)) (stack_fits prims one_member (template_of q) s.frames) whole.0 in
       let next = and_parts (trees_fit prims q rows ts && nat_le s.iter.place rows) (not (is_some s.iter.accepted)) last.0 in
       let first = and_parts (trees_fit prims q rows ts) (nat_le s.iter.place rows) next.0 in
       let at : s.iter.place ≤ rows = leb-true s.iter.place rows first.1 in

@@ -1,7 +1,7 @@
 -- Bodies that stand for a reading of a query that began.
-use Rattle.std.proofs.Common.{◌≡◌, ◌∙◌, refl, sym, ap, subst, arith, ◌==◌, ℕ, zero, suc, ◌+◌, ◌<◌, ◌≤◌, List, [], ◌∷◌, ◌++◌, Bool, true, false, cond, ◌&&◌, ◌||◌, not, Option, Some, None, Err, length, map, filter, take, append_assoc}
-use Rattle.std.specs.Prelude.{nat_le, nat_lt, option_map, is_some, slice_get, sum_by, if◌then◌else◌}
-use Rattle.std.specs.List.{list_any, list_all, cons_option, enumerate_from}
+use Rattle.std.proofs.Common.{◌≡◌, ◌∙◌, refl, sym, ap, subst, arith, ◌==◌, ℕ, zero, suc, ◌+◌, ◌<◌, ◌≤◌, List, [], ◌∷◌, ◌++◌, Bool, true, false, cond, ◌&&◌, ◌||◌, Option, Some, None, Err, length, map, filter, take, append_assoc}
+use Rattle.std.specs.Prelude.{nat_le, nat_lt, option_map, is_some, slice_get, if◌then◌else◌}
+use Rattle.std.specs.List.{list_any, cons_option, enumerate_from}
 use Rattle.std.specs.Ordering.{nat_cmp}
 use Rattle.std.specs.declared.cmp.Ordering.TheVariants.{Less}
 use Rattle.std.proofs.lemmas.Bool.{and_from, le-leb}
@@ -18,12 +18,12 @@ use Rattle.gd_defs.specs.Reply.{Mark, mark_row, row_mark, max_candidate_weight, 
 use Rattle.gd_defs.specs.Rows.{Row, row_of}
 use Rattle.gd_defs.specs.Template.{Template, passes_template}
 use Rattle.gd_bytes.specs.Frozen.{IterAt, Frame, Scan, scanning, building}
-use Rattle.gd_runs.specs.Owed.{ScanOrder, Candidate, candidate, owed_by, tried, candidates_from, iter_fits, scan_fits, weighs_too_much}
+use Rattle.gd_runs.specs.Owed.{ScanOrder, Candidate, candidate, owed_by, tried, scan_fits, weighs_too_much}
 use Rattle.gd_runs.specs.Scanned.{scan_order}
 use Rattle.gd_runs.specs.Thawed.{window, answering, built_trees, built_weight, row_candidates, page_of_rows, body_answer}
 use Rattle.gd_runs.specs.Fitting.{body_fits}
 use Rattle.gd_order_laws.specs.Window.{Each, Rising}
-use Rattle.gd_scan_laws.specs.Ordered.{start}
+use Rattle.gd_match_laws.specs.PassedOn.{start}
 use Rattle.gd_match_laws.specs.Moves.{order_from, StackMoves, frame_moves, ScanMoves, scan_passes_over, picks, frames_move, gives, Runs, stays, moves}
 use Rattle.gd_match_laws.specs.Rows.{rows_order}
 use Rattle.gd_match_laws.proofs.Bodies.{filter_map-append}
@@ -43,9 +43,8 @@ use Rattle.gd_thaw_laws.specs.Gone.{RowsTold}
 use Rattle.gd_thaw_laws.specs.Grown.{StackPlaced}
 use Rattle.gd_thaw_laws.specs.Spelled.{one_member}
 use Rattle.gd_thaw_laws.specs.Thawing.{between, order_within, candidates_within}
-use Rattle.gd_thaw_laws.specs.Standing.{Began, Asks, StandsFor, RowsFit, IsScanOrder, KeepsRows, body_owes, its_answer, StartsStand, ScannedRowsFit, ScansStand, VisitsStand, TriedStand, PagesStand, RowsStand, TriedRowsStand}
+use Rattle.gd_thaw_laws.specs.Standing.{Began, StandsFor, IsScanOrder, KeepsRows, body_owes, StartsStand, ScannedRowsFit, ScansStand, VisitsStand, TriedStand, PagesStand, RowsStand, TriedRowsStand}
 use Rattle.gd_thaw_laws.proofs.Alone.{candidates_go_alone}
-use Rattle.gd_thaw_laws.proofs.Few.{builds_few}
 use Rattle.gd_thaw_laws.proofs.Freezing.{gone_rows_fit, gone_fits, builds_fit}
 use Rattle.gd_thaw_laws.proofs.Gone.{scanned_has_gone}
 use Rattle.gd_thaw_laws.proofs.Reach.{scans_reach, same_front}
@@ -355,7 +354,7 @@ record Around (k : ℕ) (os : List ℕ) (m place : ℕ) : Type 0 where
   behind : back ≡ from_on (k + m + 1) (enumerate_from k os)
 
 page_fits : (prims : List Primitive) (q : Asked) (rows : ℕ) → body_fits prims one_member q rows (building 0 no_trees start) ≡ true
-page_fits prims q rows = and_from _ _ (and_from _ _ (and_from _ _ (and_from _ _ refl (by q.count)) (le-leb 0 rows (omega arith))) refl) refl
+page_fits prims q rows = and_from _ _ (and_from _ _ (and_from _ _ (and_from _ _ (and_from _ _ refl (by q.count)) (le-leb 0 rows (omega arith))) refl) refl) refl
   where
     by : (b : Bool) → (if b then 0 == 0 else nat_le 0 rows) ≡ true
     by true = refl
@@ -396,7 +395,7 @@ module _ (r : Began) (q : Asked) (w : Kept) (keeps : KeepsRows r q w) (listed : 
   builds_stand m cs v ts run light at none placed weighs trees few_v few_m = record {
     fitting = and_from _ _ (and_from _ _ keeps.fit.each (le-leb (length (marks_of w)) (q.limit + 1) keeps.fit.few))
         (subst (λ (us : Trees). body_fits r.prims one_member q (length (marks_of w)) (building v us m) ≡ true) (sym trees)
-        (builds_fit r.prims one_member q rows (length (marks_of w)) 0 v no_trees start m cs listed (page_fits r.prims q (length (marks_of w))) run trees_few inside none placed));
+        (builds_fit r.prims one_member q (page_rows w) (length (marks_of w)) 0 v no_trees start m cs listed (page_fits r.prims q (length (marks_of w))) run (omega arith) inside none placed));
     numbers = (few_v, few_m);
     owes =
         ap (λ n. body_owes r q (marks_of w) (building n ts m)) weighs
@@ -408,9 +407,6 @@ module _ (r : Began) (q : Asked) (w : Kept) (keeps : KeepsRows r q w) (listed : 
     where
       inside : m.iter.place ≤ length (marks_of w)
       inside = let few = few_page w in omega (arith, at, few)
-
-      trees_few : 0 + length (built_trees cs) ≤ length (marks_of w)
-      trees_few = let few = builds_few r.prims t (page_rows w) 0 start m cs run (omega arith) (omega arith) in omega (arith, few, inside)
 
   -- ---- up to a row
 

@@ -1,27 +1,30 @@
 -- A reading that begins where a text says, with a window to which the rows of the text were offered.
-use Rattle.std.proofs.Common.{◌≡◌, ◌∙◌, refl, sym, ap, subst, arith, ℕ, ◌<◌, List, [], ◌∷◌, ◌++◌, Bool, true, false, ◌&&◌, cond, Option, Some, None, Err, ◌+◌, length, take, map, filter}
+use Rattle.std.proofs.Common.{◌≡◌, ◌∙◌, refl, sym, ap, subst, arith, ℕ, ◌<◌, List, [], ◌∷◌, ◌++◌, Bool, true, false, ◌&&◌, cond, Option, Err, ◌+◌, length, take, map, filter}
 use Rattle.std.specs.Prelude.{nat_le, if◌then◌else◌}
 use Rattle.std.specs.List.{list_any}
 use Rattle.std.proofs.lemmas.List.{append-nil}
 use Rattle.std.proofs.lemmas.Bool.Decides.{nat_tests}
 use Rattle.gd_prim.specs.declared.Primitive.{Primitive}
-use Rattle.gd_tree.specs.Trees.{Tree, Trees, list_of}
+use Rattle.gd_tree.specs.Trees.{Trees, list_of}
 use Rattle.gd_defs.specs.Asked.{Asked}
 use Rattle.gd_defs.specs.Lines.{too_wide}
 use Rattle.gd_defs.specs.Plan.{template_of}
 use Rattle.gd_defs.specs.Reply.{Mark, mark_row, max_candidate_weight, Answer}
 use Rattle.gd_defs.specs.Rows.{Row, row_of}
 use Rattle.gd_defs.specs.Template.{Template, passes_template}
-use Rattle.gd_bytes.specs.Frozen.{Scan, Walk, Body, scanning, building, printing}
-use Rattle.gd_runs.specs.Owed.{ScanOrder, Candidate, candidate, candidates_from, tried, owed_by, weighs_too_much, MembersOf, scan_fits}
-use Rattle.gd_runs.specs.Thawed.{window, answering, built_trees, built_weight, page_of_rows, row_candidates, row_tried, body_answer}
-use Rattle.gd_scan_laws.specs.Ordered.{start}
+use Rattle.gd_bytes.specs.Frozen.{Scan, Body, scanning, building}
+use Rattle.gd_runs.specs.Owed.{ScanOrder, Candidate, candidate, tried, owed_by, weighs_too_much, scan_fits}
+use Rattle.gd_runs.specs.Thawed.{window, answering, built_trees, built_weight, page_of_rows, row_candidates, body_answer}
+use Rattle.gd_match_laws.specs.PassedOn.{start}
 use Rattle.gd_match_laws.specs.Best.{page_of}
 use Rattle.gd_match_laws.specs.Moves.{stays}
+use Rattle.gd_match_laws.specs.Rows.{rows_order}
+use Rattle.gd_match_laws.proofs.Bodies.{rows-owed}
 use Rattle.gd_window.specs.Kept.{Kept, HasSeen}
 use Rattle.gd_suspended_laws.specs.Standing.{marks_of, rows_of, window_of}
 use Rattle.gd_thaw_laws.specs.Gone.{RowsTold, read_rows, HasGone}
 use Rattle.gd_thaw_laws.proofs.Gone.{gone_keeps, gone_reads, best_owe}
+use Rattle.gd_thaw_laws.specs.Spelled.{one_member}
 
 -- ---- orders
 
@@ -56,22 +59,27 @@ module _ (prims : List Primitive) (q : Asked) (dateline : ℕ) (with_cursor : Bo
       → body_answer prims q one dateline with_cursor after kept (scanning s) ≡ body_answer prims q other dateline with_cursor after kept (scanning m)
   scans_alike one other s m same = ap scans_answer same
 
+  -- the answer of a reading that builds, with this weight and these trees so far, by what is still to be built
+  abbrev build_answer : ℕ → Trees → List Candidate → Answer
+  build_answer weight ts built = if list_any weighs_too_much built then Err (too_wide (max_candidate_weight + 1))
+      else page_of_rows prims q dateline with_cursor (length (window prims q after (map (mark_row prims q.sort) kept))) (page_of prims q after kept) (weight + built_weight built) (list_of ts ++ built_trees built) []
+
   -- LAW: a reading that builds owes what another one does that stands at the same row and tries the same candidate
   pub builds_same : (order : ScanOrder) (weight : ℕ) (ts : Trees) (s m : Scan) → tried prims (template_of q) s.weight s.frames ≡ tried prims (template_of q) m.weight m.frames → s.iter.place ≡ m.iter.place
       → body_answer prims q order dateline with_cursor after kept (building weight ts s) ≡ body_answer prims q order dateline with_cursor after kept (building weight ts m)
   builds_same order weight ts s m same at =
-      ap (λ cs. build_answer ((if q.count then [] else cs) ++ row_candidates prims q s.iter.place (page_of prims q after kept))) same
-      ∙ ap (λ n. build_answer ((if q.count then [] else tried prims (template_of q) m.weight m.frames) ++ row_candidates prims q n (page_of prims q after kept))) at
-    where
-      build_answer : List Candidate → Answer
-      build_answer built = if list_any weighs_too_much built then Err (too_wide (max_candidate_weight + 1))
-          else page_of_rows prims q dateline with_cursor (length (window prims q after (map (mark_row prims q.sort) kept))) (page_of prims q after kept) (weight + built_weight built) (list_of ts ++ built_trees built) []
+      ap (λ cs. build_answer weight ts ((if q.count then [] else cs) ++ row_candidates prims q s.iter.place (page_of prims q after kept))) same
+      ∙ ap (λ n. build_answer weight ts ((if q.count then [] else tried prims (template_of q) m.weight m.frames) ++ row_candidates prims q n (page_of prims q after kept))) at
+
+  -- LAW: a reading that builds owes what another one does whose scan owes the same of the rows of its page
+  pub builds_alike : (order : ScanOrder) (weight : ℕ) (ts : Trees) (s m : Scan) → q.count ≡ false
+      → owed_by prims (template_of q) (rows_order (page_of prims q after kept)) s ≡ owed_by prims (template_of q) (rows_order (page_of prims q after kept)) m
+      → body_answer prims q order dateline with_cursor after kept (building weight ts s) ≡ body_answer prims q order dateline with_cursor after kept (building weight ts m)
+  builds_alike order weight ts s m listed same =
+      ap (build_answer weight ts)
+      (rows-owed prims q s (page_of prims q after kept) listed ∙ (same ∙ sym (rows-owed prims q m (page_of prims q after kept) listed)))
 
 -- ---- rows
-
--- every position is that of some iterator of so many members
-abbrev one_member : MembersOf
-one_member prims hop t = 1
 
 zero_first : (n : ℕ) → nat_le 0 n ≡ true
 zero_first n = grind (arith, nat_tests)

@@ -1,25 +1,26 @@
 -- How a scan is told: what it owes stays, and it fits.
 use Rattle.std.proofs.Common.{◌≡◌, ◌∙◌, ◌⊎◌, inl, inr, ⊎_elim, refl, sym, ap, subst, arith, ℕ, ◌+◌, ◌-◌, ◌≤◌, List, [], ◌∷◌, ◌++◌, Bool, true, false, cond, ◌&&◌, Option, Some, None, length, map, filter}
-use Rattle.std.specs.Prelude.{nat_le, nat_lt, option_map, option_and_then, if◌then◌else◌}
+use Rattle.std.specs.Prelude.{nat_le, nat_lt, option_and_then, if◌then◌else◌}
 use Rattle.std.specs.Option.{option_map_or}
 use Rattle.std.proofs.lemmas.Bool.{and_parts, and_from, le-leb}
 use Rattle.std.proofs.lemmas.Bool.Decides.{nat_tests}
 use Rattle.gd_prim.specs.declared.Primitive.{Primitive}
-use Rattle.gd_tree.specs.Trees.{Tree, tree, Trees, no_trees, and_tree, TreeLists, no_lists, and_list, append}
+use Rattle.gd_tree.specs.Trees.{tree, Trees, no_trees, and_tree, TreeLists, no_lists, and_list, append}
 use Rattle.gd_defs.specs.Query.{Mode}
-use Rattle.gd_defs.specs.Template.{Constraint, Template, template, Clauses, no_clauses, clause, Hop, is_answer, meets_constraints, passes_template, tree_of, weight}
+use Rattle.gd_defs.specs.Template.{Constraint, Template, template, Clauses, no_clauses, clause, Hop, passes_template}
 use Rattle.gd_bytes.specs.Frozen.{IterAt, Frame, Scan}
 use Rattle.gd_runs.specs.Owed.{ScanOrder, Candidate, candidate, candidates_from, tried, owed_by, iter_fits}
 use Rattle.gd_order_laws.specs.Window.{In}
 use Rattle.gd_order_laws.proofs.Sorted.{In-filter}
-use Rattle.gd_scan_laws.specs.Ordered.{start}
-use Rattle.gd_match_laws.specs.Moves.{order_from, fresh, is_given, Ends, nothing_asked, FrameMoves, begins, passes_over, descends, takes, below_moves, below_ends, next_begins, later_moves, StackMoves, frame_moves, ScanMoves, scan_passes_over, picks, frames_move, gives, Runs, stays, moves}
+use Rattle.gd_match_laws.specs.PassedOn.{start}
+use Rattle.gd_match_laws.specs.Moves.{order_from, is_given, Ends, nothing_asked, FrameMoves, begins, passes_over, descends, takes, below_moves, below_ends, next_begins, later_moves, StackMoves, frame_moves, ScanMoves, scan_passes_over, picks, frames_move, gives, Runs, stays, moves}
 use Rattle.gd_match_laws.specs.Under.{current, current_on, last_list, with_last, under, counted}
 use Rattle.gd_match_laws.proofs.Under.{last_moves, current_moves}
 use Rattle.gd_match_laws.proofs.Scans.{run-keeps}
 use Rattle.gd_thaw_laws.specs.Alone.{standing_at}
 use Rattle.gd_thaw_laws.specs.Grown.{Grows, ListsGrow, StackGrows, IsPlaced, ListsPlaced, StackPlaced}
-use Rattle.gd_thaw_laws.specs.Told.{begun, with_tree, last_told, above_told, led, frames_told, scan_told, told, one_member, StandWithin, IsPicked, Picked, ScansToTold, ToldOwes, FramesToldAlone, ToldOwesAlone, ToldPlaced, ToldFits}
+use Rattle.gd_thaw_laws.specs.Spelled.{one_member}
+use Rattle.gd_thaw_laws.specs.Told.{begun, with_tree, last_told, above_told, led, frames_told, scan_told, told, StandWithin, IsPicked, Picked, ScansToTold, ToldOwes, FramesToldAlone, ToldOwesAlone, ToldPlaced, ToldFits}
 use Rattle.gd_thaw_laws.proofs.Alone.{candidates_go_alone}
 use Rattle.gd_thaw_laws.proofs.Grown.{runs_grow, grown_fit}
 use Rattle.gd_thaw_laws.proofs.Reach.{later_left, all_left}
@@ -148,7 +149,7 @@ module _ (prims : List Primitive) where
   way_runs order _ s _ _ h hs _ is told_so (is_ended cs f empty) = absurd (cc told_so)
 
 -- the frames of a scan, and what they are told as
-told_is : (t : Template) (s : Scan) (f : Frame) (fs : List Frame) (h : Frame) (hs : List Frame) → s.frames ≡ f ∷ fs → frames_told t s.frames ≡ h ∷ hs → told t s ≡ record { iter = s.iter; weight = s.weight; frames = h ∷ hs }
+pub told_is : (t : Template) (s : Scan) (f : Frame) (fs : List Frame) (h : Frame) (hs : List Frame) → s.frames ≡ f ∷ fs → frames_told t s.frames ≡ h ∷ hs → told t s ≡ record { iter = s.iter; weight = s.weight; frames = h ∷ hs }
 told_is t s f fs h hs is so = ap (λ (l : List Frame). scan_told s l (frames_told t s.frames)) is ∙ ap (scan_told s (f ∷ fs)) so
 
 pub scans_to_told : ScansToTold
@@ -249,7 +250,8 @@ told_owes prims order before t from s cs idle run picked = by s.frames refl (run
 
 -- ---- a candidate that is tried by itself
 
-frames_same : (t : Template) (m : Scan) → (told t m).frames ≡ frames_told t m.frames
+-- the frames of what a scan is told as
+pub frames_same : (t : Template) (m : Scan) → (told t m).frames ≡ frames_told t m.frames
 frames_same t m = by m.frames refl
   where
     by : (l : List Frame) → m.frames ≡ l → (told t m).frames ≡ frames_told t m.frames

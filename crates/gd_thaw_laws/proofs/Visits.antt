@@ -8,8 +8,7 @@ use Rattle.gd_defs.specs.Plan.{template_of}
 use Rattle.gd_defs.specs.Template.{Template, is_answer, passes_template, weight}
 use Rattle.gd_runs.specs.Owed.{ScanOrder, Candidate, candidate, weighs_too_much}
 use Rattle.gd_runs.specs.Thawed.{answering}
-use Rattle.gd_template_laws.proofs.Laws.{answers_pass}
-use Rattle.gd_scan_laws.proofs.Start.{answers_first}
+use Rattle.gd_match_laws.proofs.PassedOn.{answers_pass, answers_first}
 use Rattle.gd_order_laws.specs.Window.{In}
 use Rattle.gd_window.specs.Kept.{HasSeen}
 use Rattle.gd_suspended_laws.specs.Standing.{valued}

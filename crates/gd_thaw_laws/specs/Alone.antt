@@ -4,7 +4,7 @@ use Rattle.gd_prim.specs.declared.Primitive.{Primitive}
 use Rattle.gd_defs.specs.Template.{Template}
 use Rattle.gd_bytes.specs.Frozen.{IterAt, Frame, Scan}
 use Rattle.gd_runs.specs.Owed.{ScanOrder, Candidate}
-use Rattle.gd_scan_laws.specs.Ordered.{start}
+use Rattle.gd_match_laws.specs.PassedOn.{start}
 use Rattle.gd_match_laws.specs.Moves.{order_from, Runs}
 
 -- the scan of an order that has come to this position, with the weight and the frames of another one

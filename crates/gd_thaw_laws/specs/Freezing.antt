@@ -1,20 +1,20 @@
 -- A reading that went on from a position has one that fits.
-use Rattle.std.specs.Prelude.{◌≡◌, ◌≤◌, ℕ, ◌+◌, List, [], ◌∷◌, ◌++◌, length, true, false, Option, None}
+use Rattle.std.specs.Prelude.{◌≡◌, ◌≤◌, ℕ, ◌+◌, List, ◌++◌, length, true, false, Option, None}
 use Rattle.std.specs.List.{list_all}
 use Rattle.gd_prim.specs.declared.Primitive.{Primitive}
 use Rattle.gd_prim.specs.declared.Batch.{Batch}
-use Rattle.gd_tree.specs.Trees.{Trees, append, trees_of, list_of}
+use Rattle.gd_tree.specs.Trees.{Trees, append, trees_of}
 use Rattle.gd_defs.specs.Asked.{Asked}
 use Rattle.gd_defs.specs.Plan.{template_of}
 use Rattle.gd_defs.specs.Reply.{Mark}
 use Rattle.gd_defs.specs.Rows.{Row}
 use Rattle.gd_defs.specs.Template.{Template}
-use Rattle.gd_bytes.specs.Frozen.{Frame, Scan, scanning, building, Frozen}
+use Rattle.gd_bytes.specs.Frozen.{Scan, scanning, building, Frozen}
 use Rattle.gd_runs.specs.Core.{frozen_fits}
 use Rattle.gd_runs.specs.Request.{ReadRequest}
 use Rattle.gd_runs.specs.Owed.{ScanOrder, Candidate, MembersOf, iter_fits, tree_fits, scan_fits}
 use Rattle.gd_runs.specs.Thawed.{built_trees, thawed_reply}
-use Rattle.gd_runs.specs.Fitting.{row_fits, body_fits, fits}
+use Rattle.gd_runs.specs.Fitting.{row_fits, tried_count, body_fits, fits}
 use Rattle.gd_match_laws.specs.Moves.{Runs}
 use Rattle.gd_match_laws.specs.Rows.{rows_order}
 use Rattle.gd_window.specs.Kept.{Kept}
@@ -45,17 +45,12 @@ GoneFits = RowsTold → (prims : List Primitive) (members : MembersOf) (q : Aske
 abbrev pub GivenFit : Type 0
 GivenFit = (prims : List Primitive) (order : ScanOrder) (t : Template) (s m : Scan) (cs : List Candidate) → Runs prims order t s cs m → StackGrows prims t s.frames → list_all (tree_fits prims t) (built_trees cs) ≡ true
 
--- A reading that builds trees goes on to what fits, where its iterators stand in place and it does not have more trees than rows.
+-- A reading that builds trees of the rows of a page goes on to what fits, where its iterators stand in place and the one over the rows does not go back.
 abbrev pub BuildsFit : Type 0
-BuildsFit = (prims : List Primitive) (members : MembersOf) (q : Asked) (order : ScanOrder) (rows w v : ℕ) (ts : Trees) (s m : Scan) (cs : List Candidate) → q.count ≡ false
-    → body_fits prims members q rows (building w ts s) ≡ true → Runs prims order (template_of q) s cs m → length (list_of ts) + length (built_trees cs) ≤ rows
+BuildsFit = (prims : List Primitive) (members : MembersOf) (q : Asked) (page : List Row) (rows w v : ℕ) (ts : Trees) (s m : Scan) (cs : List Candidate) → q.count ≡ false
+    → body_fits prims members q rows (building w ts s) ≡ true → Runs prims (rows_order page) (template_of q) s cs m → s.iter.place ≤ m.iter.place
     → m.iter.place ≤ rows → m.iter.accepted ≡ None → StackPlaced prims members (template_of q) m.frames
     → body_fits prims members q rows (building v (append ts (trees_of (built_trees cs))) m) ≡ true
-
--- how many candidates frames try
-abbrev pub tried_count : List Frame → ℕ
-tried_count [] = 0
-tried_count (f ∷ fs) = 1
 
 -- Where a reading that builds trees has no more trees than rows before the one at which it stands, the row that it tries counted with them, it stays so: so it never has more trees than rows.
 abbrev pub BuildsFew : Type 0

@@ -11,7 +11,7 @@ use Rattle.gd_bytes.specs.Frozen.{Scan, Body, scanning}
 use Rattle.gd_runs.specs.Owed.{ScanOrder, Candidate, MembersOf, scan_fits, weighs_too_much}
 use Rattle.gd_runs.specs.Thawed.{window, answering, body_answer}
 use Rattle.gd_order_laws.specs.Window.{Rising}
-use Rattle.gd_scan_laws.specs.Ordered.{start}
+use Rattle.gd_match_laws.specs.PassedOn.{start}
 use Rattle.gd_match_laws.specs.Moves.{Runs}
 use Rattle.gd_window.specs.declared.row.Row.{Row}
 use Rattle.gd_window.specs.Kept.{Kept, HasSeen}

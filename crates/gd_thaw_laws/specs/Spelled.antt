@@ -1,5 +1,5 @@
 -- Frozen readings that fit have a text.
-use Rattle.std.specs.Prelude.{◌≡◌, ◌≤◌, ℕ, List, length, true}
+use Rattle.std.specs.Prelude.{◌≡◌, ◌≤◌, List, length, true}
 use Rattle.std.specs.List.{list_all}
 use Rattle.gd_prim.specs.Limits.{max_prims, max_requests}
 use Rattle.gd_prim.specs.declared.Primitive.{Primitive}
@@ -10,7 +10,7 @@ use Rattle.gd_runs.specs.Fitting.{fits}
 
 -- each iterator has one member
 abbrev pub one_member : MembersOf
-one_member = λ prims hop t. 1
+one_member prims hop t = 1
 
 -- the weights of a body, the places that it printed and its walks lie within the bounds of texts
 abbrev pub NumbersFit : Body → Type 0

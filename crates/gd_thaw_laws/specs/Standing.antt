@@ -8,19 +8,17 @@ use Rattle.gd_defs.specs.Query.{Query}
 use Rattle.gd_defs.specs.Asked.{Asked, asked_query}
 use Rattle.gd_defs.specs.Plan.{template_of}
 use Rattle.gd_defs.specs.Reply.{Mark, Answer, answer}
-use Rattle.gd_defs.specs.Template.{Template, passes_template}
-use Rattle.gd_bytes.specs.Frozen.{IterAt, Frame, Scan, Body, scanning, building, max_number}
+use Rattle.gd_defs.specs.Template.{passes_template}
+use Rattle.gd_bytes.specs.Frozen.{Frame, Scan, Body, scanning, building, max_number}
 use Rattle.gd_runs.specs.Owed.{ScanOrder, Candidate, iter_fits, weighs_too_much}
 use Rattle.gd_runs.specs.Scanned.{scan_order}
-use Rattle.gd_runs.specs.Thawed.{body_answer, built_trees, built_weight}
+use Rattle.gd_runs.specs.Thawed.{body_answer, built_trees}
 use Rattle.gd_runs.specs.Fitting.{row_fits, fits}
-use Rattle.gd_template_laws.specs.Laws.{AreHeld}
+use Rattle.gd_match_laws.specs.PassedOn.{AreHeld, start}
 use Rattle.gd_order_laws.specs.Window.{In, Apart, Rising}
-use Rattle.gd_scan_laws.specs.Ordered.{start}
 use Rattle.gd_match_laws.specs.Moves.{order_from, Runs}
-use Rattle.gd_match_laws.specs.Rows.{rows_order}
 use Rattle.gd_window.specs.Kept.{Kept}
-use Rattle.gd_suspended_laws.specs.Standing.{marks_of, page_rows, page_objects, trees_among, weight_among, IsKept, IsOrderOf, HasScanned, HasVisited}
+use Rattle.gd_suspended_laws.specs.Standing.{marks_of, page_objects, trees_among, weight_among, IsKept, HasScanned, HasVisited}
 use Rattle.gd_thaw_laws.specs.Grown.{StackPlaced}
 use Rattle.gd_thaw_laws.specs.Spelled.{one_member, NumbersFit}
 use Rattle.gd_thaw_laws.specs.Thawing.{between}

@@ -1,8 +1,7 @@
 -- Rounds of a reading.
-use Rattle.std.proofs.Common.{◌≡◌, ℕ, ◌+◌, ◌-◌, ◌^◌, ◌<◌, ◌≤◌, List, Result, Ok, Err, sym, subst, arith, true}
+use Rattle.std.proofs.Common.{◌≡◌, ℕ, ◌+◌, ◌-◌, ◌^◌, ◌<◌, ◌≤◌, List, Result, Ok, Err, subst, arith, true}
 use Rattle.std.specs.Prelude.{IfOk, min}
 use Rattle.std.specs.List.{list_any}
-use Rattle.std.proofs.lemmas.Result.{IfOk-weaker}
 use Rattle.gd_base.specs.Counts.{Rose}
 use Rattle.gd_base.specs.declared.memory.Memory.{Memory}
 use Rattle.gd_prim.specs.declared.Batch.{Batch}

@@ -1,20 +1,17 @@
 -- Sort keys that are looked for, one after another.
-use Rattle.std.proofs.Common.{◌≡◌, ◌∙◌, refl, sym, ap, subst, arith, add-one, ℕ, zero, suc, ◌+◌, ◌<◌, ◌≤◌, List, [], ◌∷◌, ◌++◌, Option, None, Some, length, map, take, drop, get_or, Vec, Global, true}
-use Rattle.std.specs.Prelude.{slice_get, IfSome, filter}
+use Rattle.std.proofs.Common.{◌≡◌, ◌∙◌, refl, sym, ap, subst, arith, add-one, ℕ, zero, suc, ◌+◌, ◌<◌, ◌≤◌, List, [], ◌∷◌, ◌++◌, Option, None, Some, length, map, take, get_or, Vec, Global}
+use Rattle.std.specs.Prelude.{slice_get, IfSome}
 use Rattle.std.proofs.lemmas.List.{take_all}
 use Rattle.gd_prim.specs.declared.Primitive.{Primitive}
-use Rattle.gd_defs.specs.Asked.{Asked, Key, by_guid, by_timestamp, by_property}
-use Rattle.gd_defs.specs.Asked as defs
-use Rattle.gd_defs.specs.Rows.{key_place, row_of}
+use Rattle.gd_defs.specs.Asked.{Key, by_guid, by_timestamp, by_property}
+use Rattle.gd_defs.specs.Rows.{key_place}
 use Rattle.gd_plan.specs.Asked.{asked_view}
 use Rattle.gd_plan.specs.declared.asked.Asked.{Asked as Found}
 use Rattle.gd_plan.specs.declared.asked.SortKey.{SortKey}
 use Rattle.gd_plan.specs.Seen.{sort_key_view}
 use Rattle.gd_suspended_laws.specs.Standing.{valued}
-use Rattle.gd_window.specs.Laws.{with_values}
 use Rattle.gd_window.specs.declared.keys.Key.{Key as Told}
-use Rattle.gd_window.specs.declared.row.Row.{Row}
-use Rattle.gd_thawed.specs.KeysAt.{HasLooked, key_at, own_key}
+use Rattle.gd_thawed.specs.KeysAt.{key_at, own_key}
 use Rattle.gd_thawed.specs.Keying.{HasLookedBy, HasLookedFor, HasKeys}
 use Rattle.gd_thawed.specs.declared.keying.Keying.{Keying}
 use Rattle.gd_thawed.proofs.KeyLinks.{first_answer, own_keys}

@@ -5,3 +5,7 @@ pub mod Scanned
 pub mod Built
 pub mod Printed
 pub mod Going
+pub mod Fits
+pub mod FromText
+pub mod Ends
+pub mod Frozen

@@ -6,3 +6,6 @@ pub mod Went
 pub mod Stages
 pub mod Rounds
 pub mod Query
+pub mod Thaw
+pub mod Freezing
+pub mod PassedOn

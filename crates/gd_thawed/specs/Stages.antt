@@ -1,38 +1,40 @@
 -- Where a reading stands that goes on from a frozen text: what it does, over the batches below its dateline, so that it owes an answer.
 use Rattle.std.specs.Prelude.{◌≡◌, ◌<◌, ◌≤◌, ℕ, List, [], ◌∷◌, map, length, true, false, Option, Some, None, Result, Ok, if◌then◌else◌}
-use Rattle.std.specs.List.{list_any}
+use Rattle.std.specs.List.{list_any, list_all}
 use Rattle.gd_prim.specs.declared.Batch.{Batch}
 use Rattle.gd_prim.specs.declared.Primitive.{Primitive}
 use Rattle.gd_prim.specs.History.{prims_of, AreHeld}
+use Rattle.gd_prim.specs.Limits.{max_requests}
 use Rattle.gd_grammar.specs.Mark.{Mark}
 use Rattle.gd_tree.specs.Json.{Json}
 use Rattle.gd_tree.specs.Trees.{Trees, no_trees, trees_of, list_of}
 use Rattle.gd_defs.specs.Asked.{Asked}
 use Rattle.gd_defs.specs.Plan.{template_of}
-use Rattle.gd_defs.specs.Template.{Hop, Template}
 use Rattle.gd_defs.specs.Lines.{count_json}
 use Rattle.gd_defs.specs.Reply.{mark_row, Answer, Path}
-use Rattle.gd_bytes.specs.Frozen.{Scan, Body, Walk, scanning, building, printing}
-use Rattle.gd_runs.specs.Owed.{ScanOrder, Candidate, MembersOf, scan_fits, weighs_too_much}
+use Rattle.gd_bytes.specs.Frozen.{Scan, Body, Walk, scanning, building, printing, after_in_bounds}
+use Rattle.gd_runs.specs.Owed.{ScanOrder, Candidate, scan_fits, weighs_too_much}
+use Rattle.gd_runs.specs.Fitting.{row_fits}
 use Rattle.gd_runs.specs.Scanned.{scan_order}
 use Rattle.gd_runs.specs.Shape.{page_shape}
 use Rattle.gd_runs.specs.Thawed.{window, answering, body_answer}
 use Rattle.gd_scan_laws.specs.Ordered.{start}
 use Rattle.gd_match_laws.specs.Moves.{Runs}
 use Rattle.gd_match_laws.specs.Rows.{rows_order}
-use Rattle.gd_match.specs.Matched.{stands, order_of, IsOver}
-use Rattle.gd_match.specs.declared.matcher.Matcher.{Matcher}
+use Rattle.gd_roots.specs.PassedOn.{StandsIn, stands, order_of, IsOver, Matcher}
 use Rattle.gd_plan.specs.Asked.{asked_view}
 use Rattle.gd_plan.specs.declared.asked.Asked.{Asked as Found}
 use Rattle.gd_trees.specs.View.{view as tree_view, trees_view}
 use Rattle.gd_window.specs.Kept.{Kept}
 use Rattle.gd_suspended_laws.specs.Standing.{rows_of, marks_of, page_rows, window_of}
 use Rattle.gd_thaw_laws.specs.Gone.{HasGone}
+use Rattle.gd_thaw_laws.specs.Spelled.{one_member}
+use Rattle.gd_thaw_laws.specs.Standing.{ScansAlike}
 use Rattle.gd_shape.specs.Shaping.{page_of, body_print, IsOf}
 use Rattle.gd_shape.specs.declared.shape.PageBody.{PageBody}
 use Rattle.gd_shape.specs.declared.shape.PageBody.TheVariants as page
 use Rattle.gd_thawed.specs.Keying.{HasKeys}
-use Rattle.gd_thawed.specs.Subject.{after_of}
+use Rattle.gd_thawed.specs.Subject.{asked_by, after_of}
 use Rattle.gd_thawed.specs.declared.subject.Subject.{Subject}
 use Rattle.gd_thawed.specs.declared.keying.Keying.{Keying}
 use Rattle.gd_thawed.specs.declared.scanning.Scanning.{Scanning}
@@ -41,13 +43,17 @@ use Rattle.gd_thawed.specs.declared.printing.Printing.{Printing}
 use Rattle.gd_thawed.specs.declared.stage.Stage.{Stage}
 use Rattle.gd_thawed.specs.declared.stage.Stage.TheVariants as stage
 
--- this is asked, with few sort keys and a limit, over the batches below the dateline of a reading, within the limits of a store
+-- this is what a reading asks, with few sort keys and a limit, over the batches below its dateline, within the limits of a store; its dateline and the row after which its page begins can be spelt
 pub record IsAsked (batches : List Batch) (s : Subject) (q : Asked) : Type 0 where
+  pub asked : asked_by s ≡ q
   pub below : length batches ≡ s.dateline
   pub held : AreHeld (prims_of batches)
   pub end : length (prims_of batches) ≤ 2_097_151
   pub few : length q.sort ≤ 4
   pub some : 0 < q.limit
+  pub most : q.limit ≤ 1000
+  pub dateline : s.dateline ≤ max_requests
+  pub mark : after_in_bounds (after_of s.after) ≡ true
 
 -- what a body owes that scans in an order, with marks of rows that are kept
 abbrev pub kept_owes : List Batch → Subject → Asked → ScanOrder → List Mark → Body → Answer
@@ -59,27 +65,31 @@ body_owes batches s q w body = kept_owes batches s q (scan_order (prims_of batch
 
 -- ---- scanning
 
--- each iterator has one member
-abbrev pub one_member : MembersOf
-one_member prims hop t = 1
-
 -- the order in which a matcher scans for a query
 abbrev pub order_for : List Batch → Found → Matcher → ScanOrder
 order_for batches plan m = order_of batches (template_of (asked_view plan)) m
 
--- a reading has gone on from kept rows and a position that fits, where it owed this, to a position and a window
+-- a reading has gone on from kept rows and a position that fit, where it owed this, to a position and a window
 pub record HasComeFrom (batches : List Batch) (owed : Answer) (s : Subject) (q : Asked) (order : ScanOrder) (at : Scan) (w : Kept) : Type 0 where
   pub kept : List Mark
   pub from : Scan
+  pub rows : list_all (row_fits (prims_of batches) q) kept ≡ true
   pub fits : scan_fits (prims_of batches) one_member (template_of q) from ≡ true
   pub gone : HasGone (prims_of batches) q (after_of s.after) order kept from at w
   pub owes : kept_owes batches s q order kept (scanning from) ≡ owed
+
+-- where a matcher stands can be told in a text: in place in an order that scans a query as the definitions do
+pub record CanFreeze (batches : List Batch) (q : Asked) (m : Matcher) : Type 0 where
+  pub inside : StandsIn (length (prims_of batches)) batches (template_of q) m
+  pub weight : m.weight ≤ 4_294_967_295
+  pub alike : ScansAlike (prims_of batches) q (order_of batches (template_of q) m)
 
 -- a reading scans, and has come to where its matcher stands
 pub record Scans (batches : List Batch) (owed : Answer) (s : Subject) (plan : Found) (m : Matcher) (w : Kept) : Type 0 where
   pub asked : IsAsked batches s (asked_view plan)
   pub over : IsOver batches (template_of (asked_view plan)) m
   pub come : HasComeFrom batches owed s (asked_view plan) (order_for batches plan m) (stands m) w
+  pub told : CanFreeze batches (asked_view plan) m
 
 -- a reading scans, and its matcher has given a candidate that answers, whose row is not offered yet; its sort keys are looked for
 pub record LooksForKeys (batches : List Batch) (owed : Answer) (s : Subject) (plan : Found) (m : Matcher) (k : Keying) (w : Kept) : Type 0 where
@@ -92,6 +102,7 @@ pub record LooksForKeys (batches : List Batch) (owed : Answer) (s : Subject) (pl
   pub light : list_any weighs_too_much given ≡ false
   pub objects : answering given ≡ k.object ∷ []
   pub keys : HasKeys (prims_of batches) plan.sort.items k
+  pub told : CanFreeze batches (asked_view plan) m
 
 -- ---- the end of a scan
 

@@ -15,7 +15,7 @@ use gd_window::row::Row;
 use std::alloc::Global;
 
 /// The places of keys.
-fn places_of(keys: &[Key]) -> Places
+pub(crate) fn places_of(keys: &[Key]) -> Places
     requires { length keys.now ≤ 4 }
     ensures { result ≡ places keys.now }
 {

@@ -1,6 +1,7 @@
 //! Readings that print their page.
-ghost use Rattle.std.specs.Prelude.{◌≡◌, ◌+◌, ◌<◌, ◌≤◌, [], Some, None, false, map, length, take};
+ghost use Rattle.std.specs.Prelude.{◌≡◌, ◌+◌, ◌<◌, ◌≤◌, [], List, Some, None, false, map, length, take};
 ghost use Rattle.std.specs.Prelude.{nat_lt, option_map, if◌then◌else◌, Result, Err, IfOk, codes};
+ghost use Rattle.gd_prim.specs.declared.Batch.{Batch};
 ghost use Rattle.gd_tree.specs.Json.{Json as Value};
 ghost use Rattle.gd_defs.specs.Lines.{refused_at};
 ghost use Rattle.gd_defs.specs.Reply as reply;
@@ -10,7 +11,18 @@ ghost use Rattle.gd_thawed.specs.Marked.{printed_view};
 ghost use Rattle.gd_window.specs.Laws.{defined};
 ghost use Rattle.gd_suspended_laws.specs.Standing.{rows_of, page_rows};
 ghost use Rattle.gd_reply.specs.Answers.{Tells};
-ghost use Rattle.gd_thawed.specs.Stages.{Prints, IsBuilt};
+ghost use Rattle.gd_window.specs.Kept.{Kept};
+ghost use Rattle.gd_thawed.specs.declared.subject.Subject.{Subject as TheSubject};
+ghost use Rattle.gd_thawed.specs.Stages.{IsAsked, Prints, IsBuilt, StageOwes, kept_owes};
+ghost use Rattle.gd_thawed.specs.Thaw.{HasKept};
+ghost use Rattle.gd_grammar.specs.Mark.{Mark};
+ghost use Rattle.gd_prim.specs.History.{prims_of};
+ghost use Rattle.gd_tree.specs.Trees.{Trees as Listed, trees_count};
+ghost use Rattle.gd_bytes.specs.Frozen.{printing};
+ghost use Rattle.gd_frozen.specs.Meaning.{walk_of};
+ghost use Rattle.gd_plan.specs.Asked.{asked_view};
+ghost use Rattle.gd_runs.specs.Scanned.{scan_order};
+ghost use Rattle.gd_trees.specs.View.{trees_view};
 ghost use Rattle.gd_thawed.specs.Rounds.{RoundGives, RoundGoes};
 ghost use Rattle.gd_shape.specs.Outcome.{text_of};
 
@@ -21,12 +33,14 @@ use crate::subject::Subject;
 use gd_base::memory::Memory;
 use gd_base::steps::Steps;
 use gd_fault::fault::Path;
+use gd_frozen::frozen::Walk;
 use gd_json::value::Json;
 use gd_plan::plan::Plan;
 use gd_reply::answer::Answer;
 use gd_reply::refusal::Refusal;
 use gd_shape::shape::{PageBody, Shape, ShapeFault, ShapeTurn};
 use gd_store::view::View;
+use gd_trees::tree::Trees;
 use gd_window::row::Row;
 use gd_window::window::Window;
 use std::alloc::Global;
@@ -54,6 +68,41 @@ fn are_many(single: bool, window: &Window) -> bool
     single && window.rows().len() > 1
 }
 
+/// What a reading does that begins to print a page from a body.
+pub(crate) fn page_stage(alloc: Global, plan: Plan, body: PageBody) -> Result<Stage, Memory>
+    ensures { (batches : List Batch) (owed : TheAnswer) (s : TheSubject) (w : Kept)
+        → IsBuilt batches owed s plan body w
+        → IfOk result (λ stage. StageOwes batches owed s stage w) }
+{
+    let single = plan.asked().single;
+    let shape = Shape::start(alloc, plan.into_asked(), body)?;
+    Ok(Stage::Printing(Printing { shape, single }))
+}
+
+/// What a reading does that goes on printing from trees of which so many places were counted, whose
+/// first ids are spelt by walks.
+pub(crate) fn stage_at(
+    alloc: Global,
+    plan: Plan,
+    trees: Trees,
+    printed: u32,
+    walks: Vec<Walk>,
+) -> Result<Stage, Memory>
+    requires listed { (asked_view plan).count ≡ false }
+    requires places { printed ≤ trees_count (trees_view trees) }
+    ensures { (batches : List Batch) (s : TheSubject) (w : Kept) (kept : List Mark) (ts : Listed)
+        → IsAsked batches s (asked_view plan)
+        → HasKept (prims_of batches) (asked_view plan) s kept w → trees_view trees ≡ ts
+        → IfOk result (λ stage. StageOwes batches (kept_owes batches s (asked_view plan)
+        (scan_order (prims_of batches) (asked_view plan)) kept
+        (printing printed ts (map walk_of walks.items))) s stage w) }
+{
+    let single = plan.asked().single;
+    let body = PageBody::Trees(trees);
+    let shape = Shape::start_at(alloc, plan.into_asked(), body, printed, walks)?;
+    Ok(Stage::Printing(Printing { shape, single }))
+}
+
 /// Begins to print a page from a body.
 pub(crate) fn print_page(
     alloc: Global,
@@ -66,9 +115,7 @@ pub(crate) fn print_page(
     ensures { (owed : TheAnswer) → IsBuilt view.now owed subject.now plan body window.now
         → IfOk result (λ round. RoundGives view.now owed subject.now window.now round) }
 {
-    let single = plan.asked().single;
-    let shape = Shape::start(alloc, plan.into_asked(), body)?;
-    Ok(Round::Going(Stage::Printing(Printing { shape, single })))
+    Ok(Round::Going(page_stage(alloc, plan, body)?))
 }
 
 /// The cursor of a page, of the rows that are kept: it marks the last row, and is false where no

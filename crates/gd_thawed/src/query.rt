@@ -29,9 +29,9 @@ pub enum Turn {
 /// one that its text owed (`owed_by_text`), and always the same.
 #[derive(Drop)]
 pub struct ThawedQuery {
-    subject: Subject,
-    window: Window,
-    stage: Stage,
+    pub(crate) subject: Subject,
+    pub(crate) window: Window,
+    pub(crate) stage: Stage,
 }
 
 impl ThawedQuery {

@@ -3,11 +3,10 @@ use Rattle.std.proofs.Common.{◌≡◌, refl, ℕ, Bool, List, [], Option, Some
 use Rattle.logbook.specs.Pages.{Book}
 use Rattle.gd_prim.specs.declared.Batch.{Batch}
 use Rattle.gd_shared.specs.Shared.{SeatValue, IsNewSeat}
-use Rattle.gd_seats.specs.Session.{SessionValue}
+use Rattle.gd_crew.specs.PassedOn.{SessionValue, SideValue, Begins}
 use Rattle.gd_runs.specs.Legal.{Entry}
 use Rattle.gd_runs.specs.Explained.{entry_at}
 use Rattle.gd_runs.proofs.Rounds.{no_some, slot}
-use Rattle.gd_writer.specs.Side.{SideValue, Begins}
 use Rattle.gd_round_lines.specs.Fresh.{IsFreshFrom}
 use Rattle.gd_crew.specs.Ready.{IsIdle}
 

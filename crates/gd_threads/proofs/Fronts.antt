@@ -9,8 +9,7 @@ use Rattle.gd_runs.specs.Side.{kept_doubt}
 use Rattle.gd_core_laws.specs.Bounds.{kept_of}
 use Rattle.gd_core_laws.specs.Fronts.{StandsForFront, MayCount, StandsBetween, GrowsTold}
 use Rattle.gd_core_laws.proofs.Fronts.{begins_itself, front_more, front_whole, between_more, between_before}
-use Rattle.gd_writer.specs.Parts.{Tells}
-use Rattle.gd_writer.specs.Side.{SideValue, KeepsAll}
+use Rattle.gd_crew.specs.PassedOn.{Tells, SideValue, KeepsAll}
 use Rattle.gd_crew.specs.Round.{LeavesSince}
 use Rattle.gd_round_lines.specs.declared.work.Works.{Works}
 use Rattle.gd_round_lines.specs.Works.{AreWithin, IsWriteWithin}

@@ -9,8 +9,7 @@ use Rattle.gd_runs.specs.Side.{Kept, Told, told_of, WriteLine, WriteKeeps, store
 use Rattle.gd_core_laws.specs.Writes.{CallerWrites}
 use Rattle.gd_cache.specs.Shown.{Shown}
 use Rattle.gd_cache.proofs.Answered.{kept_later}
-use Rattle.gd_lookup.specs.Keeping.{AllRight}
-use Rattle.gd_writer.specs.Side.{SideValue, state_of}
+use Rattle.gd_crew.specs.PassedOn.{AllRight, SideValue, state_of}
 use Rattle.gd_round_lines.specs.declared.work.Works.{Works}
 use Rattle.gd_round_lines.specs.Works.{write_of}
 use Rattle.gd_threads.specs.Working.{ShowsMore, RunsWrites}

@@ -7,3 +7,4 @@ pub mod Served
 pub mod Sides
 pub mod Stopped
 pub mod Kept
+pub mod PassedOn

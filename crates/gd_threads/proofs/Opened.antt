@@ -7,7 +7,7 @@ use Rattle.gd_disk.specs.Runs.{leaves_start}
 use Rattle.gd_journal.specs.declared.fault.JournalFault.TheVariants.{Memory}
 use Rattle.gd_log.specs.Opening.{MeansOneOf, Refuses}
 use Rattle.gd_runs.proofs.Rounds.{some_same}
-use Rattle.gd_writer.specs.Opened.{Opens}
+use Rattle.gd_crew.specs.PassedOn.{Opens}
 
 module _ {D : Type 0} (content : D → Option (List ℕ)) (moment : D → ℕ) (images : D → List ℕ → Type 0) (images_since : D → ℕ → List ℕ → Type 0) (faults : D → ℕ) where
   -- the disk is as it was

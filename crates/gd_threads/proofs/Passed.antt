@@ -4,7 +4,7 @@ use Rattle.gd_input.specs.declared.line.RoundLine.{RoundLine}
 use Rattle.gd_input.specs.Rounds.{AreKept, in_round}
 use Rattle.gd_runs.specs.Explained.{Run, memory_line}
 use Rattle.gd_core_laws.specs.Threads.{RoundServed}
-use Rattle.gd_writer.specs.Side.{SideValue, state_of, StandsForSide}
+use Rattle.gd_crew.specs.PassedOn.{SideValue, state_of, StandsForSide, KeepingValue, reader_of, is_answered, CountsLines}
 use Rattle.gd_caller.specs.Served.{printed}
 use Rattle.gd_round_lines.specs.Replies.{no_memory}
 use Rattle.gd_caller.proofs.JoinedRounds.{round_passed}
@@ -13,8 +13,6 @@ use Rattle.gd_round_lines.proofs.Read.{count_is}
 use Rattle.gd_threads.specs.Served.{RoundsValue}
 use Rattle.gd_threads.specs.Rounds.{Serves, StandsForRound, AnswersRound}
 use Rattle.gd_threads.specs.Working.{KeepsNow}
-use Rattle.gd_lookup.specs.Keeping.{KeepingValue}
-use Rattle.gd_lookup.specs.Calls.{reader_of, is_answered, CountsLines}
 use Rattle.gd_threads.proofs.Fronts.{at_line, fronts_none}
 use Rattle.gd_threads.proofs.Served.{texts_in, all_of, no_sessions}
 use Rattle.gd_threads.proofs.Stopped.{stands_before}

@@ -13,8 +13,7 @@ use Rattle.gd_runs.proofs.Rounds.{no_some, some_same}
 use Rattle.gd_core_laws.specs.Round.{begun_at, write_lines}
 use Rattle.gd_core_laws.specs.Writes.{CallerWrites}
 use Rattle.gd_core_laws.proofs.Prefix.{callers_pass}
-use Rattle.gd_writer.specs.Parts.{Tells}
-use Rattle.gd_writer.specs.Side.{SideValue, state_of}
+use Rattle.gd_crew.specs.PassedOn.{Tells, SideValue, state_of, KeepingValue, CountsLines}
 use Rattle.gd_crew.specs.Round.{most, LeavesSince}
 use Rattle.gd_round_lines.specs.declared.work.Works.{Works}
 use Rattle.gd_caller.specs.Served.{AreOf}
@@ -30,8 +29,6 @@ use Rattle.gd_crew.specs.Joined.{begun_by}
 use Rattle.gd_threads.specs.Served.{RoundsValue}
 use Rattle.gd_threads.specs.Rounds.{Serves, StandsForRound, StandsForRoundFront, AnswersRound}
 use Rattle.gd_threads.specs.Working.{ShowsMore, RunsWrites}
-use Rattle.gd_lookup.specs.Keeping.{KeepingValue}
-use Rattle.gd_lookup.specs.Calls.{CountsLines}
 use Rattle.gd_threads.proofs.Fronts.{at_line, fronts_run, round_front}
 use Rattle.gd_threads.proofs.Loaded.{callers_loaded}
 use Rattle.gd_threads.proofs.Sides.{locked_for, stands_for}

@@ -14,8 +14,7 @@ use Rattle.gd_core_laws.specs.Writes.{AreNew}
 use Rattle.gd_core_laws.proofs.WriteLines.{line_there}
 use Rattle.gd_core_laws.proofs.Fronts.{grows_none, between_last}
 use Rattle.gd_core_laws.proofs.LockRun.{lock_starts}
-use Rattle.gd_writer.specs.Parts.{Tells}
-use Rattle.gd_writer.specs.Side.{SideValue, KeepsAll, StandsForSide}
+use Rattle.gd_crew.specs.PassedOn.{Tells, SideValue, KeepsAll, StandsForSide}
 use Rattle.gd_crew.specs.Round.{most, StandsInRound}
 use Rattle.gd_round_lines.specs.declared.work.WriteLine.{WriteLine}
 use Rattle.gd_round_lines.specs.declared.work.Works.{Works}

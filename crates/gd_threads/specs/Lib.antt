@@ -1,3 +1,4 @@
 pub mod Served
 pub mod Rounds
 pub mod Working
+pub mod PassedOn

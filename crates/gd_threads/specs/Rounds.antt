@@ -9,11 +9,10 @@ use Rattle.gd_runs.specs.Explained.{Numbered, Run, fault_count, disk_line}
 use Rattle.gd_core_laws.specs.Fronts.{StandsForFront}
 use Rattle.gd_core_laws.specs.Round.{StandsAt}
 use Rattle.gd_core_laws.specs.Threads.{RoundServed}
-use Rattle.gd_writer.specs.Parts.{Tells}
+use Rattle.gd_crew.specs.PassedOn.{Tells, CountsLines}
 use Rattle.gd_crew.specs.Round.{LeavesSince}
 use Rattle.gd_caller.specs.Served.{printed, StandsServed}
 use Rattle.gd_caller.specs.Writes.{RoseBy}
-use Rattle.gd_lookup.specs.Calls.{CountsLines}
 use Rattle.gd_threads.specs.Served.{RoundsValue, state_at}
 
 -- whichever lines came before, and however these were read, the round of them is served with these replies

@@ -3,9 +3,7 @@ use Rattle.std.specs.Prelude.{◌≡◌, ℕ, ◌<◌, ◌≤◌, [], length, ve
 use Rattle.std.specs.Global.{Vec}
 use Rattle.std.specs.List.{All}
 use Rattle.gd_runs.specs.Core.{State, opened}
-use Rattle.gd_lookup.specs.Keeping.{KeepingValue, AllRight}
-use Rattle.gd_seats.specs.Session.{SessionValue}
-use Rattle.gd_writer.specs.Side.{SideValue, state_of}
+use Rattle.gd_crew.specs.PassedOn.{KeepingValue, AllRight, SessionValue, SideValue, state_of}
 use Rattle.gd_round_lines.specs.Fresh.{IsFreshFrom}
 use Rattle.gd_crew.specs.Ready.{IsIdle}
 

@@ -3,7 +3,7 @@ use Rattle.std.specs.Prelude.{◌≡◌, ◌⊎◌, ℕ, ◌≤◌, List, length
 use Rattle.gd_prim.specs.declared.Batch.{Batch}
 use Rattle.gd_runs.specs.Legal.{size}
 use Rattle.gd_runs.specs.Side.{KeepsHistory}
-use Rattle.gd_writer.specs.Side.{SideValue, KeepsAll}
+use Rattle.gd_crew.specs.PassedOn.{SideValue, KeepsAll}
 use Rattle.gd_round_lines.specs.declared.work.Works.{Works}
 use Rattle.gd_round_lines.specs.Works.{write_of}
 use Rattle.gd_caller.specs.Writes.{WritesLeft}

@@ -2,5 +2,7 @@
 //! their caller what is left.
 #![tactic(auto)]
 
+pub use gd_crew::Keeping;
+
 pub mod rounds;
 mod working;

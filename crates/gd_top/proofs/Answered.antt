@@ -5,7 +5,7 @@ use Rattle.gd_input.specs.declared.line.RoundLine.{RoundLine}
 use Rattle.gd_input.specs.declared.line.RoundLine.TheVariants.{Bytes, TooLong}
 use Rattle.gd_input.specs.Line.{IsShort}
 use Rattle.gd_input.specs.Rounds.{AreKept}
-use Rattle.gd_lookup.proofs.Calls.{caches_stay}
+use Rattle.gd_threads.proofs.PassedOn.{caches_stay}
 use Rattle.gd_threads.specs.Served.{RoundsValue, state_at}
 use Rattle.gd_threads.specs.Rounds.{AnswersRound, CountsRound}
 use Rattle.gd_top.specs.Answered.{Answered}

@@ -8,10 +8,8 @@ use Rattle.gd_prim.specs.declared.Batch.{Batch}
 use Rattle.gd_runs.specs.Legal.{History}
 use Rattle.gd_runs.specs.Explained.{Numbered, Run, lines_of}
 use Rattle.gd_cache.specs.Shown.{Shown}
-use Rattle.gd_lookup.specs.Keeping.{KeepingValue}
-use Rattle.gd_lookup.specs.Calls.{AreCounts}
-use Rattle.gd_lookup.specs.Laws.{none_kept, first_kept}
-use Rattle.gd_lookup.proofs.Calls.{counts_are}
+use Rattle.gd_threads.specs.PassedOn.{KeepingValue, AreCounts, none_kept, first_kept}
+use Rattle.gd_threads.proofs.PassedOn.{counts_are}
 use Rattle.gd_round_lines.specs.Works.{texts_of}
 use Rattle.gd_top.specs.declared.status.Status.{Status}
 use Rattle.gd_top.specs.declared.status.Status.TheVariants as status

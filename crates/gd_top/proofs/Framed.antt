@@ -40,11 +40,11 @@ module _ (s : Status) (may : ℕ → Bool) (idle idle' : Type 0) (still : idle �
   printed_weaker (caches n) told kept images fewer rises further same to rose p =
       counted_weaker n may (Loads told) (Loads kept) (Leaves may told images) (Leaves may kept fewer) rises further
       (loads_same kept told same) (leaves_same may kept told images fewer same to) rose s idle idle' left now old new still p
-  printed_weaker replays told kept images fewer rises further same to rose p = λ members.
+  printed_weaker replays told kept images fewer rises further same to rose p =
       let before : IsTrue (is_some kept) → IsTrue (is_some told) = λ tells. subst (λ (t : Option (List ℕ)). IsTrue (is_some t)) (sym same) tells in
-      subst (λ (b : Bool). PrintsEvents s b members may (Loads kept) (λ t. IsTrue (is_some kept) → LeavesEvents fewer t) further idle' left old new) (ap (λ (t : Option (List ℕ)). is_some t) same)
-      (events_weaker (is_some told) members may (Loads told) (Loads kept) (λ t. IsTrue (is_some told) → LeavesEvents images t) (λ t. IsTrue (is_some kept) → LeavesEvents fewer t) rises further
-      (loads_same kept told same) (λ t leaves tells file is. leaves (before tells) file (to file is)) rose s idle idle' left old new still (p members))
+      subst (λ (b : Bool). PrintsEvents s b may (Loads kept) (λ t. IsTrue (is_some kept) → LeavesEvents fewer t) further idle' left old new) (ap (λ (t : Option (List ℕ)). is_some t) same)
+      (events_weaker (is_some told) may (Loads told) (Loads kept) (λ t. IsTrue (is_some told) → LeavesEvents images t) (λ t. IsTrue (is_some kept) → LeavesEvents fewer t) rises further
+      (loads_same kept told same) (λ t leaves tells file is. leaves (before tells) file (to file is)) rose s idle idle' left old new still p)
   printed_weaker (dumps from) told kept images fewer rises further same to rose p = dump_weaker (Loads told) (Loads kept) (loads_same kept told same) from old new s idle idle' still p
   printed_weaker restores told kept images fewer rises further same to rose p =
       let before : IsTrue (is_some kept) → IsTrue (is_some told) = λ tells. subst (λ (t : Option (List ℕ)). IsTrue (is_some t)) (sym same) tells in
@@ -75,9 +75,9 @@ module _ (s : Status) (may : ℕ → Bool) (idle idle' : Type 0) (still : idle �
   printed_in_memory (caches n) content images p =
       counted_weaker n may (Loads (Some [])) (BeginsWith content None) (Leaves may (Some []) (λ c. ⊥)) (EndsWith may content images None) (RoseBy 0 0) (λ n. n ≡ 0)
       (empty_loads (Some []) refl) (λ h runs stands. tt) rose_nowhere s idle idle' left now old new still p
-  printed_in_memory replays content images p = λ members.
-      events_weaker true members may (Loads (Some [])) (BeginsWith content None) (λ t. IsTrue true → LeavesEvents (λ c. ⊥) t) (LeavesAt content images None) (RoseBy 0 0) (λ n. n ≡ 0)
-      (empty_loads (Some []) refl) (λ t leaves. tt) rose_nowhere s idle idle' left old new still (p members)
+  printed_in_memory replays content images p =
+      events_weaker true may (Loads (Some [])) (BeginsWith content None) (λ t. IsTrue true → LeavesEvents (λ c. ⊥) t) (LeavesAt content images None) (RoseBy 0 0) (λ n. n ≡ 0)
+      (empty_loads (Some []) refl) (λ t leaves. tt) rose_nowhere s idle idle' left old new still p
   printed_in_memory (dumps from) content images p = dump_weaker (Loads (Some [])) (BeginsWith content None) (empty_loads (Some []) refl) from old new s idle idle' still p
   printed_in_memory restores content images p =
       restores_weaker (Loads (Some [])) (BeginsWith content None) (LeavesBatches (Some []) (λ c. ⊥)) (LeavesBatchesAt content images None) (empty_loads (Some []) refl) (λ after groups leaves. tt) s idle idle' left still p
@@ -127,7 +127,7 @@ module _ (may : ℕ → Bool) (rises : ℕ → Type 0) (idle : Type 0) (left now
   pub printed_refused : (v : Verb) (f : ShelfFault) (told : Option (List ℕ)) (images : List ℕ → Type 0) → idle → PrintsOver v (status_of_shelf f) may told images rises idle left now old new
   printed_refused serves f told images i = shelf_lines (Loads told) (Leaves may told images) f i
   printed_refused (caches n) f told images i = shelf_counted n (Loads told) (Leaves may told images) f i
-  printed_refused replays f told images i = λ members. shelf_prints (is_some told) members may (Loads told) (λ t. IsTrue (is_some told) → LeavesEvents images t) rises idle left old new f i
+  printed_refused replays f told images i = shelf_prints (is_some told) may (Loads told) (λ t. IsTrue (is_some told) → LeavesEvents images t) rises idle left old new f i
   printed_refused (dumps from) f told images i = shelf_dumps (Loads told) idle from old new f i
   printed_refused restores f told images i = shelf_restores (Loads told) (LeavesBatches told images) idle left f i
   printed_refused follows f told images i = shelf_node (Loads told) (LeavesNode told images) rises idle left old new f i
@@ -142,7 +142,7 @@ module _ (may : ℕ → Bool) (rises : ℕ → Type 0) (idle : Type 0) (left now
   pub printed_no_words : (v : Verb) (content : List ℕ → Option (List ℕ)) (images : List ℕ → List ℕ → Type 0) (path : Option (List ℕ)) → idle → PrintsAt v status.Memory may content images path rises idle left now old new
   printed_no_words serves content images path i = shelf_lines (BeginsWith content path) (EndsWith may content images path) shelf.Memory i
   printed_no_words (caches n) content images path i = shelf_counted n (BeginsWith content path) (EndsWith may content images path) shelf.Memory i
-  printed_no_words replays content images path i = λ members. shelf_prints (is_told_at content path) members may (BeginsWith content path) (LeavesAt content images path) rises idle left old new shelf.Memory i
+  printed_no_words replays content images path i = shelf_prints (is_told_at content path) may (BeginsWith content path) (LeavesAt content images path) rises idle left old new shelf.Memory i
   printed_no_words (dumps from) content images path i = shelf_dumps (BeginsWith content path) idle from old new shelf.Memory i
   printed_no_words restores content images path i = shelf_restores (BeginsWith content path) (LeavesBatchesAt content images path) idle left shelf.Memory i
   printed_no_words follows content images path i = shelf_node (BeginsWith content path) (LeavesNodeAt content images path) rises idle left old new shelf.Memory i

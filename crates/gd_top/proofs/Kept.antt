@@ -9,8 +9,7 @@ use Rattle.gd_runs.proofs.Rounds.{some_same}
 use Rattle.gd_runs.specs.Legal.{Entry, batches}
 use Rattle.gd_runs.specs.Core.{State}
 use Rattle.gd_log.specs.Opening.{IsReadSame, IsKept}
-use Rattle.gd_writer.specs.Parts.{Tells}
-use Rattle.gd_caller.specs.Served.{StandsForState}
+use Rattle.gd_threads.specs.PassedOn.{Tells, StandsForState}
 use Rattle.gd_top.proofs.Settled.{told_on, some_tells}
 use Rattle.gd_top.specs.Kept.{IsLeft, KeepsFile, Keeps, StaysTold, StaysAt}
 

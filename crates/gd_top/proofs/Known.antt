@@ -21,7 +21,7 @@ use Rattle.gd_top.specs.declared.stop.Stop.TheVariants as stop
 use Rattle.gd_top.specs.Stops.{stop_of}
 use Rattle.gd_top.specs.Opened.{HoldsAs, IsAtStart}
 use Rattle.gd_top.specs.Answered.{Answers, AnswersFront, ServedUpto}
-use Rattle.gd_lookup.specs.Keeping.{KeepingValue}
+use Rattle.gd_threads.specs.PassedOn.{KeepingValue}
 use Rattle.gd_top.specs.Counted.{ServesKeeping}
 use Rattle.gd_top.specs.Serves.{ServesFront, ServesRounds}
 use Rattle.gd_top.proofs.Served.{served_none, served_more, served_all, served_rounds, front_of_rounds, front_in_round}

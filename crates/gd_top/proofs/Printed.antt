@@ -9,7 +9,7 @@ use Rattle.gd_runs.proofs.Rounds.{some_same, no_some}
 use Rattle.gd_reply.specs.declared.reply.Reply.{Reply}
 use Rattle.gd_reply.specs.Replies.{reply_text}
 use Rattle.gd_round_lines.specs.Replies.{no_memory}
-use Rattle.gd_caller.specs.Served.{printed}
+use Rattle.gd_threads.specs.PassedOn.{printed}
 use Rattle.gd_outside.specs.Gains.{GainsFront}
 use Rattle.gd_outside.proofs.Fronts.{front_first, front_second}
 

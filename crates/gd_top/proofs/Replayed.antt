@@ -10,7 +10,6 @@ use Rattle.gd_journal.specs.declared.fault.JournalFault.{JournalFault}
 use Rattle.gd_journal.specs.declared.fault.JournalFault.TheVariants as journal
 use Rattle.gd_log.specs.Opening.{IsKept, Refuses}
 use Rattle.gd_runs.specs.Core.{State}
-use Rattle.gd_runs.specs.Owed.{MembersOf}
 use Rattle.gd_runs.specs.Explained.{Numbered, lines_of}
 use Rattle.gd_runs.proofs.Rounds.{some_same}
 use Rattle.gd_replay.specs.declared.stop.Stop.{Stop}
@@ -38,64 +37,64 @@ lost_faults journal.Memory = refl
 
 -- ---- what was printed
 
-module _ (told : Bool) (members : MembersOf) (may : ℕ → Bool) (begins begins' : List Batch → Type 0) (leaves leaves' : State → Type 0) (rises rises' : ℕ → Type 0)
+module _ (told : Bool) (may : ℕ → Bool) (begins begins' : List Batch → Type 0) (leaves leaves' : State → Type 0) (rises rises' : ℕ → Type 0)
     (begun : (loaded : List Batch) → begins loaded → begins' loaded) (left : (s : State) → leaves s → leaves' s) (rose : (n : ℕ) → rises n → rises' n) where
-  accounts : (given : List Numbered) (output : List ℕ) → Accounts told members may begins leaves rises given output → Accounts told members may begins' leaves' rises' given output
+  accounts : (given : List Numbered) (output : List ℕ) → Accounts told may begins leaves rises given output → Accounts told may begins' leaves' rises' given output
   accounts given output a = record { loaded = a.loaded; state = a.state; begun = begun a.loaded a.begun; replies = a.replies; paced = a.paced; left = left a.state a.left; counted = rose _ a.counted }
 
-  whole : (old new known : Option (List ℕ)) → IfSome known (Replays told members may begins leaves rises old new) → IfSome known (Replays told members may begins' leaves' rises' old new)
+  whole : (old new known : Option (List ℕ)) → IfSome known (Replays told may begins leaves rises old new) → IfSome known (Replays told may begins' leaves' rises' old new)
   whole old new None r = tt
   whole old new (Some input) r = record { output = r.output; accounts = accounts (lines_of input) r.output r.accounts; gained = r.gained }
 
-  taken : (old new known : Option (List ℕ)) → IfSome known (ReplaysTaken told members may begins leaves rises old new) → IfSome known (ReplaysTaken told members may begins' leaves' rises' old new)
+  taken : (old new known : Option (List ℕ)) → IfSome known (ReplaysTaken told may begins leaves rises old new) → IfSome known (ReplaysTaken told may begins' leaves' rises' old new)
   taken old new None r = tt
   taken old new (Some input) r = record { taken = r.taken; output = r.output; accounts = accounts (take r.taken (lines_of input)) r.output r.accounts; gained = r.gained }
 
-  front : (old new known : Option (List ℕ)) → IfSome known (ReplaysFront told members may begins leaves rises old new) → IfSome known (ReplaysFront told members may begins' leaves' rises' old new)
+  front : (old new known : Option (List ℕ)) → IfSome known (ReplaysFront told may begins leaves rises old new) → IfSome known (ReplaysFront told may begins' leaves' rises' old new)
   front old new None r = tt
   front old new (Some input) r = record { taken = r.taken; output = r.output; rest = r.rest; accounts = accounts (take r.taken (lines_of input)) (r.output ++ r.rest) r.accounts; gained = r.gained }
 
-module _ (told : Bool) (members : MembersOf) (may : ℕ → Bool) (begins begins' : List Batch → Type 0) (leaves leaves' : State → Type 0) (rises rises' : ℕ → Type 0)
+module _ (told : Bool) (may : ℕ → Bool) (begins begins' : List Batch → Type 0) (leaves leaves' : State → Type 0) (rises rises' : ℕ → Type 0)
     (begun : (loaded : List Batch) → begins loaded → begins' loaded) (left : (s : State) → leaves s → leaves' s) (rose : (n : ℕ) → rises n → rises' n) where
   -- the same, said of what stands further out
-  pub events_weaker : (s : Status) (idle idle' : Type 0) (known old new : Option (List ℕ)) → (idle → idle') → PrintsEvents s told members may begins leaves rises idle known old new → PrintsEvents s told members may begins' leaves' rises' idle' known old new
+  pub events_weaker : (s : Status) (idle idle' : Type 0) (known old new : Option (List ℕ)) → (idle → idle') → PrintsEvents s told may begins leaves rises idle known old new → PrintsEvents s told may begins' leaves' rises' idle' known old new
   events_weaker s idle idle' known old new still p = record {
-    done = λ is. whole told members may begins begins' leaves leaves' rises rises' begun left rose old new known (p.done is);
-    between = λ is. taken told members may begins begins' leaves leaves' rises rises' begun left rose old new known (p.between is);
-    within = λ is. front told members may begins begins' leaves leaves' rises rises' begun left rose old new known (p.within is);
-    memory = λ is. ⊎_elim (λ i. inl (still i)) (λ r. inr (taken told members may begins begins' leaves leaves' rises rises' begun left rose old new known r)) (p.memory is);
+    done = λ is. whole told may begins begins' leaves leaves' rises rises' begun left rose old new known (p.done is);
+    between = λ is. taken told may begins begins' leaves leaves' rises rises' begun left rose old new known (p.between is);
+    within = λ is. front told may begins begins' leaves leaves' rises rises' begun left rose old new known (p.within is);
+    memory = λ is. ⊎_elim (λ i. inl (still i)) (λ r. inr (taken told may begins begins' leaves leaves' rises rises' begun left rose old new known r)) (p.memory is);
     closed = λ is. ⊎_elim (λ i. inl (still i))
-        (λ r. inr (taken told members may begins begins' leaves leaves' (λ n. rises (n + status_faults s)) (λ n. rises' (n + status_faults s)) begun left (λ n. rose (n + status_faults s)) old new known r)) (p.closed is);
+        (λ r. inr (taken told may begins begins' leaves leaves' (λ n. rises (n + status_faults s)) (λ n. rises' (n + status_faults s)) begun left (λ n. rose (n + status_faults s)) old new known r)) (p.closed is);
   }
 
-module _ (told : Bool) (members : MembersOf) (may : ℕ → Bool) (begins : List Batch → Type 0) (leaves : State → Type 0) (rises : ℕ → Type 0) (idle : Type 0) (known old new : Option (List ℕ)) where
+module _ (told : Bool) (may : ℕ → Bool) (begins : List Batch → Type 0) (leaves : State → Type 0) (rises : ℕ → Type 0) (idle : Type 0) (known old new : Option (List ℕ)) where
   -- by a count for a number of faults, one for fewer
   module _ (fewer : (m n : ℕ) → n ≤ m → rises m → rises n) where
-    whole_by : (own : ℕ) → IfSome known (Replays told members may begins leaves (λ n. rises (n + own)) old new) → IfSome known (Replays told members may begins leaves rises old new)
-    whole_by own r = whole told members may begins begins leaves leaves (λ n. rises (n + own)) rises (λ l is. is) (λ s is. is) (λ n rose. fewer (n + own) n (omega arith) rose) old new known r
+    whole_by : (own : ℕ) → IfSome known (Replays told may begins leaves (λ n. rises (n + own)) old new) → IfSome known (Replays told may begins leaves rises old new)
+    whole_by own r = whole told may begins begins leaves leaves (λ n. rises (n + own)) rises (λ l is. is) (λ s is. is) (λ n rose. fewer (n + own) n (omega arith) rose) old new known r
 
-    taken_by : (own : ℕ) → IfSome known (ReplaysTaken told members may begins leaves (λ n. rises (n + own)) old new) → IfSome known (ReplaysTaken told members may begins leaves rises old new)
-    taken_by own r = taken told members may begins begins leaves leaves (λ n. rises (n + own)) rises (λ l is. is) (λ s is. is) (λ n rose. fewer (n + own) n (omega arith) rose) old new known r
+    taken_by : (own : ℕ) → IfSome known (ReplaysTaken told may begins leaves (λ n. rises (n + own)) old new) → IfSome known (ReplaysTaken told may begins leaves rises old new)
+    taken_by own r = taken told may begins begins leaves leaves (λ n. rises (n + own)) rises (λ l is. is) (λ s is. is) (λ n rose. fewer (n + own) n (omega arith) rose) old new known r
 
-    front_by : (own : ℕ) → IfSome known (ReplaysFront told members may begins leaves (λ n. rises (n + own)) old new) → IfSome known (ReplaysFront told members may begins leaves rises old new)
-    front_by own r = front told members may begins begins leaves leaves (λ n. rises (n + own)) rises (λ l is. is) (λ s is. is) (λ n rose. fewer (n + own) n (omega arith) rose) old new known r
+    front_by : (own : ℕ) → IfSome known (ReplaysFront told may begins leaves (λ n. rises (n + own)) old new) → IfSome known (ReplaysFront told may begins leaves rises old new)
+    front_by own r = front told may begins begins leaves leaves (λ n. rises (n + own)) rises (λ l is. is) (λ s is. is) (λ n rose. fewer (n + own) n (omega arith) rose) old new known r
 
     -- a store that is not opened, or is not opened again
-    closed_prints : (f : JournalFault) → idle ⊎ IfSome known (ReplaysTaken told members may begins leaves (λ n. rises (n + end_faults (Err (stop.Lost f)))) old new) → PrintsEvents (status_of_store f) told members may begins leaves rises idle known old new
+    closed_prints : (f : JournalFault) → idle ⊎ IfSome known (ReplaysTaken told may begins leaves (λ n. rises (n + end_faults (Err (stop.Lost f)))) old new) → PrintsEvents (status_of_store f) told may begins leaves rises idle known old new
     closed_prints f ends = record {
       done = λ is. absurd (not_of_store f status.Done refl is);
       between = λ is. absurd (⊎_elim (λ e. not_of_store f status.ReadFault refl e) (λ e. not_of_store f status.TooMuch refl e) is);
       within = λ is. absurd (not_of_store f status.SinkFault refl is);
       memory = λ is. ⊎_elim (λ i. inl i) (λ r. inr (taken_by (end_faults (Err (stop.Lost f))) r)) ends;
-      closed = λ is. subst (λ (own : ℕ). idle ⊎ IfSome known (ReplaysTaken told members may begins leaves (λ n. rises (n + own)) old new)) (lost_faults f) ends;
+      closed = λ is. subst (λ (own : ℕ). idle ⊎ IfSome known (ReplaysTaken told may begins leaves (λ n. rises (n + own)) old new)) (lost_faults f) ends;
     }
 
     -- an end of a run that was begun, or not
     abbrev Ended : Result (Unit {0}) Stop → Type 0
-    Ended end = EndsAs end (IfSome known (Replays told members may begins leaves (λ n. rises (n + end_faults end)) old new)) (IfSome known (ReplaysTaken told members may begins leaves (λ n. rises (n + end_faults end)) old new))
-        (IfSome known (ReplaysFront told members may begins leaves (λ n. rises (n + end_faults end)) old new)) idle
+    Ended end = EndsAs end (IfSome known (Replays told may begins leaves (λ n. rises (n + end_faults end)) old new)) (IfSome known (ReplaysTaken told may begins leaves (λ n. rises (n + end_faults end)) old new))
+        (IfSome known (ReplaysFront told may begins leaves (λ n. rises (n + end_faults end)) old new)) idle
 
-    pub events_print : (end : Result (Unit {0}) Stop) → Ended end → PrintsEvents (status_of_events end) told members may begins leaves rises idle known old new
+    pub events_print : (end : Result (Unit {0}) Stop) → Ended end → PrintsEvents (status_of_events end) told may begins leaves rises idle known old new
     events_print (Ok u) ends = record { done = λ is. whole_by 0 ends; between = λ is. absurd (⊎_elim (λ e. cc) (λ e. cc) is); within = λ is. absurd (cc); memory = λ is. absurd (cc); closed = λ is. absurd (cc) }
     events_print (Err stop.ReadFault) ends = record { done = λ is. absurd (cc); between = λ is. taken_by 0 ends; within = λ is. absurd (cc); memory = λ is. absurd (cc); closed = λ is. absurd (cc) }
     events_print (Err stop.TooMuch) ends = record { done = λ is. absurd (cc); between = λ is. taken_by 0 ends; within = λ is. absurd (cc); memory = λ is. absurd (cc); closed = λ is. absurd (cc) }
@@ -105,11 +104,11 @@ module _ (told : Bool) (members : MembersOf) (may : ℕ → Bool) (begins : List
     events_print (Err (stop.Lost f)) ends = closed_prints f (inr ends)
 
   -- the shelf did not open the file
-  pub shelf_prints : (f : ShelfFault) → idle → PrintsEvents (status_of_shelf f) told members may begins leaves rises idle known old new
+  pub shelf_prints : (f : ShelfFault) → idle → PrintsEvents (status_of_shelf f) told may begins leaves rises idle known old new
   shelf_prints shelf.Failed i = record { done = λ is. absurd (cc); between = λ is. absurd (⊎_elim (λ e. cc) (λ e. cc) is); within = λ is. absurd (cc); memory = λ is. inl i; closed = λ is. inl i }
   shelf_prints shelf.Memory i = record { done = λ is. absurd (cc); between = λ is. absurd (⊎_elim (λ e. cc) (λ e. cc) is); within = λ is. absurd (cc); memory = λ is. inl i; closed = λ is. inl i }
 
-  pub memory_prints : idle → PrintsEvents status.Memory told members may begins leaves rises idle known old new
+  pub memory_prints : idle → PrintsEvents status.Memory told may begins leaves rises idle known old new
   memory_prints i = shelf_prints shelf.Memory i
 
 -- what was not touched

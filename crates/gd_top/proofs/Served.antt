@@ -17,12 +17,10 @@ use Rattle.gd_round_lines.specs.Replies.{no_memory}
 use Rattle.gd_round_laws.specs.Rounds.{ServesRound, RoundsStand, IsAccounted, passed}
 use Rattle.gd_round_laws.proofs.Rounds.{rounds_begin, rounds_go_on, rounds_are_accounted, rest_is_passed, first_rounds_are_within}
 use Rattle.gd_round_laws.proofs.Counts.{fault_count-append}
-use Rattle.gd_caller.specs.Served.{printed}
+use Rattle.gd_threads.specs.PassedOn.{printed, KeepingValue, CountsLines}
 use Rattle.gd_top.specs.Opened.{HoldsAs}
 use Rattle.gd_top.specs.Answered.{Answers, AnswersFront, ServedUpto}
-use Rattle.gd_lookup.specs.Keeping.{KeepingValue}
-use Rattle.gd_lookup.specs.Calls.{CountsLines}
-use Rattle.gd_lookup.proofs.Calls.{lines_append}
+use Rattle.gd_threads.proofs.PassedOn.{lines_append}
 use Rattle.gd_round_lines.specs.Works.{texts_of}
 use Rattle.gd_threads.proofs.Served.{texts_in}
 use Rattle.gd_top.specs.Counted.{ServesKeeping}

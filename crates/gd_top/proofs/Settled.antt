@@ -6,8 +6,7 @@ use Rattle.gd_bytes.specs.File.{StandsFor}
 use Rattle.gd_runs.specs.Core.{State}
 use Rattle.gd_runs.specs.Legal.{History}
 use Rattle.gd_runs.specs.Explained.{Run, Holds}
-use Rattle.gd_writer.specs.Parts.{Tells}
-use Rattle.gd_caller.specs.Served.{StandsForState}
+use Rattle.gd_threads.specs.PassedOn.{Tells, StandsForState}
 use Rattle.gd_top.specs.Held.{Leaves, Loads}
 use Rattle.gd_top.specs.Opened.{HoldsAs}
 

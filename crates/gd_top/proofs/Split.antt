@@ -4,7 +4,7 @@ use Rattle.std.proofs.lemmas.Bool.Decides.{nat_tests}
 use Rattle.gd_prim.specs.declared.Batch.{Batch}
 use Rattle.gd_runs.specs.Legal.{History}
 use Rattle.gd_runs.specs.Explained.{Numbered, Run, without_return, pieces, IsExplainedBy, fault_count, faults_told}
-use Rattle.gd_caller.specs.Served.{printed}
+use Rattle.gd_threads.specs.PassedOn.{printed}
 use Rattle.gd_round_laws.proofs.Counts.{fault_count-append}
 use Rattle.gd_top.proofs.Plain.{Plain, plain_reply}
 

@@ -9,10 +9,8 @@ use Rattle.gd_input.specs.Rounds.{in_round}
 use Rattle.gd_input.specs.Taken.{whole_rounds}
 use Rattle.gd_outside.specs.Gains.{GainsFront}
 use Rattle.gd_round_laws.specs.Rounds.{ServesRound, RoundsStand}
-use Rattle.gd_lookup.specs.Keeping.{KeepingValue}
-use Rattle.gd_lookup.specs.Calls.{CountsLines}
+use Rattle.gd_threads.specs.PassedOn.{KeepingValue, CountsLines, printed}
 use Rattle.gd_round_lines.specs.Works.{texts_of}
-use Rattle.gd_caller.specs.Served.{printed}
 
 -- Lines of a round, the first of them line k, were answered with these replies: they were served behind whatever was served before, the faults that they tell were counted, and the answers to reads in what sessions keep.
 pub record Answered (may : ℕ → Bool) (s : State) (k : ℕ) (t : State) (texts replies : List (List ℕ)) (before after : ℕ) (had has : KeepingValue) : Type 0 where

@@ -4,10 +4,8 @@ use Rattle.std.specs.Io.KnownBytes.{Appends}
 use Rattle.gd_prim.specs.declared.Batch.{Batch}
 use Rattle.gd_runs.specs.Legal.{History}
 use Rattle.gd_runs.specs.Explained.{Numbered, Run, lines_of}
-use Rattle.gd_lookup.specs.Keeping.{KeepingValue}
-use Rattle.gd_lookup.specs.Calls.{CountsLines, AreCounts}
+use Rattle.gd_threads.specs.PassedOn.{KeepingValue, CountsLines, AreCounts, printed}
 use Rattle.gd_round_lines.specs.Works.{texts_of}
-use Rattle.gd_caller.specs.Served.{printed}
 use Rattle.gd_top.specs.declared.status.Status.{Status}
 use Rattle.gd_top.specs.declared.status.Status.TheVariants as status
 use Rattle.gd_top.specs.Ends.{is_refused, is_stopped}

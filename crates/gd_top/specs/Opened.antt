@@ -6,7 +6,7 @@ use Rattle.gd_runs.specs.Core as core
 use Rattle.gd_runs.specs.Core.{State}
 use Rattle.gd_runs.specs.Legal.{History}
 use Rattle.gd_runs.specs.Explained.{Run, Holds}
-use Rattle.gd_caller.specs.Served.{StandsForState}
+use Rattle.gd_threads.specs.PassedOn.{StandsForState}
 use Rattle.gd_threads.specs.Served.{RoundsValue, state_at}
 
 -- what stands for a state of the core stands for this history, with or without the one write that is in doubt

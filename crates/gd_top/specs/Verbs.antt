@@ -1,7 +1,6 @@
 -- What a verb prints, on the way: over a disk, and over the store that a command names.
 use Rattle.std.specs.Prelude.{ℕ, List, Bool, Option, IsTrue}
 use Rattle.std.specs.Option.{is_some}
-use Rattle.gd_runs.specs.Owed.{MembersOf}
 use Rattle.gd_words.specs.Verbs.{Verb, serves, caches, replays, dumps, restores, follows, answers, generates}
 use Rattle.gd_replay.specs.Stops.{Leaves as LeavesEvents}
 use Rattle.gd_top.specs.declared.status.Status.{Status}
@@ -19,8 +18,7 @@ use Rattle.gd_top.specs.Serves.{PrintsLines}
 abbrev pub PrintsOver : Verb → Status → (ℕ → Bool) → Option (List ℕ) → (List ℕ → Type 0) → (ℕ → Type 0) → Type 0 → (left left_now held_old held_new : Option (List ℕ)) → Type 0
 PrintsOver serves s may told images rises unbegun left left_now held_old held_new = PrintsLines s may (Loads told) (Leaves may told images) rises unbegun left left_now held_old held_new
 PrintsOver (caches n) s may told images rises unbegun left left_now held_old held_new = PrintsCounted n s may (Loads told) (Leaves may told images) rises unbegun left left_now held_old held_new
-PrintsOver replays s may told images rises unbegun left left_now held_old held_new = (members : MembersOf)
-    → PrintsEvents s (is_some told) members may (Loads told) (λ t. IsTrue (is_some told) → LeavesEvents images t) rises unbegun left held_old held_new
+PrintsOver replays s may told images rises unbegun left left_now held_old held_new = PrintsEvents s (is_some told) may (Loads told) (λ t. IsTrue (is_some told) → LeavesEvents images t) rises unbegun left held_old held_new
 PrintsOver (dumps from) s may told images rises unbegun left left_now held_old held_new = PrintsDump s (Loads told) unbegun from held_old held_new
 PrintsOver restores s may told images rises unbegun left left_now held_old held_new = RestoresText s (Loads told) (LeavesBatches told images) unbegun left
 PrintsOver answers s may told images rises unbegun left left_now held_old held_new = PrintsAnswers s (Loads told) unbegun left held_old held_new
@@ -31,8 +29,7 @@ PrintsOver (generates number count) s may told images rises unbegun left left_no
 abbrev pub PrintsAt : Verb → Status → (ℕ → Bool) → (List ℕ → Option (List ℕ)) → (List ℕ → List ℕ → Type 0) → Option (List ℕ) → (ℕ → Type 0) → Type 0 → (left left_now held_old held_new : Option (List ℕ)) → Type 0
 PrintsAt serves s may content images path rises unbegun left left_now held_old held_new = PrintsLines s may (BeginsWith content path) (EndsWith may content images path) rises unbegun left left_now held_old held_new
 PrintsAt (caches n) s may content images path rises unbegun left left_now held_old held_new = PrintsCounted n s may (BeginsWith content path) (EndsWith may content images path) rises unbegun left left_now held_old held_new
-PrintsAt replays s may content images path rises unbegun left left_now held_old held_new = (members : MembersOf)
-    → PrintsEvents s (is_told_at content path) members may (BeginsWith content path) (LeavesAt content images path) rises unbegun left held_old held_new
+PrintsAt replays s may content images path rises unbegun left left_now held_old held_new = PrintsEvents s (is_told_at content path) may (BeginsWith content path) (LeavesAt content images path) rises unbegun left held_old held_new
 PrintsAt (dumps from) s may content images path rises unbegun left left_now held_old held_new = PrintsDump s (BeginsWith content path) unbegun from held_old held_new
 PrintsAt restores s may content images path rises unbegun left left_now held_old held_new = RestoresText s (BeginsWith content path) (LeavesBatchesAt content images path) unbegun left
 PrintsAt answers s may content images path rises unbegun left left_now held_old held_new = PrintsAnswers s (BeginsWith content path) unbegun left held_old held_new

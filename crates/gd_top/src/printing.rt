@@ -6,7 +6,7 @@ ghost use Rattle.gd_base.specs.Counts.{Rose};
 ghost use Rattle.gd_outside.specs.Gains.{GainsFront};
 ghost use Rattle.gd_reply.specs.Replies.{reply_text};
 ghost use Rattle.gd_round_lines.specs.Replies.{no_memory, reply_texts};
-ghost use Rattle.gd_caller.specs.Served.{printed};
+ghost use Rattle.gd_threads.specs.PassedOn.{printed};
 ghost use Rattle.gd_top.specs.Counted.{counts_line};
 
 use gd_outside::Failed;

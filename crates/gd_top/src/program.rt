@@ -6,7 +6,6 @@ ghost use Rattle.gd_base.specs.Counts.{Rose};
 ghost use Rattle.gd_bytes.specs.Disk.{HoldsSame};
 ghost use Rattle.gd_bytes.specs.File.{not_store, damaged};
 ghost use Rattle.gd_input.specs.Taken.{TakesAtLeast};
-ghost use Rattle.gd_runs.specs.Owed.{MembersOf};
 ghost use Rattle.gd_words.specs.Verbs as verb;
 ghost use Rattle.gd_words.specs.Verbs.{Verb, verb_of, path_of, reads_input, prints_output};
 ghost use Rattle.gd_words.specs.Words.{command_of};
@@ -107,15 +106,15 @@ pub fn graphd<
         (F.images shelf.new) (path_of words.now))
         (S.left source.old) (S.left source.new) (K.held sink.old) (K.held sink.new) }
 
-    // Words that replay. What was printed is what the definitions' core replies to the lines, as
-    // far as events are built, from some batches on. Over a file that the shelf does not tell, a
-    // line that opens the store again gives a store of some batches, whose number its reply tells.
+    // Words that replay. What was printed is what the definitions' core replies to the lines, from
+    // some batches on. Over a file that the shelf does not tell, a line that opens the store again
+    // gives a store of some batches, whose number its reply tells.
     // The shelf counted at least as many faults as lines and the status tell, of which there is
     // none without a file. A file that is told stood for these batches, and is left so that it
     // stands for the state that they make, with or without the write that is in doubt.
     ensures events { verb_of words.now ≡ Some verb.replays
-        → (members : MembersOf) → PrintsEvents result
-        (is_told_at (F.content shelf.old) (path_of words.now)) members (C.may clock)
+        → PrintsEvents result
+        (is_told_at (F.content shelf.old) (path_of words.now)) (C.may clock)
         (BeginsWith (F.content shelf.old) (path_of words.now))
         (LeavesAt (F.content shelf.old) (F.images shelf.new) (path_of words.now))
         (RisesAt (path_of words.now) (F.faults shelf.old) (F.faults shelf.new))

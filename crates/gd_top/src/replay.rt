@@ -3,10 +3,9 @@ ghost use Rattle.std.specs.Prelude.{◌≡◌, ◌^◌, true};
 ghost use Rattle.std.specs.Io.KnownBytes.{IsAtEnd};
 ghost use Rattle.std.specs.Option.{is_some};
 ghost use Rattle.gd_base.specs.Counts.{Rose, RoseBy};
-ghost use Rattle.gd_runs.specs.Owed.{MembersOf};
 ghost use Rattle.gd_input.specs.Taken.{TakesAtLeast};
 ghost use Rattle.gd_words.specs.Verbs.{replays};
-ghost use Rattle.gd_writer.specs.Parts.{Tells};
+ghost use Rattle.gd_threads.specs.PassedOn.{Tells};
 ghost use Rattle.gd_replay.specs.Stops.{Leaves};
 ghost use Rattle.gd_top.specs.Ends.{IsIdle, Causes, may_tell};
 ghost use Rattle.gd_top.specs.Held.{Loads, MayMean, DoesMean};
@@ -49,8 +48,8 @@ pub(crate) fn replay_over<R: Wait, D: Disk, S: Source, K: Sink, C: Clock + Drop>
     sink: &mut K,
     clock: C,
 ) -> (Status, D)
-    ensures prints { (members : MembersOf) → PrintsEvents result.0 (is_some (D.content disk))
-        members (C.may clock) (Loads (D.content disk))
+    ensures prints { PrintsEvents result.0 (is_some (D.content disk))
+        (C.may clock) (Loads (D.content disk))
         (λ s. Tells (D.content disk) → Leaves (D.images result.1) s)
         (RoseBy (D.faults disk) (D.faults result.1))
         (IsIdle source.old source.new sink.old sink.new

@@ -14,12 +14,9 @@ use Rattle.gd_defs.specs.Rows.{Row, row_of, met, far, printed, own_datum}
 use Rattle.gd_defs.specs.Reply.{is_clause, operand_of}
 use Rattle.gd_defs.specs.Plan.{answers_of, link_template, clauses_of, template_of}
 use Rattle.gd_defs.specs.Template.{tree_of, clause_lists}
-use Rattle.gd_runs.specs.Work.{printed_count}
-use Rattle.gd_runs.specs.Shape.Ids.{id_count, own_ids, style_ids}
-use Rattle.gd_runs.specs.Shape.Answers.{Ranked, ranked, answer_of, cut}
+use Rattle.gd_match_laws.specs.PassedOn.{printed_count, id_count, own_ids, style_ids, Ranked, ranked, answer_of, cut}
 use Rattle.gd_template_laws.specs.Fits.{IsTyped, AsksValues, AsksObjects, IsAsked, AreAsked, ValueMembers}
-use Rattle.gd_page_laws.proofs.Pages.{found_lists, cut-objects, cut-values, printed-values}
-use Rattle.gd_page_laws.proofs.TreeRows.{carried, AnswersObjects, answer_of-link, place_of-tree}
+use Rattle.gd_match_laws.proofs.PassedOn.{found_lists, cut-objects, cut-values, printed-values, carried, AnswersObjects, answer_of-link, place_of-tree}
 use Rattle.gd_match_laws.specs.Walks.{id_of, own_listed, where_id, unless_operand, each_listed, object_listed, rows_listed}
 
 -- ---- single ids

@@ -14,3 +14,4 @@ pub mod Passed
 pub mod Reading
 pub mod Sources
 pub mod Laws
+pub mod PassedOn

@@ -11,8 +11,7 @@ use Rattle.gd_prim.specs.Live.{refers, passes_at, is_live}
 use Rattle.gd_defs.specs.Property.{Property, near_of, far_end}
 use Rattle.gd_defs.specs.Plan.{asked_end}
 use Rattle.gd_defs.specs.Template.{Constraint, end_is, links_by, led_to, meets_constraints, holds, template, Clauses}
-use Rattle.gd_runs.specs.RootSets.{with_typ}
-use Rattle.gd_runs.specs.Work.{near, few, with_near, each_far}
+use Rattle.gd_match_laws.specs.PassedOn.{with_typ, near, few, with_near, each_far}
 use Rattle.gd_list_laws.proofs.Places.{places_where-places}
 use Rattle.gd_template_laws.proofs.Places.{places, passes_at-and}
 use Rattle.gd_template_laws.proofs.Bools.{and-false}

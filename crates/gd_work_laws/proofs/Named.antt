@@ -23,10 +23,10 @@ use Rattle.gd_defs.specs.Asked.{Own, its_id, its_guid, its_timestamp, its_link, 
 use Rattle.gd_defs.specs.Asked.Tests.{checked_test, operand_data}
 use Rattle.gd_defs.specs.Asked.Forms.{ask_form, operand_form, clause_form, asks_single}
 use Rattle.gd_grammar.proofs.Steps.{steps, ok_same, some_given, some_same}
-use Rattle.gd_order_laws.specs.Window.{In}
+use Rattle.gd_match_laws.specs.PassedOn.{In}
 use Rattle.gd_template_laws.proofs.Operands.{own-made}
 use Rattle.gd_template_laws.proofs.AskedMembers.{computed}
-use Rattle.gd_scan_laws.proofs.Objects.{both_true}
+use Rattle.gd_match_laws.proofs.PassedOn.{both_true}
 
 -- ---- objects
 

@@ -16,8 +16,8 @@ use Rattle.gd_defs.specs.Asked.{Key, by_guid, by_timestamp, by_property, SortKey
 use Rattle.gd_defs.specs.Plan.{language_test, namespace_tests, object_test, object_tests, of_kind, unless_literal, asked_end, answer_end, answers_of, link_template, sort_clauses, clauses_of}
 use Rattle.gd_defs.specs.Template.{Constraint, end_is, is_object, links_by, led_to, Template, template, Clauses, no_clauses, clause, meets_constraints, meets_clauses, passes_template, passes_clauses, is_answer, is_required, is_literal, are_literal, is_literal_constraint}
 use Rattle.gd_defs.specs.Reply.{is_clause}
-use Rattle.gd_runs.specs.Work.{near, few, each_far, value_work, sort_work, work}
-use Rattle.gd_scan_laws.proofs.Objects.{both_true}
+use Rattle.gd_match_laws.specs.PassedOn.{near, few, each_far, value_work, sort_work, work}
+use Rattle.gd_match_laws.proofs.PassedOn.{both_true}
 use Rattle.gd_template_laws.specs.Laws.{OnObjects}
 use Rattle.gd_template_laws.proofs.Bools.{and-false}
 use Rattle.gd_template_laws.proofs.Shapes.{far_clause, link_template-shaped, answer_end-at}

@@ -13,9 +13,8 @@ use Rattle.gd_defs.specs.Rows.{Row}
 use Rattle.gd_defs.specs.Reply.{Mark, page, is_too_wide}
 use Rattle.gd_defs.specs.Plan.{clauses_of, template_of, object_tests}
 use Rattle.gd_defs.specs.Template.{is_object, meets_constraints, passes_template, passes_clauses, tree_of}
-use Rattle.gd_order_laws.proofs.Sorted.{Each-member}
-use Rattle.gd_runs.specs.RootSets.{RootSet, links_of, root_sets}
-use Rattle.gd_runs.specs.Work.{work, set_work, query_work, printed_count, first_left}
+use Rattle.gd_match_laws.proofs.PassedOn.{Each-member}
+use Rattle.gd_match_laws.specs.PassedOn.{RootSet, links_of, root_sets, work, set_work, query_work, printed_count, first_left}
 use Rattle.gd_match_laws.specs.Walks.{rows_listed}
 use Rattle.gd_template_laws.specs.Laws.{AreHeld}
 use Rattle.gd_template_laws.specs.Fits.{AreAsked}

@@ -15,16 +15,8 @@ use Rattle.gd_defs.specs.Asked.{its_id, its_guid, its_timestamp, its_link, its_v
 use Rattle.gd_defs.specs.Plan.{answers_of}
 use Rattle.gd_defs.specs.Rows.{Row, row_of, row_cmp, rows, candidates, met, is_met, meets, meets_given, meets_mode, answer_meets, own_datum}
 use Rattle.gd_defs.specs.Reply.{Mark, page, rows_after, mark_row}
-use Rattle.gd_order_laws.specs.Window.{In, Apart}
-use Rattle.gd_order_laws.proofs.Sorted.{In-filter, In-filtered, sorted_permutes}
-use Rattle.gd_order_laws.proofs.Rows.{apart_objects}
-use Rattle.gd_runs.specs.Owed.{ScanOrder, is_among}
-use Rattle.gd_runs.specs.RootSets.{RootSet, everything, named_places, links_of, set_places, root_sets, sets_by_name, sets_by_link}
-use Rattle.gd_runs.specs.Scanned.{first_times, link_order, set_order}
-use Rattle.gd_runs.specs.Work.{work, set_work}
-use Rattle.gd_scan_laws.proofs.Objects.{both_true, true_both}
-use Rattle.gd_scan_laws.proofs.Links.{answer_known}
-use Rattle.gd_scan_laws.proofs.Orders.{among_in, picked, picks, scanned_all}
+use Rattle.gd_match_laws.specs.PassedOn.{In, Apart, ScanOrder, is_among, RootSet, everything, named_places, links_of, set_places, root_sets, sets_by_name, sets_by_link, first_times, link_order, set_order, work, set_work}
+use Rattle.gd_match_laws.proofs.PassedOn.{In-filter, In-filtered, sorted_permutes, apart_objects, both_true, true_both, answer_known, among_in, picked, picks, scanned_all}
 use Rattle.gd_template_laws.specs.Fits.{AreAsked, IsAsked}
 use Rattle.gd_work_laws.specs.Scan.{chosen}
 use Rattle.gd_work_laws.proofs.Smallest.{once_sum}

@@ -10,10 +10,8 @@ use Rattle.gd_defs.specs.Property.{near_of}
 use Rattle.gd_defs.specs.Asked.{Own, its_id, its_guid, SortKey, Asking, Members, no_members, own, asks, Asked}
 use Rattle.gd_defs.specs.Plan.{link_template, clauses_of, template_of, object_tests}
 use Rattle.gd_defs.specs.Template.{is_object, passes_template, meets_constraints, is_required, is_literal}
-use Rattle.gd_order_laws.specs.Window.{Each}
-use Rattle.gd_scan_laws.proofs.Orders.{Each-both}
-use Rattle.gd_runs.specs.RootSets.{RootSet, everything, named_places, links_of, named_sets, link_sets, sets_by_name, sets_by_link, root_sets, named, with_typ, with_far}
-use Rattle.gd_runs.specs.Work.{work, set_work}
+use Rattle.gd_match_laws.specs.PassedOn.{Each, RootSet, everything, named_places, links_of, named_sets, link_sets, sets_by_name, sets_by_link, root_sets, named, with_typ, with_far, work, set_work}
+use Rattle.gd_match_laws.proofs.PassedOn.{Each-both}
 use Rattle.gd_template_laws.specs.Fits.{AreAsked}
 use Rattle.gd_template_laws.proofs.Literals.{member-literal}
 use Rattle.gd_work_laws.specs.Turns.{test_turns, clauses_test_turns, build_turns}

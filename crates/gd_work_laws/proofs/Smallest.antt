@@ -15,12 +15,9 @@ use Rattle.gd_prim.specs.Live.{places_where}
 use Rattle.gd_defs.specs.Property.{Property}
 use Rattle.gd_defs.specs.Asked.{Own, its_id, its_guid, Asking, Members, no_members, own, asks, Asked}
 use Rattle.gd_defs.specs.Data.{Test, equals, is_one_of}
-use Rattle.gd_order_laws.specs.Window.{In, Each, Apart}
-use Rattle.gd_order_laws.proofs.Sorted.{Each-member, Each-from_members, In-filter, In-filtered, Apart-filter}
+use Rattle.gd_match_laws.specs.PassedOn.{In, Each, Apart, RootSet, everything, named_places, set_size, root_sets, first_smallest, named, distinct, named_sets, link_sets, sets_by_name, sets_by_link, with_far, set_work, query_work}
+use Rattle.gd_match_laws.proofs.PassedOn.{Each-member, Each-from_members, In-filter, In-filtered, Apart-filter, Each-both}
 use Rattle.gd_defs.specs.Plan.{places_of}
-use Rattle.gd_runs.specs.RootSets.{RootSet, everything, named_places, set_size, root_sets, first_smallest, named, distinct, named_sets, link_sets, sets_by_name, sets_by_link, with_far}
-use Rattle.gd_runs.specs.Work.{set_work, query_work}
-use Rattle.gd_scan_laws.proofs.Orders.{Each-both}
 use Rattle.gd_list_laws.proofs.Places.{places_where-places}
 use Rattle.gd_template_laws.proofs.Places.{places}
 use Rattle.gd_base.specs.declared.datum.Datum.{Datum}

@@ -7,7 +7,7 @@ use Rattle.gd_defs.specs.Property.{Property}
 use Rattle.gd_defs.specs.Asked.{Key, by_guid, by_timestamp, by_property, SortKey}
 use Rattle.gd_defs.specs.Plan.{sort_clauses}
 use Rattle.gd_defs.specs.Template.{Clauses, no_clauses}
-use Rattle.gd_runs.specs.Work.{value_work, sort_work}
+use Rattle.gd_match_laws.specs.PassedOn.{value_work, sort_work}
 
 split_sort : {A : Type 0} (f : A → ℕ) (x : A) (xs : List A) (n m : ℕ) → n ≤ 4 * sum_by f (x ∷ []) + m → m ≤ 4 * sum_by f xs → n ≤ 4 * sum_by f (x ∷ xs)
 split_sort f x xs n m one two = by _ _ _ _ (sum_by-cons f x xs) (sum_by-cons f x []) one two

@@ -16,8 +16,8 @@ use Rattle.gd_defs.specs.Property.{Property, Expects, a_value, a_key, an_object_
 use Rattle.gd_defs.specs.Asked.{its_id, its_guid, its_timestamp, its_link, its_value, its_namespace, its_lang, Key, by_guid, by_timestamp, by_property, SortKey, Asking, Members, no_members, own, asks}
 use Rattle.gd_defs.specs.Plan.{property_tests, language_test, value_test, link_tests, places_of, object_test, object_tests, unless_literal, asked_end, answer_end, answers_of, link_template, sort_clauses, clauses_of}
 use Rattle.gd_defs.specs.Template.{Constraint, end_is, lang_is, is_object, place_in, place_not, value_is, value_not, value_in, below, above, matches, links_by, led_to, Template, template, Clauses, no_clauses, meets_constraints, is_required, is_literal}
-use Rattle.gd_runs.specs.RootSets.{RootSet, named_places, named, link_sets, sets_by_name, sets_by_link, distinct, with_typ, with_far}
-use Rattle.gd_scan_laws.proofs.Objects.{both_true}
+use Rattle.gd_match_laws.specs.PassedOn.{RootSet, named_places, named, link_sets, sets_by_name, sets_by_link, distinct, with_typ, with_far}
+use Rattle.gd_match_laws.proofs.PassedOn.{both_true}
 use Rattle.gd_template_laws.specs.Fits.{FitsOne, IsEquals, IsObjectDatum, AllGiven, AsksValues, AsksObjects, IsAsked, AreAsked, FitsObject, FitsMoment}
 use Rattle.gd_template_laws.proofs.Bools.{and-false}
 use Rattle.gd_template_laws.proofs.Literals.{member-literal}

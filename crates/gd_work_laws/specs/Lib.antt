@@ -5,3 +5,4 @@ pub mod Below
 pub mod Reading
 pub mod Sources
 pub mod Laws
+pub mod PassedOn

@@ -7,7 +7,7 @@ use Rattle.gd_defs.specs.Rows.{Row}
 use Rattle.gd_defs.specs.Reply.{Mark, page, is_too_wide}
 use Rattle.gd_defs.specs.Plan.{template_of}
 use Rattle.gd_defs.specs.Template.{tree_of}
-use Rattle.gd_runs.specs.RootSets.{RootSet}
+use Rattle.gd_match_laws.specs.PassedOn.{RootSet}
 use Rattle.gd_match_laws.specs.Walks.{rows_listed}
 use Rattle.gd_work_laws.specs.Turns.{judge_turns}
 use Rattle.gd_work_laws.specs.Scan.{candidate_turns, walk_turns}

@@ -13,7 +13,7 @@ use Rattle.gd_journal.specs.Causes.{HasReason}
 use Rattle.gd_journal.specs.declared.fault.JournalFault.{JournalFault}
 use Rattle.gd_journal.specs.declared.fault.JournalFault.TheVariants.{DiskFault, NotStore, Damaged, Memory}
 use Rattle.gd_change.specs.Fault.{fault_of}
-use Rattle.gd_carry.specs.declared.fault.ChangeFault.{ChangeFault}
+use Rattle.gd_change.specs.PassedOn.{ChangeFault}
 use Rattle.gd_runs.specs.Request.{change_refusal}
 use Rattle.gd_runs.specs.Legal.{Entry, size, exec_line}
 use Rattle.gd_runs.specs.Core.{State, Session, Settles}

@@ -15,8 +15,8 @@ use Rattle.gd_runs.specs.Legal.{History, batches, size, history_bytes, kept_byte
 use Rattle.gd_runs.proofs.Rounds.{length_batches}
 use Rattle.gd_json.specs.declared.value.Json.{Json as Value}
 use Rattle.gd_json.specs.View.{view}
-use Rattle.gd_carry.specs.declared.fault.ChangeFault.{ChangeFault as Fault}
-use Rattle.gd_carry.specs.declared.fault.ChangeFault.TheVariants as fault
+use Rattle.gd_change.specs.PassedOn.{ChangeFault as Fault}
+use Rattle.gd_change.specs.PassedOn.fault
 use Rattle.gd_change.specs.Fault.{GivesChange, fault_of}
 use Rattle.gd_writer.proofs.Alone.{written_may}
 

@@ -1,7 +1,7 @@
 use Rattle.std.proofs.lemmas.Result.{err_from_is_err_and}
 use Rattle.gd_prim.specs.History.{prims_of}
 use Rattle.gd_json.specs.View.{view}
-use Rattle.gd_mql.specs.Requests.{write_view}
+use Rattle.gd_carry.specs.PassedOn.{write_view}
 use Rattle.gd_change.specs.Fault.{fault_of}
 use Rattle.gd_change.proofs.Evaluated.{done_after, full_after, refused_after, well_formed_after, small_refusal}
 use Rattle.gd_change.proofs.write.evaluate.Goals as goal

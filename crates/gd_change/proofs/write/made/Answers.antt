@@ -1,6 +1,6 @@
 use Rattle.std.proofs.Common.{subst, List}
 use Rattle.gd_prim.specs.declared.Primitive.{Primitive}
-use Rattle.gd_mql.specs.Requests.{write_view}
+use Rattle.gd_carry.specs.PassedOn.{write_view}
 use Rattle.gd_carry.specs.Exec.{written}
 use Rattle.gd_change.specs.Fault.{GivesChange}
 use Rattle.gd_change.proofs.Evaluated.{all_viewed}

@@ -2,7 +2,7 @@ use Rattle.std.proofs.Common.{◌∙◌, ap, subst, map, Bor, List, ℕ}
 use Rattle.gd_prim.specs.History.{prims_of}
 use Rattle.gd_defs.specs.Write.Parts as parts
 use Rattle.gd_json.specs.View.{view as json_of}
-use Rattle.gd_plan.specs.Seen.{expects_view}
+use Rattle.gd_compile.specs.PassedOn.{expects_view}
 use Rattle.gd_growing.specs.Seen.{target_view}
 use Rattle.gd_compile.specs.Fault.{Finds}
 use Rattle.gd_intent.proofs.targets.valued_target.Goals as goal

@@ -1,6 +1,6 @@
 use Rattle.std.proofs.Common.{subst, sym}
 use Rattle.gd_bytes.specs.Frozen.{Body}
-use Rattle.gd_suspended_laws.specs.Standing.{marks_of}
+use Rattle.gd_shape.specs.PassedOn.{marks_of}
 use Rattle.gd_read.specs.Freezing.{BodyStands}
 use Rattle.gd_read.specs.Stages.{StageOwes}
 use Rattle.gd_read.specs.declared.stage.Stage.{Stage}

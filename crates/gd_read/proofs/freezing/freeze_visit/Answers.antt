@@ -3,7 +3,7 @@ use Rattle.gd_bytes.specs.Frozen.{Body, Scan, scanning}
 use Rattle.gd_plan.specs.Asked.{asked_view}
 use Rattle.gd_frozen.specs.Meaning.{body_of, row_of}
 use Rattle.gd_frozen.specs.declared.frozen.RowAt.{RowAt}
-use Rattle.gd_suspended_laws.specs.Standing.{marks_of}
+use Rattle.gd_shape.specs.PassedOn.{marks_of}
 use Rattle.gd_read.specs.Freezing.{BodyStands}
 use Rattle.gd_read.proofs.Frozen.{start_stands, visit_stands}
 use Rattle.gd_read.proofs.freezing.freeze_visit.Goals as goal

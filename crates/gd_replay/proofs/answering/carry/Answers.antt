@@ -17,17 +17,17 @@ returns-then-opens_again-clause-takes g c =
     let before = g.D.Disk.faults c.args.running.side.log.disk in
     rw (c.opens_again.ensures.again c.if-opens_again.true)
     (ok_two c.reopen.result _ _ _
-    (λ both takes left. λ members. reopened_paced told members may s c.args.line c.args.bytes (core_state both.0) before (g.D.Disk.faults both.0.side.log.disk) (left_now c.args.running) (left_now both.0) both.1 left
-    (reopened_counted told members may s c.args.line c.args.bytes (core_state both.0) before (g.D.Disk.faults both.0.side.log.disk) both.1 (takes members may c.args.bytes)))
+    (λ both takes left. reopened_paced told may s c.args.line c.args.bytes (core_state both.0) before (g.D.Disk.faults both.0.side.log.disk) (left_now c.args.running) (left_now both.0) both.1 left
+    (reopened_counted told may s c.args.line c.args.bytes (core_state both.0) before (g.D.Disk.faults both.0.side.log.disk) both.1 (takes may c.args.bytes)))
     c.reopen.ensures.takes c.reopen.ensures.left)
 
 pub returns-then-opens_again-clause-unmade : goal.returns-then-opens_again-clause-unmade
 returns-then-opens_again-clause-unmade g c =
     let may = g.C.Clock.may c.args.running.side.clock in
-    ok_more c.reopen.result _ _ (λ both takes. λ tells. unmade_before (is_some (g.D.Disk.content c.args.running.side.log.disk)) tells may (core_state c.args.running) c.args.line 0 (core_state both.0) both.1 (λ members. takes members may 0)) c.reopen.ensures.takes
+    ok_more c.reopen.result _ _ (λ both takes. λ tells. unmade_before (is_some (g.D.Disk.content c.args.running.side.log.disk)) tells may (core_state c.args.running) c.args.line 0 (core_state both.0) both.1 (takes may 0)) c.reopen.ensures.takes
 
 pub returns-clause-takes : goal.returns-clause-takes
-returns-clause-takes g c = λ members. (c.step-reply.ensures.takes (is_some (g.D.Disk.content c.args.running.side.log.disk)) members, c.step-reply.ensures.counted, λ d. c.step-reply.ensures.paced c.new-steps.ensures members d)
+returns-clause-takes g c = (c.step-reply.ensures.takes (is_some (g.D.Disk.content c.args.running.side.log.disk)), c.step-reply.ensures.counted, λ d. c.step-reply.ensures.paced c.new-steps.ensures d)
 
 pub returns-clause-below : goal.returns-clause-below
 returns-clause-below g c =
@@ -41,7 +41,7 @@ returns-then-opens_again-clause-along g c =
     let may = g.C.Clock.may c.args.running.side.clock in
     ok_each c.reopen.result _ _ _ _ _
     (λ both takes clock opens. along_opened g.D.Disk.content g.D.Disk.faults g.C.Clock.may g.D.Disk.moment g.D.Disk.images g.D.Disk.images_since c.args.running.side both.0.side clock opens
-    (λ tells. due_grows (is_some (g.D.Disk.content c.args.running.side.log.disk)) tells may (core_state c.args.running) c.args.line 0 core.reopen (core_state both.0) both.1 (λ members. takes members may 0)))
+    (λ tells. due_grows (is_some (g.D.Disk.content c.args.running.side.log.disk)) tells may (core_state c.args.running) c.args.line 0 core.reopen (core_state both.0) both.1 (takes may 0)))
     c.reopen.ensures.takes c.reopen.ensures.clock c.reopen.ensures.disk
 
 pub returns-then-opens_again-clause-lost : goal.returns-then-opens_again-clause-lost

@@ -4,8 +4,7 @@ use Rattle.gd_base.specs.Counts.{Rose, RoseBy}
 use Rattle.gd_prim.specs.declared.Batch.{Batch}
 use Rattle.gd_runs.specs.Legal.{batches}
 use Rattle.gd_runs.specs.Core.{State}
-use Rattle.gd_runs.specs.Owed.{MembersOf}
-use Rattle.gd_writer.specs.Parts.{Tells}
+use Rattle.gd_sessions.specs.PassedOn.{Tells}
 use Rattle.gd_replay_laws.proofs.Faults.{rose_within}
 use Rattle.gd_replay.specs.Kept.{HasBatches}
 use Rattle.gd_replay.specs.Stops.{Leaves, end_faults, RoseWith, EndsAs}
@@ -17,7 +16,7 @@ use Rattle.gd_replay.proofs.Taken.{rose_since}
 use Rattle.gd_replay.proofs.replay.replay.Goals as goal
 
 pub returns-in-Ok-clause-ends : goal.returns-in-Ok-clause-ends
-returns-in-Ok-clause-ends g c = λ members.
+returns-in-Ok-clause-ends g c =
     let running = c.in-Ok.running in
     let begins = c.in-Ok.ensures.begins in
     let content = g.D.Disk.content c.args.disk in
@@ -35,15 +34,15 @@ returns-in-Ok-clause-ends g c = λ members.
     let rises = RoseWith before after c.sent_on.result in
     let loads = λ (l : List Batch). l ≡ running.side.history.loaded in
     let may = g.C.Clock.may running.side.clock in
-    let inner = subst (λ (b : Bool). (m : MembersOf) → EndsAs end (IfSome x (Replays b m may loads (λ t. IsTrue b → Leaves (g.D.Disk.images c.replay_lines-end.result.1) t) (RoseWith opened after end) old mid))
-    (IfSome x (ReplaysTaken b m may loads (λ t. IsTrue b → Leaves (g.D.Disk.images c.replay_lines-end.result.1) t) (RoseWith opened after end) old mid))
-    (IfSome x (ReplaysFront b m may loads (λ t. IsTrue b → Leaves (g.D.Disk.images c.replay_lines-end.result.1) t) (RoseWith opened after end) old mid)) ⊥) c.in-Ok.ensures.disk.told c.replay_lines-end.ensures.ends in
-    subst (λ (m : ℕ → Bool). EndsAs c.sent_on.result (IfSome x (Replays (is_some content) members m (Loads content) leaves rises old new)) (IfSome x (ReplaysTaken (is_some content) members m (Loads content) leaves rises old new))
-    (IfSome x (ReplaysFront (is_some content) members m (Loads content) leaves rises old new)) idle) begins.clock
-    (sent_ends (is_some content) members (g.C.Clock.may running.side.clock) (λ l. l ≡ running.side.history.loaded) (Loads content) (λ l is. subst (λ (bs : List Batch). Loads content bs) (sym is) begins.means) leaves
+    let inner = subst (λ (b : Bool). EndsAs end (IfSome x (Replays b may loads (λ t. IsTrue b → Leaves (g.D.Disk.images c.replay_lines-end.result.1) t) (RoseWith opened after end) old mid))
+    (IfSome x (ReplaysTaken b may loads (λ t. IsTrue b → Leaves (g.D.Disk.images c.replay_lines-end.result.1) t) (RoseWith opened after end) old mid))
+    (IfSome x (ReplaysFront b may loads (λ t. IsTrue b → Leaves (g.D.Disk.images c.replay_lines-end.result.1) t) (RoseWith opened after end) old mid)) ⊥) c.in-Ok.ensures.disk.told c.replay_lines-end.ensures.ends in
+    subst (λ (m : ℕ → Bool). EndsAs c.sent_on.result (IfSome x (Replays (is_some content) m (Loads content) leaves rises old new)) (IfSome x (ReplaysTaken (is_some content) m (Loads content) leaves rises old new))
+    (IfSome x (ReplaysFront (is_some content) m (Loads content) leaves rises old new)) idle) begins.clock
+    (sent_ends (is_some content) (g.C.Clock.may running.side.clock) (λ l. l ≡ running.side.history.loaded) (Loads content) (λ l is. subst (λ (bs : List Batch). Loads content bs) (sym is) begins.means) leaves
     (RoseWith opened after end) rises (λ n rose. subst (λ (own : ℕ). RoseBy before after (n + own)) (sym same) (rose_within opened after before after (n + end_faults end) c.in-Ok.ensures.disk.later (omega arith) rose)) old mid new c.flush-sent.ensures.bytes idle x
     end c.flush-sent.result c.sent_on.result c.sent_on.ensures
-    (inner members))
+    inner)
 
 pub returns-in-Ok-clause-at_end : goal.returns-in-Ok-clause-at_end
 returns-in-Ok-clause-at_end g c = sent_at_end c.replay_lines-end.result.0 c.flush-sent.result c.sent_on.result _ c.sent_on.ensures c.replay_lines-end.ensures.at_end

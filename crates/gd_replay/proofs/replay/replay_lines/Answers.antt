@@ -4,7 +4,7 @@ use Rattle.std.specs.Option.{is_some}
 use Rattle.gd_input.proofs.Taken.{taken_known, none_taken}
 use Rattle.gd_runs.specs.Legal.{batches}
 use Rattle.gd_runs.specs.Core.{State}
-use Rattle.gd_writer.specs.Parts.{Tells}
+use Rattle.gd_sessions.specs.PassedOn.{Tells}
 use Rattle.gd_sessions.specs.Running.{core_state, left_now}
 use Rattle.gd_replay.specs.Stops.{Leaves}
 use Rattle.gd_replay.proofs.Begun.{begun_upto, begun_advances, begun_bounded, begun_below, prints_by, stops_by, stops_more}
@@ -19,7 +19,7 @@ loop-piece-init g c =
     let left = g.S.Source.left c.args.source.now in
     let new = c.new-reader.ensures in
     record {
-      upto = λ members. begun_upto (is_some (g.D.Disk.content c.args.running.side.log.disk)) members (g.C.Clock.may c.args.running.side.clock) c.args.running.side.history.loaded (g.K.Sink.held c.args.sink.now) (g.D.Disk.faults c.args.running.side.log.disk) (core_state c.args.running) (left_now c.args.running) c.new-reader.result left c.requires.left new c.requires.opened;
+      upto = begun_upto (is_some (g.D.Disk.content c.args.running.side.log.disk)) (g.C.Clock.may c.args.running.side.clock) c.args.running.side.history.loaded (g.K.Sink.held c.args.sink.now) (g.D.Disk.faults c.args.running.side.log.disk) (core_state c.args.running) (left_now c.args.running) c.new-reader.result left c.requires.left new c.requires.opened;
       advances = begun_advances c.new-reader.result left new;
       given = none_taken (g.S.Source.given c.args.source.now) c.new-reader.result new;
       counted = omega arith;
@@ -48,10 +48,10 @@ loop-piece-preserved g c =
     let y = prepend_known c.loop-piece.reader.bytes (g.S.Source.left c.loop-piece.source) in
     let z = prepend_known c.read_line.new.self.bytes (g.S.Source.left c.read_line.new.source) in
     record {
-      upto = λ members. more_known (is_some (g.D.Disk.content c.args.running.side.log.disk)) members given loaded old mid new begun before after k s (left_now c.loop-piece.current)
-          c.in-Ok-take_piece.count (core_state c.in-Ok-take_piece.next) (left_now c.in-Ok-take_piece.next) x y z c.in-Ok.piece c.if-by_newline.true (inv.upto members) c.in-Ok.ensures.line
-          (λ bytes kept. prints_by (is_some (g.D.Disk.content c.args.running.side.log.disk)) (is_some (g.D.Disk.content c.loop-piece.current.side.log.disk)) inv.along.told members given may inv.along.clock s k bytes mid new before after (left_now c.loop-piece.current) (core_state c.in-Ok-take_piece.next) c.in-Ok-take_piece.count (left_now c.in-Ok-take_piece.next)
-          (c.in-Ok-take_piece.ensures.prints members bytes kept));
+      upto = more_known (is_some (g.D.Disk.content c.args.running.side.log.disk)) given loaded old mid new begun before after k s (left_now c.loop-piece.current)
+          c.in-Ok-take_piece.count (core_state c.in-Ok-take_piece.next) (left_now c.in-Ok-take_piece.next) x y z c.in-Ok.piece c.if-by_newline.true inv.upto c.in-Ok.ensures.line
+          (λ bytes kept. prints_by (is_some (g.D.Disk.content c.args.running.side.log.disk)) (is_some (g.D.Disk.content c.loop-piece.current.side.log.disk)) inv.along.told given may inv.along.clock s k bytes mid new before after (left_now c.loop-piece.current) (core_state c.in-Ok-take_piece.next) c.in-Ok-take_piece.count (left_now c.in-Ok-take_piece.next)
+          (c.in-Ok-take_piece.ensures.prints bytes kept));
       advances = advances_then x y z c.loop-piece.reader.consumed c.read_line.new.self.consumed inv.advances c.read_line.ensures.advances;
       given = c.read_line.ensures.counted (g.S.Source.given c.args.source.now) inv.given;
       counted = (let forward = c.in-Ok.ensures.forward c.if-by_newline.true in let few = c.in-Ok-take_piece.ensures.few in omega (arith, inv.counted, forward, few));
@@ -63,7 +63,7 @@ loop-piece-preserved g c =
     }
 
 pub returns-else-by_newline-clause-ends : goal.returns-else-by_newline-clause-ends
-returns-else-by_newline-clause-ends g c = λ members.
+returns-else-by_newline-clause-ends g c =
     let inv = c.loop-piece.invariant in
     let loaded = c.args.running.side.history.loaded in
     let given = g.C.Clock.may c.args.running.side.clock in
@@ -80,14 +80,14 @@ returns-else-by_newline-clause-ends g c = λ members.
     let y = prepend_known c.loop-piece.reader.bytes (g.S.Source.left c.loop-piece.source) in
     let z = prepend_known c.read_line.new.self.bytes (g.S.Source.left c.read_line.new.source) in
     rw c.ended.ensures.parts
-    (done_known (is_some (g.D.Disk.content c.args.running.side.log.disk)) members given loaded old mid new begun before after k s (left_now c.loop-piece.current)
-    (λ (t : State). Tells (g.D.Disk.content c.args.running.side.log.disk) → Leaves (g.D.Disk.images c.in-Ok-take_piece.next.side.log.disk) t) c.in-Ok-take_piece.count (core_state c.in-Ok-take_piece.next) (left_now c.in-Ok-take_piece.next) x y z c.in-Ok.piece c.if-by_newline.false (inv.upto members) c.in-Ok.ensures.line
-    (λ bytes kept. prints_by (is_some (g.D.Disk.content c.args.running.side.log.disk)) (is_some (g.D.Disk.content c.loop-piece.current.side.log.disk)) inv.along.told members given may inv.along.clock s k bytes mid new before after (left_now c.loop-piece.current) (core_state c.in-Ok-take_piece.next) c.in-Ok-take_piece.count (left_now c.in-Ok-take_piece.next) (c.in-Ok-take_piece.ensures.prints members bytes kept))
+    (done_known (is_some (g.D.Disk.content c.args.running.side.log.disk)) given loaded old mid new begun before after k s (left_now c.loop-piece.current)
+    (λ (t : State). Tells (g.D.Disk.content c.args.running.side.log.disk) → Leaves (g.D.Disk.images c.in-Ok-take_piece.next.side.log.disk) t) c.in-Ok-take_piece.count (core_state c.in-Ok-take_piece.next) (left_now c.in-Ok-take_piece.next) x y z c.in-Ok.piece c.if-by_newline.false inv.upto c.in-Ok.ensures.line
+    (λ bytes kept. prints_by (is_some (g.D.Disk.content c.args.running.side.log.disk)) (is_some (g.D.Disk.content c.loop-piece.current.side.log.disk)) inv.along.told given may inv.along.clock s k bytes mid new before after (left_now c.loop-piece.current) (core_state c.in-Ok-take_piece.next) c.in-Ok-take_piece.count (left_now c.in-Ok-take_piece.next) (c.in-Ok-take_piece.ensures.prints bytes kept))
     (λ tells. c.ended.ensures.holds (tells_on g.D.Disk.content g.D.Disk.faults g.C.Clock.may c.loop-piece.current.side c.in-Ok-take_piece.next.side c.in-Ok-take_piece.ensures.along
     (tells_on g.D.Disk.content g.D.Disk.faults g.C.Clock.may c.args.running.side c.loop-piece.current.side inv.along tells))))
 
 pub returns-in-Err-take_piece-clause-ends : goal.returns-in-Err-take_piece-clause-ends
-returns-in-Err-take_piece-clause-ends g c = λ members.
+returns-in-Err-take_piece-clause-ends g c =
     let inv = c.loop-piece.invariant in
     let loaded = c.args.running.side.history.loaded in
     let given = g.C.Clock.may c.args.running.side.clock in
@@ -105,11 +105,11 @@ returns-in-Err-take_piece-clause-ends g c = λ members.
     let z = prepend_known c.read_line.new.self.bytes (g.S.Source.left c.read_line.new.source) in
     let tells_now = tells_on g.D.Disk.content g.D.Disk.faults g.C.Clock.may c.args.running.side c.loop-piece.current.side inv.along in
     let leaves = λ (t : State). Tells (g.D.Disk.content c.args.running.side.log.disk) → Leaves (g.D.Disk.images c.in-Err-take_piece.disk) t in
-    stops_known (is_some (g.D.Disk.content c.args.running.side.log.disk)) members given loaded old mid new begun before after k s (left_now c.loop-piece.current)
-    leaves c.in-Err-take_piece.stop _ _ c.in-Err-take_piece.ensures.caused x y z c.in-Ok.piece (inv.upto members) c.in-Ok.ensures.line
-    (λ bytes kept. stops_by (is_some (g.D.Disk.content c.args.running.side.log.disk)) (is_some (g.D.Disk.content c.loop-piece.current.side.log.disk)) inv.along.told members given may inv.along.clock s k bytes mid new before after (left_now c.loop-piece.current) leaves c.in-Err-take_piece.stop
-    (stops_more (is_some (g.D.Disk.content c.args.running.side.log.disk)) (is_some (g.D.Disk.content c.loop-piece.current.side.log.disk)) inv.along.told members given may inv.along.clock s k bytes mid new before after (left_now c.loop-piece.current) (λ (t : State). Tells (g.D.Disk.content c.loop-piece.current.side.log.disk) → Leaves (g.D.Disk.images c.in-Err-take_piece.disk) t) leaves (λ t left tells. left (tells_now tells)) c.in-Err-take_piece.stop
-    (c.in-Err-take_piece.ensures.stops members bytes kept)))
+    stops_known (is_some (g.D.Disk.content c.args.running.side.log.disk)) given loaded old mid new begun before after k s (left_now c.loop-piece.current)
+    leaves c.in-Err-take_piece.stop _ _ c.in-Err-take_piece.ensures.caused x y z c.in-Ok.piece inv.upto c.in-Ok.ensures.line
+    (λ bytes kept. stops_by (is_some (g.D.Disk.content c.args.running.side.log.disk)) (is_some (g.D.Disk.content c.loop-piece.current.side.log.disk)) inv.along.told given may inv.along.clock s k bytes mid new before after (left_now c.loop-piece.current) leaves c.in-Err-take_piece.stop
+    (stops_more (is_some (g.D.Disk.content c.args.running.side.log.disk)) (is_some (g.D.Disk.content c.loop-piece.current.side.log.disk)) inv.along.told given may inv.along.clock s k bytes mid new before after (left_now c.loop-piece.current) (λ (t : State). Tells (g.D.Disk.content c.loop-piece.current.side.log.disk) → Leaves (g.D.Disk.images c.in-Err-take_piece.disk) t) leaves (λ t left tells. left (tells_now tells)) c.in-Err-take_piece.stop
+    (c.in-Err-take_piece.ensures.stops bytes kept)))
 
 pub returns-in-Err-take_piece-clause-caused : goal.returns-in-Err-take_piece-clause-caused
 returns-in-Err-take_piece-clause-caused g c =
@@ -119,12 +119,12 @@ returns-in-Err-take_piece-clause-caused g c =
     (g.D.Disk.faults c.args.running.side.log.disk) (g.D.Disk.faults c.loop-piece.current.side.log.disk) (g.D.Disk.faults c.in-Err-take_piece.disk) inv.sink_later inv.along.later c.in-Err-take_piece.ensures.caused)
 
 pub returns-in-Err-clause-ends : goal.returns-in-Err-clause-ends
-returns-in-Err-clause-ends g c = λ members.
+returns-in-Err-clause-ends g c =
     let inv = c.loop-piece.invariant in
     rw c.stopped.ensures.parts
-    (input_known (is_some (g.D.Disk.content c.args.running.side.log.disk)) members (g.C.Clock.may c.args.running.side.clock) c.args.running.side.history.loaded (λ (t : State). Tells (g.D.Disk.content c.args.running.side.log.disk) → Leaves (g.D.Disk.images c.loop-piece.current.side.log.disk) t) (g.K.Sink.held c.args.sink.now) (g.K.Sink.held c.loop-piece.sink)
+    (input_known (is_some (g.D.Disk.content c.args.running.side.log.disk)) (g.C.Clock.may c.args.running.side.clock) c.args.running.side.history.loaded (λ (t : State). Tells (g.D.Disk.content c.args.running.side.log.disk) → Leaves (g.D.Disk.images c.loop-piece.current.side.log.disk) t) (g.K.Sink.held c.args.sink.now) (g.K.Sink.held c.loop-piece.sink)
     (g.D.Disk.faults c.args.running.side.log.disk) (g.D.Disk.faults c.loop-piece.current.side.log.disk) c.loop-piece.line (core_state c.loop-piece.current) (left_now c.loop-piece.current) c.in-Err.fault
-    (g.S.Source.left c.args.source.now) (prepend_known c.loop-piece.reader.bytes (g.S.Source.left c.loop-piece.source)) (inv.upto members)
+    (g.S.Source.left c.args.source.now) (prepend_known c.loop-piece.reader.bytes (g.S.Source.left c.loop-piece.source)) inv.upto
     (λ tells. c.stopped.ensures.holds (tells_on g.D.Disk.content g.D.Disk.faults g.C.Clock.may c.args.running.side c.loop-piece.current.side inv.along tells)))
 
 pub returns-else-by_newline-clause-kept : goal.returns-else-by_newline-clause-kept

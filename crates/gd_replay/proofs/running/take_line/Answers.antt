@@ -4,7 +4,7 @@ use Rattle.std.proofs.KnownBytes.{Keeps-refl}
 use Rattle.gd_base.specs.Counts.{Rose}
 use Rattle.gd_runs.specs.Legal.{batches}
 use Rattle.gd_runs.specs.Core.{State}
-use Rattle.gd_writer.specs.Parts.{Tells}
+use Rattle.gd_sessions.specs.PassedOn.{Tells}
 use Rattle.gd_replay_laws.specs.Runs.{AreBelow}
 use Rattle.gd_sessions.specs.Running.{RunningValue, core_state, left_now}
 use Rattle.gd_replay.specs.Stops.{Leaves, GoesAlong}
@@ -25,9 +25,9 @@ returns-in-Ok-clause-prints g c =
     let faults = g.D.Disk.faults in
     let before = faults c.args.running.side.log.disk in
     ok_two c.print_or_halt.result _ _ _
-    (λ next is printed. λ members bytes kept.
-    subst (λ (r : RunningValue _ _). LinePrints (is_some (g.D.Disk.content c.args.running.side.log.disk)) members may s c.args.line bytes (core_state r) old new before (faults r.side.log.disk) (left_now c.args.running) (left_now r)) (sym is)
-    (printed_line (is_some (g.D.Disk.content c.args.running.side.log.disk)) members may s (core_state c.in-Ok.running) c.args.line bytes old new before (faults c.in-Ok.running.side.log.disk) (left_now c.args.running) (left_now c.in-Ok.running) c.in-Ok.reply (c.in-Ok.ensures.answers members bytes kept) printed))
+    (λ next is printed. λ bytes kept.
+    subst (λ (r : RunningValue _ _). LinePrints (is_some (g.D.Disk.content c.args.running.side.log.disk)) may s c.args.line bytes (core_state r) old new before (faults r.side.log.disk) (left_now c.args.running) (left_now r)) (sym is)
+    (printed_line (is_some (g.D.Disk.content c.args.running.side.log.disk)) may s (core_state c.in-Ok.running) c.args.line bytes old new before (faults c.in-Ok.running.side.log.disk) (left_now c.args.running) (left_now c.in-Ok.running) c.in-Ok.reply (c.in-Ok.ensures.answers bytes kept) printed))
     c.print_or_halt.ensures.same c.print_or_halt.ensures.printed
 
 pub returns-in-Ok-clause-below : goal.returns-in-Ok-clause-below
@@ -46,11 +46,11 @@ returns-in-Ok-clause-stops g c =
     let before = faults c.args.running.side.log.disk in
     let rose = Rose (g.K.Sink.faults c.args.sink.now) (g.K.Sink.faults c.print_or_halt.new.sink) in
     err_four c.print_or_halt.result _ _ _ _ _
-    (λ halt why front disk holds. λ members bytes kept.
+    (λ halt why front disk holds. λ bytes kept.
     let leaves = λ (t : State). Tells (g.D.Disk.content c.args.running.side.log.disk) → Leaves (g.D.Disk.images halt.1) t in
-    subst (λ d. LineStops (is_some (g.D.Disk.content c.args.running.side.log.disk)) members may s c.args.line bytes leaves halt.0 old new before (faults d) (left_now c.args.running)) (sym disk)
-    (halted_line (is_some (g.D.Disk.content c.args.running.side.log.disk)) members may s (core_state c.in-Ok.running) c.args.line bytes leaves halt.0 rose old new before (faults c.in-Ok.running.side.log.disk) (left_now c.args.running) (left_now c.in-Ok.running) c.in-Ok.reply why
-    (c.in-Ok.ensures.answers members bytes kept) front (λ tells. holds (tells_on g.D.Disk.content g.D.Disk.faults g.C.Clock.may c.args.running.side c.in-Ok.running.side c.in-Ok.ensures.along tells))
+    subst (λ d. LineStops (is_some (g.D.Disk.content c.args.running.side.log.disk)) may s c.args.line bytes leaves halt.0 old new before (faults d) (left_now c.args.running)) (sym disk)
+    (halted_line (is_some (g.D.Disk.content c.args.running.side.log.disk)) may s (core_state c.in-Ok.running) c.args.line bytes leaves halt.0 rose old new before (faults c.in-Ok.running.side.log.disk) (left_now c.args.running) (left_now c.in-Ok.running) c.in-Ok.reply why
+    (c.in-Ok.ensures.answers bytes kept) front (λ tells. holds (tells_on g.D.Disk.content g.D.Disk.faults g.C.Clock.may c.args.running.side c.in-Ok.running.side c.in-Ok.ensures.along tells))
     (back_told c.in-Ok.reply _ _ _ (λ tells. on_err_more c.in-Ok.reply _ _ (λ before left file is. before file (left file is)) (c.in-Ok.ensures.unmade tells))) c.in-Ok.ensures.along.later))
     c.print_or_halt.ensures.halt c.print_or_halt.ensures.front c.print_or_halt.ensures.disk c.print_or_halt.ensures.holds
 
@@ -84,7 +84,7 @@ returns-in-Err-clause-kept g c = λ tells.
     )
 
 pub returns-in-Err-clause-stops : goal.returns-in-Err-clause-stops
-returns-in-Err-clause-stops g c = λ members bytes kept.
+returns-in-Err-clause-stops g c = λ bytes kept.
     let lost = c.in-Err.ensures.lost in
     record {
       left = lost.holds;

@@ -3,7 +3,7 @@ use Rattle.std.proofs.lemmas.List.{length-map}
 use Rattle.std.proofs.KnownBytes.{Appends-nil}
 use Rattle.std.specs.Io.KnownBytes.{Appends}
 use Rattle.gd_reply.specs.Replies.{reply_text}
-use Rattle.gd_caller.specs.Served.{printed}
+use Rattle.gd_threads.specs.PassedOn.{printed}
 use Rattle.gd_outside.proofs.Fronts.{at_err}
 use Rattle.gd_top.proofs.Printed.{reply_at, printed_more, printed_stops, printed_all}
 use Rattle.gd_top.proofs.printing.print_made.Goals as goal

@@ -1,7 +1,7 @@
 use Rattle.std.proofs.Common.{◌≤◌, map, take}
 use Rattle.std.specs.Io.KnownBytes.{Appends}
 use Rattle.gd_reply.specs.Replies.{reply_text}
-use Rattle.gd_caller.specs.Served.{printed}
+use Rattle.gd_threads.specs.PassedOn.{printed}
 use Rattle.gd_top.proofs.printing.print_made.Given as goal
 
 abbrev pub invariant-loop-reply : goal.invariant-loop-reply

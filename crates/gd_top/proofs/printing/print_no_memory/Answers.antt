@@ -3,7 +3,7 @@ use Rattle.std.proofs.KnownBytes.{Appends-nil}
 use Rattle.std.specs.Io.KnownBytes.{Appends}
 use Rattle.gd_runs.specs.Explained.{memory_line}
 use Rattle.gd_round_lines.specs.Replies.{no_memory}
-use Rattle.gd_caller.specs.Served.{printed}
+use Rattle.gd_threads.specs.PassedOn.{printed}
 use Rattle.gd_outside.proofs.Fronts.{at_err}
 use Rattle.gd_top.proofs.Printed.{passed_at, length-passed, printed_more, printed_stops, printed_all}
 use Rattle.gd_top.proofs.printing.print_no_memory.Goals as goal

@@ -1,7 +1,7 @@
 use Rattle.std.proofs.Common.{◌≤◌, ◌-◌, take}
 use Rattle.std.specs.Io.KnownBytes.{Appends}
 use Rattle.gd_round_lines.specs.Replies.{no_memory}
-use Rattle.gd_caller.specs.Served.{printed}
+use Rattle.gd_threads.specs.PassedOn.{printed}
 use Rattle.gd_top.proofs.printing.print_no_memory.Given as goal
 
 abbrev pub invariant-loop-line : goal.invariant-loop-line

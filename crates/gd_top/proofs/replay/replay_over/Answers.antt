@@ -3,7 +3,7 @@ use Rattle.std.specs.Option.{is_some}
 use Rattle.gd_base.specs.Counts.{RoseBy}
 use Rattle.gd_log.specs.Opening.{IsKept}
 use Rattle.gd_runs.specs.Core.{State}
-use Rattle.gd_writer.specs.Parts.{Tells}
+use Rattle.gd_threads.specs.PassedOn.{Tells}
 use Rattle.gd_replay.specs.Kept.{HasBatches}
 use Rattle.gd_replay.specs.Stops.{Leaves}
 use Rattle.gd_top.specs.Ends.{IsIdle}
@@ -13,16 +13,16 @@ use Rattle.gd_top.proofs.Replayed.{events_print, ends_unbegun, idle_is, events_a
 use Rattle.gd_top.proofs.replay.replay_over.Goals as goal
 
 pub returns-clause-prints : goal.returns-clause-prints
-returns-clause-prints g c = λ members.
+returns-clause-prints g c =
     let run = c.replay-end in
     let source = c.args.source.now in
     let sink = c.args.sink.now in
     let d = g.D.Disk in
     rw c.status_of.ensures
-    (events_print (is_some (d.content c.args.disk)) members (g.C.Clock.may c.args.clock) (Loads (g.D.Disk.content c.args.disk)) (λ (t : State). Tells (d.content c.args.disk) → Leaves (d.images run.result.1) t)
+    (events_print (is_some (d.content c.args.disk)) (g.C.Clock.may c.args.clock) (Loads (g.D.Disk.content c.args.disk)) (λ (t : State). Tells (d.content c.args.disk) → Leaves (d.images run.result.1) t)
     (RoseBy (g.D.Disk.faults c.args.disk) (g.D.Disk.faults run.result.1))
     (IsIdle source run.new.source sink run.new.sink × StaysTold (d.content c.args.disk) (d.content run.result.1) (d.images c.args.disk) (d.images run.result.1)) (g.S.Source.left source) (g.K.Sink.held sink) (g.K.Sink.held run.new.sink) (λ m n less rose. fewer_rose (d.faults c.args.disk) (d.faults run.result.1) m n less rose) run.result.0
-    (ends_unbegun d.content d.moment d.images d.images_since c.args.disk run.result.1 run.result.0 run.ensures.kept _ _ _ _ _ (idle_is source run.new.source sink run.new.sink) (run.ensures.ends members)))
+    (ends_unbegun d.content d.moment d.images d.images_since c.args.disk run.result.1 run.result.0 run.ensures.kept _ _ _ _ _ (idle_is source run.new.source sink run.new.sink) run.ensures.ends))
 
 pub returns-clause-at_end : goal.returns-clause-at_end
 returns-clause-at_end g c = λ is. events_at_end c.replay-end.result.0 _ c.replay-end.ensures.at_end (sym c.status_of.ensures ∙ is)

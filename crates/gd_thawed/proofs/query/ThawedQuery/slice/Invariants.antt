@@ -1,4 +1,4 @@
-use Rattle.std.proofs.Common.{◌≡◌, ℕ, ◌+◌, ◌-◌, ◌^◌, ◌≤◌, min}
+use Rattle.std.proofs.Common.{◌≡◌, ◌+◌, ◌-◌, ◌^◌, ◌≤◌, min}
 use Rattle.gd_defs.specs.Reply.{Answer}
 use Rattle.gd_thawed.specs.Query.{IsGoing}
 use Rattle.gd_thawed.proofs.query.ThawedQuery.slice.Given as goal

@@ -3,7 +3,7 @@ use Rattle.std.specs.List.{All}
 use Rattle.logbook.specs.Pages.{Book}
 use Rattle.gd_input.specs.Rounds.{AreKept, in_round}
 use Rattle.gd_runs.specs.Explained.{Numbered}
-use Rattle.gd_writer.specs.Side.{SideValue}
+use Rattle.gd_crew.specs.PassedOn.{SideValue, AllRight, CountsLines}
 use Rattle.gd_reply.specs.Replies.{reply_text}
 use Rattle.gd_round_lines.specs.Fresh.{IsFreshFrom}
 use Rattle.gd_round_lines.specs.Works.{texts_of, AreRead, AreWithin}
@@ -12,8 +12,6 @@ use Rattle.gd_crew.specs.Texts.{kept_lines}
 use Rattle.gd_crew.proofs.Joined.{kept}
 use Rattle.gd_threads.specs.Served.{RoundsValue}
 use Rattle.gd_threads.specs.Rounds.{AnswersRound}
-use Rattle.gd_lookup.specs.Keeping.{AllRight}
-use Rattle.gd_lookup.specs.Calls.{CountsLines}
 use Rattle.gd_caller.proofs.CountedLines.{lines_counted}
 use Rattle.gd_threads.proofs.Kept.{all_later, shown_more, shown_run}
 use Rattle.gd_threads.proofs.Served.{answered, kept_of_writes, fresh_behind, texts_in}

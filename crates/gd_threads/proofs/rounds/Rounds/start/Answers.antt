@@ -1,6 +1,6 @@
 use Rattle.std.proofs.Common.{◌∙◌, sym, subst, option_map, arith}
-use Rattle.gd_lookup.specs.Keeping.{KeepingValue, AllRight}
-use Rattle.gd_lookup.proofs.Counted.{first_right}
+use Rattle.gd_crew.specs.PassedOn.{KeepingValue, AllRight}
+use Rattle.gd_crew.proofs.PassedOn.{first_right}
 use Rattle.gd_threads.proofs.Between.{begins_fresh}
 use Rattle.gd_threads.proofs.rounds.Rounds.start.Goals as goal
 

@@ -1,0 +1,2 @@
+-- The laws of the crates below that crates above name from here, so that they name those crates no more.
+pub use Rattle.gd_read.proofs.States as states

@@ -1,0 +1,5 @@
+pub mod Fault
+pub mod Thawing
+pub mod Thawed
+pub mod Held
+pub mod PassedOn

@@ -1,0 +1,2 @@
+-- The definitions of the crates below that crates above name from here, so that they name those crates no more.
+pub use Rattle.gd_fault.specs.Fault.{code_view}

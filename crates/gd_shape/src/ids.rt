@@ -1,0 +1,45 @@
+//! How many ids a page prints.
+ghost use Rattle.std.specs.Prelude.{◌≡◌, map, take, IfOk, if◌then◌else◌};
+ghost use Rattle.gd_prim.specs.History.{prims_of};
+ghost use Rattle.gd_plan.specs.Asked.{asked_view};
+ghost use Rattle.gd_runs.specs.Shape.Ids.{page_ids};
+ghost use Rattle.gd_trees.specs.View.{view as tree_view};
+
+use crate::gather::objects_printed;
+use crate::sight::Sight;
+use gd_base::memory::Memory;
+use gd_plan::asked::Asked;
+use gd_trees::View;
+use gd_trees::tree::Tree;
+use std::alloc::Global;
+
+/// The first tree alone, if there is one.
+fn first_alone(trees: &[Tree]) -> &[Tree]
+    ensures { result.now ≡ take 1 trees.now }
+{
+    if trees.len() > 1 { &trees[..1] } else { trees }
+}
+
+/// The trees of the rows that are printed: an object form prints the first alone.
+fn trees_printed(listed: bool, trees: &[Tree]) -> &[Tree]
+    ensures { result.now ≡ (if listed then trees.now else take 1 trees.now) }
+{
+    if listed { trees } else { first_alone(trees) }
+}
+
+/// How many ids a page prints of a query, over a view, from the trees of its rows: each as often as
+/// it does. `Memory`: an allocation was refused.
+pub fn ids_printed(
+    alloc: Global,
+    view: &View<'_>,
+    asked: &Asked,
+    trees: &[Tree],
+) -> Result<usize, Memory>
+    ensures { IfOk result (λ count. count ≡ page_ids (prims_of view.now) (asked_view asked.now)
+        (map tree_view trees.now)) }
+{
+    let sight = Sight::new(view);
+    let printed = trees_printed(asked.listed, trees);
+    let objects = objects_printed(alloc, &sight, asked, printed)?;
+    Ok(objects.as_slice().len())
+}
