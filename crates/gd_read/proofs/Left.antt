@@ -1,5 +1,5 @@
 -- What is left of a reading falls by the steps that are taken.
-use Rattle.std.proofs.Common.{◌≡◌, ℕ, zero, suc, ◌+◌, ◌-◌, ◌<◌, ◌≤◌, List, Option, Result, Ok, Err, refl, arith}
+use Rattle.std.proofs.Common.{◌≡◌, ℕ, zero, suc, ◌+◌, ◌<◌, ◌≤◌, List, Option, Result, Ok, Err, refl, arith}
 use Rattle.std.specs.Prelude.{IfOk}
 use Rattle.gd_prim.specs.declared.Batch.{Batch}
 use Rattle.gd_defs.specs.Reply.{Mark}

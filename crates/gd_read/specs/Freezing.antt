@@ -1,17 +1,18 @@
 -- What a reading is frozen as.
-use Rattle.std.specs.Prelude.{◌≡◌, ℕ, ◌+◌, List, Option, None, Some, option_map, Vec}
+use Rattle.std.specs.Prelude.{◌≡◌, ℕ, ◌+◌, List, [], ◌∷◌, Option, None, Some, option_map, Vec}
 use Rattle.std.specs.declared.alloc.Global.{Global}
 use Rattle.gd_prim.specs.declared.Batch.{Batch}
 use Rattle.gd_prim.specs.History.{prims_of}
 use Rattle.gd_defs.specs.Asked.{Asked}
 use Rattle.gd_defs.specs.Reply.{Mark}
-use Rattle.gd_bytes.specs.Frozen.{Body, Frozen, Fits, spelling}
+use Rattle.gd_defs.specs.Template.{Template}
+use Rattle.gd_bytes.specs.Frozen.{Frame, Scan, Body, Frozen, Fits, spelling}
 use Rattle.gd_runs.specs.Core as core
 use Rattle.gd_runs.specs.Request.{ReadRequest, ReadSet, one_query, queries, asks_page}
 use Rattle.gd_mql.specs.Requests.{cursor_view}
 use Rattle.gd_frozen.specs.Meaning.{reading_of}
 use Rattle.gd_frozen.specs.declared.frozen.FrozenReading.{FrozenReading}
-use Rattle.gd_roots.specs.PassedOn.{one_member, Began, StandsFor}
+use Rattle.gd_roots.specs.PassedOn.{one_member, Began, StandsFor, between, stands, told}
 use Rattle.gd_read.specs.Marked.{mark_of}
 use Rattle.gd_read.specs.Stages.{IsAsked}
 use Rattle.gd_read.specs.Subject.{written}
@@ -25,6 +26,16 @@ abbrev pub number_ahead : Option Trying → Option ℕ → ℕ
 number_ahead tried None = 0
 number_ahead None (Some n) = n + 1
 number_ahead (Some r) (Some n) = n
+
+-- a scan behind a number, with a weight and frames; before it, with none, where there are no frames
+abbrev pub scan_with : ℕ → ℕ → List Frame → Scan
+scan_with n weight [] = between n
+scan_with n weight (f ∷ fs) = record { iter = record { place = n + 1; accepted = None }; weight = weight; frames = f ∷ fs }
+
+-- the scan at which a reading is put away that goes on from a number: where the place there is tried by itself, behind it with the frames of the matcher as they are told; or else before it
+abbrev pub scan_ahead : Template → Option Trying → ℕ → Scan
+scan_ahead t None n = between n
+scan_ahead t (Some r) n = scan_with n (told t (stands r.matcher)).weight (told t (stands r.matcher)).frames
 
 -- ---- one query
 

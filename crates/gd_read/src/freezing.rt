@@ -1,5 +1,5 @@
 //! Readings of one query, as they are put away: their rows, and how far they came.
-ghost use Rattle.std.specs.Prelude.{◌≡◌, ◌≤◌, length, map, min, option_map, IfOk};
+ghost use Rattle.std.specs.Prelude.{◌≡◌, ◌<◌, ◌≤◌, length, map, min, option_map, IfOk};
 ghost use Rattle.std.specs.Prelude.{IfSome};
 ghost use Rattle.gd_prim.specs.declared.Batch.{Batch};
 ghost use Rattle.gd_prim.specs.History.{prims_of};
@@ -8,12 +8,15 @@ ghost use Rattle.gd_shape.specs.PassedOn.{start, marks_of, page_objects, view as
 ghost use Rattle.gd_bytes.specs.Frozen.{building, scanning};
 ghost use Rattle.gd_tree.specs.Trees.{no_trees, trees_of};
 ghost use Rattle.gd_plan.specs.Asked.{asked_view};
+ghost use Rattle.gd_defs.specs.Plan.{template_of};
 ghost use Rattle.gd_frozen.specs.Meaning.{body_of, reading_of, row_of, scan_of};
 ghost use Rattle.gd_frozen.specs.Pieces.{trees_in};
 ghost use Rattle.gd_window.specs.Laws.{defined};
 ghost use Rattle.gd_window.specs.declared.row.Row.{Row as WindowRow};
-ghost use Rattle.gd_roots.specs.PassedOn.{between as scan_between};
-ghost use Rattle.gd_read.specs.Freezing.{BodyStands, IsFrozen, number_ahead};
+ghost use Rattle.gd_template.specs.Built.{view as template_view};
+ghost use Rattle.gd_roots.specs.PassedOn.{between as scan_between, stands, told, CanBeTold};
+ghost use Rattle.gd_read.specs.Freezing.{BodyStands, IsFrozen, number_ahead, scan_ahead};
+ghost use Rattle.gd_read.specs.Freezing.{scan_with};
 ghost use Rattle.gd_read.specs.Marked.{mark_of};
 ghost use Rattle.gd_read.specs.Stages.{StageOwes, Visits};
 ghost use Rattle.gd_read.specs.declared.subject.Subject.{Subject as TheSubject};
@@ -23,6 +26,7 @@ use crate::gathering::Gathering;
 use crate::rows::page_of;
 use crate::stage::Stage;
 use crate::subject::Subject;
+use crate::trying::Trying;
 use crate::visiting::Visiting;
 use gd_base::id::Id;
 use gd_base::memory::Memory;
@@ -31,6 +35,7 @@ use gd_frozen::frozen::{FrozenBody, FrozenReading, FrozenScan, RowAt};
 use gd_iter_core::turn::FrozenIter;
 use gd_roots::frozen_list;
 use gd_store::view::View;
+use gd_template::template::Template;
 use gd_window::row::Row;
 use gd_window::window::Window;
 use std::alloc::Global;
@@ -103,6 +108,54 @@ fn scan_before(alloc: Global, place: Id) -> FrozenScan
     }
 }
 
+/// The scan behind a number of which the place is tried, with the frames of its matcher; where none of
+/// them can be told, the one before it, so that the place comes again. `Memory`: an allocation was
+/// refused.
+fn scan_tried(
+    alloc: Global,
+    template: &Template,
+    trying: &Trying,
+    number: Id,
+) -> Result<FrozenScan, Memory>
+    requires told { CanBeTold (stands trying.now.matcher) }
+    requires few { number < 4_294_967_295 }
+    ensures { IfOk result (λ scan. scan_of scan ≡ scan_with number
+        (told (template_view template.now) (stands trying.now.matcher)).weight
+        (told (template_view template.now) (stands trying.now.matcher)).frames) }
+{
+    let told = trying.matcher.freeze(alloc, template)?;
+    if told.frames.is_empty() {
+        return Ok(scan_before(alloc, number));
+    }
+    Ok(FrozenScan {
+        iter: FrozenIter {
+            place: Id::new(number.place() + 1),
+            accepted: None,
+        },
+        weight: told.weight,
+        frames: told.frames,
+    })
+}
+
+/// The scan that goes on from a number, where the place there may be tried. `Memory`: an allocation was
+/// refused.
+fn scan_from(
+    alloc: Global,
+    template: &Template,
+    tried: &Option<Trying>,
+    number: Id,
+) -> Result<FrozenScan, Memory>
+    requires told { IfSome tried.now (λ trying. CanBeTold (stands trying.matcher)) }
+    requires few { IfSome tried.now (λ _. number < 4_294_967_295) }
+    ensures { IfOk result (λ scan. scan_of scan ≡ scan_ahead (template_view template.now) tried.now
+        number) }
+{
+    match tried {
+        Some(trying) => scan_tried(alloc, template, trying, number),
+        None => Ok(scan_before(alloc, number)),
+    }
+}
+
 /// A scan that has come nowhere yet.
 fn scan_again(alloc: Global) -> FrozenBody
     ensures { body_of result ≡ scanning start }
@@ -124,13 +177,14 @@ fn page_again(alloc: Global) -> Result<FrozenBody, Memory>
 
 /// The number of the next row of a page, or of its end.
 fn row_number(gathering: &Gathering, window: &Window) -> Id
-    ensures { result ≡ min gathering.now.next (length (page_objects window.now)) }
+    ensures number { result ≡ min gathering.now.next (length (page_objects window.now)) }
+    ensures few { gathering.now.next < length (page_objects window.now) → result < 4_294_967_295 }
 {
     let page = page_of(window.rows(), window.limit());
     Id::new(gathering.next.min(page.len()) as u32)
 }
 
-/// The trees that are gathered of the first rows. A row that is tried is tried anew. `Memory`: an
+/// The trees that are gathered of the first rows, and the frames of the row that is tried. `Memory`: an
 /// allocation was refused.
 fn gathered_body(
     alloc: Global,
@@ -138,15 +192,21 @@ fn gathered_body(
     window: &Window,
 ) -> Result<FrozenBody, Memory>
     requires little { gathering.now.gathered.weight ≤ 262_144 }
+    requires told { IfSome gathering.now.tried (λ trying. CanBeTold (stands trying.matcher)) }
+    requires next { IfSome gathering.now.tried (λ _. gathering.now.next
+        < length (page_objects window.now)) }
     ensures { IfOk result (λ body. body_of body ≡ building gathering.now.gathered.weight
         (trees_of (map tree_view gathering.now.gathered.trees.items))
-        (scan_between (min gathering.now.next (length (page_objects window.now))))) }
+        (scan_ahead (template_of (asked_view gathering.now.plan)) gathering.now.tried
+        (min gathering.now.next (length (page_objects window.now))))) }
 {
     let trees = frozen_list(alloc, gathering.gathered.trees.as_slice())?;
+    let number = row_number(gathering, window);
+    let scan = scan_from(alloc, gathering.plan.template(), &gathering.tried, number)?;
     Ok(FrozenBody::Build {
         weight: gathering.gathered.weight as u32,
         trees,
-        scan: scan_before(alloc, row_number(gathering, window)),
+        scan,
     })
 }
 
@@ -178,11 +238,12 @@ fn frozen_with(
     Ok(frozen(view, subject, rows, body))
 }
 
-/// The number from which on a visit goes on: that of the place that is tried, which is tried anew, or
-/// else the one behind the last that was given. None: it lies past an end.
+/// The number from which on a visit goes on: that of the place that is tried, or else the one behind
+/// the last that was given. None: it lies past an end.
 fn next_number(visiting: &Visiting, end: Id) -> Option<Id>
-    ensures { IfSome result (λ number. (number ≡ number_ahead visiting.now.tried
+    ensures number { IfSome result (λ number. (number ≡ number_ahead visiting.now.tried
         visiting.now.last) × (number ≤ end)) }
+    ensures before { IfSome result (λ number. IfSome visiting.now.last (λ last. last < end)) }
 {
     let last = match visiting.last {
         Some(last) => last,
@@ -198,8 +259,8 @@ fn next_number(visiting: &Visiting, end: Id) -> Option<Id>
     }
 }
 
-/// A reading that visits places, as it is put away: with the rows so far, at the next number. `Memory`:
-/// an allocation was refused.
+/// A reading that visits places, as it is put away: with the rows so far, at the next number, and with
+/// the frames of the place that is tried. `Memory`: an allocation was refused.
 fn freeze_visit(
     alloc: Global,
     view: &View<'_>,
@@ -212,16 +273,16 @@ fn freeze_visit(
 {
     match next_number(visiting, view.end()) {
         Some(number) => {
-            let body = FrozenBody::Scan(scan_before(alloc, number));
-            frozen_with(alloc, view, subject, window, body)
+            let scan = scan_from(alloc, visiting.plan.template(), &visiting.tried, number)?;
+            frozen_with(alloc, view, subject, window, FrozenBody::Scan(scan))
         }
         None => Ok(frozen(view, subject, Vec::new(alloc), scan_again(alloc))),
     }
 }
 
-/// A reading as it is put away. A place and a row that are tried are tried anew; of the page the trees
-/// are kept that were gathered, and where it is printed they are gathered anew. `Memory`: an
-/// allocation was refused.
+/// A reading as it is put away. A place and a row that are tried are told with the frames of their
+/// matcher, where one of them can be told; of the page the trees are kept that were gathered, and
+/// where it is printed they are gathered anew. `Memory`: an allocation was refused.
 pub(crate) fn freeze_stage(
     alloc: Global,
     view: &View<'_>,
