@@ -11,6 +11,7 @@ mod answer;
 mod cut;
 mod datum;
 mod gather;
+mod guid;
 pub mod ids;
 pub mod keys;
 pub mod known;
