@@ -12,6 +12,7 @@ mod answer;
 mod cut;
 mod datum;
 mod gather;
+mod guid;
 pub mod ids;
 pub mod keys;
 pub mod known;
