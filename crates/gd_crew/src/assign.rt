@@ -59,27 +59,51 @@ fn sessions_of(alloc: Global, works: &Works) -> Result<Vec<u32>, Memory> {
     Ok(sessions)
 }
 
-/// The place of the worker of this number, who is hired where there is none yet.
-fn place_of(
+/// How many jobs the sessions of a worker have.
+fn load_of(worker: &Worker<'_>) -> usize {
+    let mut jobs: usize = 0;
+    for one in worker.seated.as_slice() {
+        jobs = jobs.saturating_add(one.jobs.len());
+    }
+    jobs
+}
+
+/// The place of the first of the workers whose sessions have the fewest jobs.
+fn least_loaded(hired: &[Worker<'_>]) -> usize
+    requires some { 0 < length hired.now }
+    ensures there { result < length hired.now }
+{
+    let mut least = 0;
+    for place in 1..hired.len() {
+        if load_of(&hired[place]) < load_of(&hired[least]) {
+            least = place;
+        }
+    }
+    least
+}
+
+/// The place of the worker who takes a further session: one more is hired where there are fewer
+/// than `workers`, and else it is the one with the fewest jobs.
+fn place_for(
     alloc: Global,
     hired: &mut Vec<Worker<'_>>,
-    number: u32,
+    workers: u32,
     budget: u64,
 ) -> Result<usize, Memory>
+    requires workers { 0 < workers }
     ensures hired { MayHire budget hired.old.items hired.new.items }
     ensures there { IfOk result (λ place. place < length hired.new.items) }
 {
-    for place in 0..hired.len() {
-        if hired[place].number == number {
-            return Ok(place);
-        }
+    let count = hired.len();
+    if count >= workers as usize {
+        return Ok(least_loaded(hired.as_slice()));
     }
     hired.push(Worker {
-        number,
+        number: count as u32,
         budget,
         seated: Vec::new(alloc),
     })?;
-    Ok(hired.len() - 1)
+    Ok(count)
 }
 
 /// Lends a seat to a session, and has it among these.
@@ -111,8 +135,7 @@ fn seat_among<'a>(
     Ok(())
 }
 
-/// Lends a seat to a session, with the worker whose number is that of the session modulo the number
-/// of workers.
+/// Lends a seat to a session, with the worker who takes it.
 fn seat<'a>(
     alloc: Global,
     workers: u32,
@@ -139,7 +162,7 @@ fn seat<'a>(
         hired.old.items }
     ensures capacity { vec_capacity seats.new ≡ vec_capacity seats.old }
 {
-    let place = place_of(alloc, hired, sid % workers, budget)?;
+    let place = place_for(alloc, hired, workers, budget)?;
     let worker = &mut hired[place];
     seat_among(alloc, &mut worker.seated, sid, shown, works, cache, seats)
 }
@@ -189,8 +212,9 @@ fn seat_all<'a, D: Disk, C: Clock>(
 }
 
 /// Lends a seat to each session that has a line in a round, which learns of all that is shown, with
-/// its reads and writes. Session `s` goes to worker `s` modulo `workers`; one who has no session is
-/// left out. A slice of a read has this budget of steps. The replies to the reads of a session are
+/// its reads and writes. Each session goes to a worker of its own, as long as there are fewer than
+/// `workers`, and then to the one whose sessions have the fewest jobs so far; no more are hired than
+/// there are sessions. A slice of a read has this budget of steps. The replies to the reads of a session are
 /// looked up in its cache, at the place of its number, where there is one. Where there are fewer
 /// seats than sessions nobody works. `Memory`: an allocation was refused; the seats are back, and
 /// nobody works.

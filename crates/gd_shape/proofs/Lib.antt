@@ -2,6 +2,7 @@ pub mod Alike
 pub mod Counted
 pub mod Data
 pub mod Due
+pub mod Guids
 pub mod InTrees
 pub mod Knowing
 pub mod Left

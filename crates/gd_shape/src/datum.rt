@@ -17,6 +17,7 @@ ghost use Rattle.gd_runs.specs.Shape.{id_json, own_shape, walk_text};
 ghost use Rattle.gd_shape.specs.Knowing.{IsKnownOf};
 ghost use Rattle.gd_shape.specs.Outcome.{Adds, Lacks, LacksOf};
 
+use crate::guid::guid_bytes;
 use crate::known::Known;
 use crate::sight::{Lack, Sight};
 use crate::spelt::spelt;
@@ -25,7 +26,6 @@ use gd_base::datum::{Datum, Precision};
 use gd_base::id::Id;
 use gd_base::memory::Memory;
 use gd_datum::moment::moment_text;
-use gd_fault::guid::guid;
 use gd_frozen::frozen::Walk;
 use gd_plan::Property;
 use gd_plan::asked::Own;
@@ -117,12 +117,15 @@ fn write_timestamp(
 }
 
 /// Writes the guid of a place.
-fn write_guid(alloc: Global, out: &mut Writer, place: Id) -> Result<(), Memory>
+fn write_guid(out: &mut Writer, place: Id) -> Result<(), Memory>
     ensures printed { OnOk result (Adds out.old.tokens out.new.tokens (text (guid place))) }
     ensures before { out.new.before ≡ out.old.before }
 {
-    let text = guid(alloc, place)?;
-    out.string(text.as_str())?;
+    let bytes = guid_bytes(place.place());
+    match std::str::from_utf8(&bytes) {
+        Ok(text) => out.string(text)?,
+        Err(_) => unreachable!(),
+    }
     Ok(())
 }
 
@@ -214,13 +217,13 @@ fn write_some_id(
 }
 
 /// Writes the guid of an object, if there is one, else null.
-fn write_some_guid(alloc: Global, out: &mut Writer, object: Option<Id>) -> Result<(), Memory>
+fn write_some_guid(out: &mut Writer, object: Option<Id>) -> Result<(), Memory>
     ensures printed { OnOk result (Adds out.old.tokens out.new.tokens
         (datum_json (object_datum object))) }
     ensures before { out.new.before ≡ out.old.before }
 {
     match object {
-        Some(object) => write_guid(alloc, out, object)?,
+        Some(object) => write_guid(out, object)?,
         None => out.null()?,
     }
     Ok(())
@@ -317,9 +320,9 @@ pub(crate) fn write_own(
 {
     match own {
         Own::Id => write_id(alloc, out, sight, ids, told, object)?,
-        Own::Guid => write_guid(alloc, out, object)?,
+        Own::Guid => write_guid(out, object)?,
         Own::Timestamp => write_timestamp(alloc, out, sight, object)?,
-        Own::Link => write_guid(alloc, out, link)?,
+        Own::Link => write_guid(out, link)?,
         Own::Value => write_value_at(alloc, out, sight, link)?,
         Own::Namespace => {
             let namespace = right_of(sight, link);
@@ -350,7 +353,7 @@ pub(crate) fn write_answer_value(
         return write_value_at(alloc, out, sight, link);
     }
     let end = far_end(sight, property, link);
-    write_some_guid(alloc, out, end)
+    write_some_guid(out, end)
 }
 
 /// Writes an answer of a property as its id: a value as it is.

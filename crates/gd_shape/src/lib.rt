@@ -1,6 +1,7 @@
 //! From the trees of a page's rows to what the root prints.
 #![tactic(auto)]
 
+pub use gd_trees::answered::answered;
 pub use gd_trees::grow::{Grown, grow};
 pub use gd_trees::judge::{Judged, judge};
 pub use gd_trees::shallow::{is_light, is_never_heavy, is_shallow};
@@ -11,6 +12,7 @@ mod answer;
 mod cut;
 mod datum;
 mod gather;
+mod guid;
 pub mod ids;
 pub mod keys;
 pub mod known;

@@ -1,5 +1,6 @@
 //! The publisher: what is pending, what is shown, and receipts of what was shown.
-ghost use Rattle.std.specs.Prelude.{◌≡◌, ◌++◌, ◌∷◌, [], length, drop, Some, MatchResult, IfOk};
+ghost use Rattle.std.specs.Prelude.{◌≡◌, ◌↔◌, ◌++◌, ◌∷◌, [], length, drop, Some, MatchResult};
+ghost use Rattle.std.specs.Prelude.{IfOk, IsTrue};
 ghost use Rattle.std.specs.Mem.{manually_drop_value};
 ghost use Rattle.left_right.specs.Sides.{view as known};
 ghost use Rattle.gd_shared.specs.Shared.{MayFollow};
@@ -197,6 +198,13 @@ impl Publisher {
     {
         replace_with(self, rt, show::<R>)?;
         Ok(self.store().requests())
+    }
+
+    /// Whether nothing is pending, so that publishing would change nothing.
+    pub fn is_shown(&self) -> bool
+        ensures { IsTrue result ↔ (self.now.pending ≡ []) }
+    {
+        self.store().requests() == self.total
     }
 
     /// The store that is shown.

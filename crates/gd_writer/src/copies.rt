@@ -112,7 +112,8 @@ impl Copies {
         self.waiting.push(batch);
     }
 
-    /// Shows all that is to be shown. It waits for readers. `Memory`: nothing more is shown.
+    /// Shows all that is to be shown. It waits for readers, if anything is. `Memory`: nothing more
+    /// is shown.
     pub(crate) fn show<R: Wait>(&mut self, rt: &R) -> Result<(), Memory>
         ensures shown { MatchResult result (λ _. self.new.shown ≡ self.old.all)
             (λ _. self.new.shown ≡ self.old.shown) }
@@ -122,6 +123,9 @@ impl Copies {
         } }
         ensures spare { self.old.spare ≤ self.new.spare }
     {
+        if self.waiting.is_empty() && self.publisher.is_shown() {
+            return Ok(());
+        }
         hand_on(&mut self.publisher, &mut self.waiting)?;
         self.publisher.publish(rt)?;
         Ok(())
