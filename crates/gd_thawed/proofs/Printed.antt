@@ -82,13 +82,13 @@ module _ (batches : List Batch) (owed : Answer) (s : Subject) where
   pub prints_first : (plan : Found) (body : PageBody) (w : Kept) (p : Printing) → IsBuilt batches owed s plan body (marks_in p.rows.items) w → p.single ≡ plan.single
       → page_of (prims_of batches) p.shape ≡ body_print (prims_of batches) (asked_view plan) body → IsOf (prims_of batches) p.shape → pieces.trees_in p.trees ≡ body_trees body → walks_in p.shape ≡ [] → p.places ≤ body_places body → p.places ≤ max_number
       → Prints batches owed s p w
-  prints_first plan body w p built single page known trees walks held low = record {
+  prints_first plan body w p built single prints known trees walks held low = record {
     q = asked_view plan;
     asked = built.asked;
     keeps = built.keeps;
     rows = built.tells;
     single = single;
-    prints = page ∙ built.prints ∙ sym (same (λ ts ws. page_prints (prims_of batches) (asked_view plan) w ts ws));
+    prints = prints ∙ built.prints ∙ sym (same (λ ts ws. page_prints (prims_of batches) (asked_view plan) w ts ws));
     known = known;
     fits = same (λ ts ws. body_fits (prims_of batches) one_member (asked_view plan) (length (marks_in p.rows.items)) (printing 0 ts ws)) ∙ built.fits;
     held = subst (λ n. p.places ≤ n) (as_many body ∙ ap trees_count (sym trees)) held;
