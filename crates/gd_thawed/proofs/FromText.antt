@@ -316,8 +316,8 @@ rows_right batches q f fits =
 pub keeps_text : (prims : List Primitive) (plan a b : Found) (s : Subject) (rows given texts : List RowAt) (w v : Kept) → a ≡ plan → b ≡ plan → given ≡ rows → texts ≡ rows → w ≡ window_of prims (asked_view a) (after_of s.after) []
     → v ≡ record w { rows = v.rows } → HasSeen v (read_rows prims (asked_view b) (marks_in given))
     → (list_all (λ (r : RowAt). row_fits prims (asked_view plan) (row_of r)) texts && nat_le (length texts) ((asked_view plan).limit + 1)) ≡ true → HasKept prims (asked_view plan) s (marks_in rows) v
-keeps_text prims plan a b s rows given texts w v one two same text made stays seen fits = record {
-  is = stays ∙ ap (λ (u : Kept). record u { rows = v.rows }) (made ∙ ap (λ (f : Found). window_of prims (asked_view f) (after_of s.after) []) one);
+keeps_text prims plan a b s rows given texts w v one two same text was still seen fits = record {
+  is = still ∙ ap (λ (u : Kept). record u { rows = v.rows }) (was ∙ ap (λ (f : Found). window_of prims (asked_view f) (after_of s.after) []) one);
   seen = subst (λ (f : Found). HasSeen v (read_rows prims (asked_view f) (marks_in rows))) two (subst (λ l. HasSeen v (read_rows prims (asked_view b) (marks_in l))) same seen);
   fit = sym (all_rows prims (asked_view plan) rows) ∙ both.0;
   few = let many = count_marks rows in let low = leb-true (length rows) ((asked_view plan).limit + 1) both.1 in omega (arith, many, low);

@@ -20,8 +20,8 @@ returns-in-Some-clause-thaws g c =
     ∙ c.if-not-rows_fit.false)
     thaws
 
-pub returns-clause-thaws : goal.returns-clause-thaws
-returns-clause-thaws g c =
+pub returns-in-None-clause-thaws : goal.returns-in-None-clause-thaws
+returns-in-None-clause-thaws g c =
     let s : Subject = record { asked = c.of.result; dateline = c.args.frozen.dateline; with_cursor = c.args.with_cursor; after = c.args.frozen.after } in
     let thaws = rw c.in-None.is at c.in_ok-stage.ensures.thaws in
     body_fails c.args.view.now (asked_view c.args.plan) c.args.with_cursor c.args.frozen s c.offer_marks.new.window
