@@ -3,7 +3,6 @@
 #![tactic(auto)]
 
 mod advance;
-mod again;
 mod answers;
 mod building;
 mod cursors;
