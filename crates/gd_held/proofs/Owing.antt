@@ -39,21 +39,6 @@ module _ (bs : List Batch) (t : ThawedReading) (goes : ThawedGoes (take (thawed_
   pub owed_is : (k : ℕ) → core.owed_line bs k (thawed_view t) ≡ answer_line at k (text_owes (take at bs) t q)
   owed_is k = line_of (frozen_of t) k (sym goes.subject.dateline)
 
-  -- LAW: the text that it came from, as the core has it
-  pub frozen_again : (text : List ℕ) → text ≡ t.text.items → IsTextOf bs (read_view t.request) (thawed_view t) text
-  frozen_again text is = record {
-    frozen = frozen_of t;
-    freezes = record {
-      spelled = goes.text.0;
-      dateline = sym goes.subject.dateline;
-      after = sym goes.subject.after;
-      fitting = rw (ap (λ (n : ℕ). asked_query (prims_at bs n) (read_view t.request).query) (sym goes.subject.dateline) ∙ goes.asked)
-          (subst (λ (n : ℕ). fits (prims_at bs n) one_member q (frozen_of t) ≡ true) goes.subject.dateline goes.fitting);
-      same = λ k. line_of (frozen_of t) k (sym goes.subject.dateline) ∙ sym (owed_is k);
-    };
-    spells = is ∙ goes.text.1;
-  }
-
   -- LAW: as what it is put away, as the core has it
   pub frozen_as : (f : Frozen) (text : List ℕ) → Freezes (take at bs) (text_owes (take at bs) t q) t.query.subject f → IsFrozenText f text → IsTextOf bs (read_view t.request) (thawed_view t) text
   frozen_as f text freezes spelled = record {

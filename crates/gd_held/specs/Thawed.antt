@@ -4,7 +4,7 @@ use Rattle.gd_prim.specs.declared.Batch.{Batch}
 use Rattle.gd_prim.specs.History.{prims_of}
 use Rattle.gd_defs.specs.Asked.{Asked, asked_query}
 use Rattle.gd_defs.specs.Reply.{Answer}
-use Rattle.gd_bytes.specs.Frozen.{Frozen, IsFrozenText}
+use Rattle.gd_bytes.specs.Frozen.{Frozen}
 use Rattle.gd_runs.specs.Core.{Reading}
 use Rattle.gd_runs.specs.Fitting.{fits}
 use Rattle.gd_runs.specs.Request.{ReadRequest, one_query, asks_page}
@@ -37,14 +37,12 @@ thawed_view t = record {
 abbrev pub text_owes : List Batch → ThawedReading → Asked → Answer
 text_owes batches t q = owed_by_text batches q (asks_page (cursor_view t.request.cursor)) (frozen_of t)
 
--- it goes on over the batches below its dateline, where its query has a meaning and its text fits, and owes what that owes there
+-- it goes on over the batches below its dateline, where its query has a meaning, and owes what its text owes there
 pub record ThawedGoes (batches : List Batch) (t : ThawedReading) : Type 0 where
   pub query : Asked
   pub asked : asked_query (prims_of batches) (read_view t.request).query ≡ Ok query
   pub subject : IsSubjectOf query (asks_page (cursor_view t.request.cursor)) (frozen_of t) t.query.subject
   pub going : IsGoing batches (text_owes batches t query) t.query
-  pub text : IsFrozenText (frozen_of t) t.text.items
-  pub fitting : fits (prims_of batches) one_member query (frozen_of t) ≡ true
 
 -- it goes on over the batches below its dateline, of these, and that many are shown
 abbrev pub ThawedGoesOn : List Batch → ℕ → ThawedReading → Type 0

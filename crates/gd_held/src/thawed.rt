@@ -5,7 +5,7 @@ ghost use Rattle.gd_prim.specs.declared.Batch.{Batch};
 ghost use Rattle.gd_prim.specs.History.{prims_of};
 ghost use Rattle.gd_defs.specs.Asked.{asked_query};
 ghost use Rattle.gd_defs.specs.Reply.{unknown_refusal};
-ghost use Rattle.gd_bytes.specs.Frozen.{IsFrozenText};
+ghost use Rattle.gd_bytes.specs.Frozen.{Fits, IsFrozenText};
 ghost use Rattle.gd_mql.specs.Requests.{read_view};
 ghost use Rattle.gd_read.specs.PassedOn.{unknown_of};
 ghost use Rattle.gd_plan.specs.Asked.{asked_view};
@@ -35,13 +35,11 @@ use std::snapshot::Snapshot;
 
 /// The reading of a request that goes on from a frozen text. Contracts see it as the reading of the
 /// core, by `thawed_view`; `ThawedGoes` says that it owes, over the batches below its dateline, what
-/// its text owes. The text is kept: it is told again where nothing further is told. What it says is
-/// what clauses alone read, and takes no memory.
+/// its text owes. What the text says is what clauses alone read, and takes no memory.
 #[derive(Drop)]
 pub struct ThawedReading {
     request: ReadRequest,
     query: ThawedQuery,
-    text: Vec<u8>,
     from: Snapshot<FrozenReading>,
 }
 
@@ -107,42 +105,30 @@ fn plan_at<L>(
     }
 }
 
-/// These bytes again.
-fn bytes_again(alloc: Global, bytes: &[u8]) -> Result<Vec<u8>, Memory>
-    ensures { IfOk result (λ copied. copied.items ≡ bytes.now) }
-{
-    let mut copied = Vec::new(alloc);
-    copied.extend_from_slice(bytes)?;
-    Ok(copied)
-}
-
 /// The reading of a request with its plan that goes on from a frozen reading, at the view's
-/// dateline, which is that of the reading, and its text. None: it does not fit the query.
+/// dateline, which is that of the reading. None: it does not fit the query.
 fn thaw_plan<L>(
     alloc: Global,
     view: &View<'_>,
     request: ReadRequest,
     plan: Plan,
     frozen: FrozenReading,
-    text: &[u8],
     steps: &mut Steps<L>,
 ) -> Result<Option<ThawedReading>, Memory>
     requires dateline { length view.now ≡ frozen.dateline }
-    requires text { IsFrozenText (reading_of frozen) text.now }
+    requires bounds { Fits (reading_of frozen) }
     requires asked { asked_query (prims_of view.now) (read_view request).query
         ≡ Ok (asked_view plan) }
     ensures thaws { IfOk result (λ given. PlanThaws view.now (read_view request) (asked_view plan)
         (reading_of frozen) given) }
     ensures later { steps.old ≤ steps.new }
 {
-    let text = bytes_again(alloc, text)?;
     let from = Snapshot::of(&frozen);
     let with_cursor = request.cursor.asks_page();
     match ThawedQuery::thaw(alloc, view, plan, with_cursor, frozen, steps) {
         Ok(Some(query)) => Ok(Some(ThawedReading {
             request,
             query,
-            text,
             from,
         })),
         Ok(None) => {
@@ -195,7 +181,7 @@ impl ThawedReading {
                 return Err(fault);
             }
         };
-        match thaw_plan(alloc, &view, request, plan, frozen, text, steps) {
+        match thaw_plan(alloc, &view, request, plan, frozen, steps) {
             Ok(Some(reading)) => Ok(reading),
             Ok(None) => Err(ThawFault::BadFrozen {
                 offset: length_of(text),
@@ -212,18 +198,15 @@ impl ThawedReading {
     }
 
     /// The text of the reading, which stays as it is, over a store with the batches below its
-    /// dateline: where it stands, or the one that it came from. `Memory`: an allocation was
-    /// refused.
+    /// dateline: it tells where the reading stands. `Memory`: an allocation was refused.
     pub(crate) fn freeze(&self, alloc: Global, store: &Store) -> Result<Vec<u8>, Memory>
         requires going { ThawedGoesOn store.now (length store.now) self.now }
         ensures { IfOk result (λ text. IsTextOf store.now (read_view self.now.request)
             (thawed_view self.now) text.items) }
     {
         let view = store.view(self.query.dateline());
-        match self.query.freeze(alloc, &view)? {
-            Some(frozen) => frozen_text(alloc, &frozen),
-            None => bytes_again(alloc, self.text.as_slice()),
-        }
+        let frozen = self.query.freeze(alloc, &view)?;
+        frozen_text(alloc, &frozen)
     }
 
     /// Goes on over a store with the batches below its dateline, for a budget of steps: what its

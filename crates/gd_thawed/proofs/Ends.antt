@@ -1,23 +1,25 @@
--- The order in which a query is scanned ends with the list.
-use Rattle.std.proofs.Common.{◌≡◌, inl, inr, refl, subst, ℕ, ◌<◌, List, [], ◌∷◌, Bool, true, false, ◌&&◌, Option, Some, None, length, map, filter}
+-- The order in which a query is scanned ends with the list, and that of rows behind them.
+use Rattle.std.proofs.Common.{◌≡◌, inl, inr, refl, subst, arith, ℕ, suc, ◌+◌, ◌<◌, ◌≤◌, List, [], ◌∷◌, Bool, true, false, ◌&&◌, Option, Some, None, length, map, filter}
 use Rattle.std.specs.Prelude.{find, option_map, nat_le, if◌then◌else◌}
-use Rattle.std.specs.List.{cons_option}
+use Rattle.std.specs.List.{cons_option, enumerate_from}
 use Rattle.gd_prim.specs.declared.Primitive.{Primitive}
 use Rattle.gd_prim.specs.Live.{objects, places_where}
 use Rattle.gd_defs.specs.Asked.{Asking, Members, Asked}
 use Rattle.gd_defs.specs.Plan.{template_of}
 use Rattle.gd_defs.specs.Property.{answers}
-use Rattle.gd_defs.specs.Rows.{met, meets, answer_meets}
-use Rattle.gd_defs.specs.Template.{passes_template}
+use Rattle.gd_defs.specs.Rows.{Row, met, meets, answer_meets}
+use Rattle.gd_defs.specs.Template.{Template, passes_template}
 use Rattle.gd_runs.specs.Owed.{ScanOrder, is_among}
 use Rattle.gd_runs.specs.RootSets.{RootSet, everything, named_places, links_of}
 use Rattle.gd_runs.specs.Scanned.{first_times, link_order, set_order, scan_order}
+use Rattle.gd_match_laws.specs.Rows.{rows_order}
 use Rattle.gd_order_laws.specs.Window.{In}
 use Rattle.gd_order_laws.proofs.Places.{places_inside}
 use Rattle.gd_order_laws.proofs.Rows.{In-map}
 use Rattle.gd_order_laws.proofs.Sorted.{In-filter}
 use Rattle.gd_scan_laws.proofs.Links.{answer_known}
 use Rattle.gd_scan_laws.proofs.Orders.{among_in, picks}
+use Rattle.gd_suspended_laws.proofs.Going.{length-map}
 use Rattle.gd_suspended_laws.proofs.Scanning.{got}
 use Rattle.gd_thaw_laws.specs.Standing.{ScansAlike}
 use Rattle.gd_roots.specs.PassedOn.{OrderEnds}
@@ -68,3 +70,17 @@ module _ (prims : List Primitive) where
   pub query_ends : (q : Asked) (order : ScanOrder) → ScansAlike prims q order → OrderEnds (length prims) prims (template_of q) order
   query_ends q order alike = λ c here.
       scan_ends q c (In-filter (λ d. nat_le 0 d.0 && passes_template prims (template_of q) d.1) (scan_order prims q) c (subst (In c) (alike 0) here)).0
+
+-- ---- rows
+
+number_below : (from : ℕ) (xs : List ℕ) (c : ℕ × ℕ) → In c (enumerate_from from xs) → c.0 < from + length xs
+number_below from [] c here = absurd here
+number_below from (x ∷ xs) c (inl same) = subst (λ (d : ℕ × ℕ). d.0 < from + suc (length xs)) same (omega arith)
+number_below from (x ∷ xs) c (inr there) = let less = number_below (from + 1) xs c there in omega (arith, less)
+
+-- LAW: the order of the rows of a page ends where no more rows are
+pub rows_end : (prims : List Primitive) (t : Template) (page : List Row) (order : ScanOrder) (end : ℕ) → order ≡ rows_order page → length page ≤ end → OrderEnds end prims t order
+rows_end prims t page order end is few = λ c here.
+    let less = number_below 0 (map (λ (r : Row). r.object) page) c (In-filter (λ d. nat_le 0 d.0 && passes_template prims t d.1) (rows_order page) c (subst (λ o. In c (filter (λ d. nat_le 0 d.0 && passes_template prims t d.1) o)) is here)).0 in
+    let same = length-map (λ (r : Row). r.object) page in
+    omega (arith, less, same, few)

@@ -1,7 +1,7 @@
 -- Readings that begin where a text says.
 use Rattle.std.proofs.Common.{◌≡◌, ◌∙◌, refl, sym, ap, subst, arith, ℕ, zero, suc, ◌+◌, ◌<◌, ◌≤◌, List, [], ◌∷◌, ◌++◌, Bool, ◌&&◌, not, Some, None, map, length, take, true, false, Ok}
 use Rattle.std.specs.Prelude.{nat_le, ◌==◌, is_some, Vec, if◌then◌else◌}
-use Rattle.std.proofs.lemmas.Bool.{and_parts}
+use Rattle.std.proofs.lemmas.Bool.{and_parts, leb-true}
 use Rattle.std.proofs.lemmas.Bool.Decides.{nat_tests}
 use Rattle.std.specs.Global.{Global}
 use Rattle.std.specs.List.{list_all, enumerate_from}
@@ -9,11 +9,14 @@ use Rattle.gd_prim.specs.declared.Primitive.{Primitive}
 use Rattle.gd_defs.specs.Asked.{Asked, asked_query}
 use Rattle.gd_defs.specs.Query.{Query}
 use Rattle.gd_defs.specs.Template.{Template}
-use Rattle.gd_frozen.specs.Meaning.{row_of, walk_of, body_of, reading_of}
+use Rattle.gd_frozen.specs.Meaning.{row_of, walk_of, scan_of, body_of, reading_of}
+use Rattle.gd_frozen.specs.Pieces.{trees_in}
+use Rattle.gd_frozen.specs.declared.frozen.FrozenScan.{FrozenScan}
+use Rattle.gd_frozen.specs.declared.tree.Piece.{Piece}
 use Rattle.gd_frozen.specs.declared.frozen.Walk.{Walk as WalkAt}
 use Rattle.gd_frozen.specs.declared.frozen.FrozenReading.{FrozenReading}
 use Rattle.gd_frozen.specs.declared.frozen.RowAt.{RowAt}
-use Rattle.gd_roots.specs.PassedOn.{Root, MatcherThaws, stands, IsOver, StandsIn, plain, plain_weight, Matcher}
+use Rattle.gd_roots.specs.PassedOn.{Root, MatcherThaws, stands, IsOver, StandsIn, plain, Matcher}
 use Rattle.gd_roots.specs.PassedOn.root
 use Rattle.gd_roots.specs.Rooted.{ScansDefined, HasEach}
 use Rattle.gd_runs.specs.Fitting.{row_fits, trees_fit, walk_fits, tried_count, body_fits}
@@ -34,12 +37,12 @@ use Rattle.gd_grammar.specs.Mark.{Mark}
 use Rattle.gd_prim.specs.declared.Batch.{Batch}
 use Rattle.gd_prim.specs.History.{prims_of}
 use Rattle.gd_tree.specs.Trees as defs
-use Rattle.gd_tree.specs.Trees.{no_trees, trees_of, list_of, trees_count}
+use Rattle.gd_tree.specs.Trees.{no_trees, append, trees_of, list_of, trees_count}
 use Rattle.gd_defs.specs.Lines.{count_json}
 use Rattle.gd_defs.specs.Plan.{template_of}
-use Rattle.gd_bytes.specs.Frozen.{Frame, Scan, Walk, scanning, building, printing}
+use Rattle.gd_bytes.specs.Frozen.{Scan, Walk, Body, scanning, building, printing, max_number, scan_in_bounds, body_in_bounds, walk_in_bounds, Fits}
 use Rattle.gd_runs.specs.Owed.{scan_fits, tried, candidate}
-use Rattle.gd_match_laws.specs.Moves.{order_from}
+use Rattle.gd_match_laws.specs.Moves.{order_from, Runs, stays}
 use Rattle.gd_scan_laws.specs.Ordered.{start}
 use Rattle.gd_runs.specs.Scanned.{scan_order}
 use Rattle.gd_runs.specs.Shape.{page_shape}
@@ -51,43 +54,40 @@ use Rattle.gd_shape.specs.declared.shape.PageBody.TheVariants as page
 use Rattle.gd_trees.specs.View.{view as tree_view, trees_view}
 use Rattle.gd_window.specs.Kept.{Kept, HasSeen}
 use Rattle.gd_suspended_laws.specs.Standing.{marks_of, page_rows, window_of}
-use Rattle.gd_suspended_laws.proofs.Going.{page_many}
 use Rattle.gd_thaw_laws.specs.Gone.{HasGone, read_rows}
 use Rattle.gd_thaw_laws.proofs.Gone.{goes_at_once}
 use Rattle.gd_thaw_laws.proofs.Owing.{counts_alike}
 use Rattle.gd_thaw_laws.proofs.Thawed.{scans_alike, builds_same, kept_again, kept_owe}
 use Rattle.gd_thawed.specs.Subject.{after_of}
-use Rattle.gd_shape.specs.Shaping.{page_of as page_told, body_told, IsOf}
+use Rattle.gd_shape.specs.Shaping.{page_of as page_told, body_told, walks_in, IsOf}
 use Rattle.gd_thawed.specs.declared.printing.Printing.{Printing}
-use Rattle.gd_thawed.specs.Stages.{IsAsked, StageOwes, Scans, KeepsRows, Builds, IsBuilt, Prints, kept_owes, body_owes, order_for}
-use Rattle.gd_thaw_laws.specs.Spelled.{one_member}
-use Rattle.gd_thawed.specs.Thaw.{HasKept}
+use Rattle.gd_thawed.specs.Stages.{IsAsked, TellsRows, StageOwes, Scans, KeepsRows, Builds, CountsRows, Prints, page_prints, kept_owes, body_owes, order_for}
+use Rattle.gd_thaw_laws.specs.Spelled.{one_member, NumbersFit}
+use Rattle.gd_thawed.specs.Thaw.{HasKept, BuildFits, PrintFits}
 use Rattle.gd_thawed.specs.declared.subject.Subject.{Subject}
 use Rattle.gd_thawed.specs.declared.building.Building.{Building}
-use Rattle.gd_thawed.proofs.Fits.{plain_fits}
+use Rattle.gd_thawed.proofs.Bodies.{kept_few, count_prints as count_prints_fit, printed_fits}
+use Rattle.gd_thawed.proofs.Fits.{plain_fits, plain_builds, plain_light}
 use Rattle.gd_thawed.proofs.Scanned.{rows_told}
 
 -- LAW: the root of a set scans as the definitions do
 pub root_defined : (batches : List Batch) (t : Template) (r : Root) → HasEach batches t r → ScansDefined batches t r
 root_defined batches t r each = each.defined
 
-plain_light : (t : Scan) → t.weight ≤ 4_294_967_295 → (plain t).weight ≤ 4_294_967_295
-plain_light t light = by t.frames
-  where
-    by : (fs : List Frame) → plain_weight t.weight fs ≤ 4_294_967_295
-    by [] = omega arith
-    by (f ∷ fs) = light
+-- the weight of a matcher that stands where a text says
+light_at : (m : Matcher) (t : Scan) → stands m ≡ plain t → t.weight ≤ max_number → m.weight ≤ max_number
+light_at m t at few = let same = ap (λ (e : Scan). e.weight) at in let less = plain_light t in omega (arith, same, less, few)
 
 -- LAW: a scan goes on from a text
 pub scan_thaws : (batches : List Batch) (s : Subject) (plan : Found) (m : Matcher) (w : Kept) (kept : List Mark) (t : Scan) → IsAsked batches s (asked_view plan) → HasKept (prims_of batches) (asked_view plan) s kept w
     → scan_fits (prims_of batches) one_member (template_of (asked_view plan)) t ≡ true → stands m ≡ plain t → IsOver batches (template_of (asked_view plan)) m
     → ((from : ℕ) → order_from (prims_of batches) (template_of (asked_view plan)) (order_for batches plan m) from ≡ order_from (prims_of batches) (template_of (asked_view plan)) (scan_order (prims_of batches) (asked_view plan)) from)
-    → StandsIn (length (prims_of batches)) batches (template_of (asked_view plan)) m → t.weight ≤ 4_294_967_295
+    → StandsIn (length (prims_of batches)) batches (template_of (asked_view plan)) m → t.weight ≤ max_number
     → Scans batches (kept_owes batches s (asked_view plan) (scan_order (prims_of batches) (asked_view plan)) kept (scanning t)) s plan m w
 scan_thaws batches s plan m w kept t asked has fits at over same inside light = record {
   asked = asked;
   over = over;
-  told = record { inside = inside; weight = subst (λ n. n ≤ 4_294_967_295) (sym (ap (λ (e : Scan). e.weight) at)) (plain_light t light); alike = same };
+  told = record { inside = inside; weight = light_at m t at light; alike = same };
   come = record {
     kept = kept;
     from = plain t;
@@ -101,59 +101,94 @@ scan_thaws batches s plan m w kept t asked has fits at over same inside light = 
   };
 }
 
--- LAW: the rows of a text are kept
+-- LAW: the rows of a text are kept, and told
 pub rows_kept : (batches : List Batch) (s : Subject) (plan : Found) (w : Kept) (kept : List Mark) → HasKept (prims_of batches) (asked_view plan) s kept w → KeepsRows (prims_of batches) (asked_view plan) s w
 rows_kept batches s plan w kept has = record { is = has.is; again = kept_again rows_told (prims_of batches) (asked_view plan) (after_of s.after) kept w has.is has.seen }
 
+pub tells_kept : (batches : List Batch) (s : Subject) (q : Asked) (w : Kept) (kept : List Mark) → IsAsked batches s q → HasKept (prims_of batches) q s kept w → TellsRows batches s q kept w
+tells_kept batches s q w kept asked has = record {
+  fit = has.fit;
+  few = has.few;
+  page = kept_few rows_told (prims_of batches) q (after_of s.after) kept w has.is has.seen;
+  alike = λ body. sym (kept_owe rows_told (prims_of batches) q (after_of s.after) kept w has.is has.seen (scan_order (prims_of batches) q) s.dateline s.with_cursor body asked.some);
+}
+
 -- LAW: trees are built on from a text
-pub build_thaws : (batches : List Batch) (s : Subject) (b : Building) (w : Kept) (kept : List Mark) (weight : ℕ) (ts : defs.Trees) (t : Scan) → IsAsked batches s (asked_view b.plan) → HasKept (prims_of batches) (asked_view b.plan) s kept w
-    → (asked_view b.plan).count ≡ false → weight ≤ 4_294_967_295 → b.weight ≡ weight → trees_of (map tree_view b.trees.items) ≡ ts → stands b.matcher ≡ plain t → IsOver batches (template_of (asked_view b.plan)) b.matcher
-    → order_for batches b.plan b.matcher ≡ rows_order (page_rows w)
-    → Builds batches (kept_owes batches s (asked_view b.plan) (scan_order (prims_of batches) (asked_view b.plan)) kept (building weight ts t)) s b w
-build_thaws batches s b w kept weight ts t asked has listed few weight_is trees_are at over ordered = record {
+pub build_thaws : (batches : List Batch) (s : Subject) (b : Building) (w : Kept) (weight : ℕ) (ts : defs.Trees) (t : Scan) → IsAsked batches s (asked_view b.plan) → HasKept (prims_of batches) (asked_view b.plan) s (marks_in b.rows.items) w
+    → (asked_view b.plan).count ≡ false → weight ≤ max_number → b.weight ≡ weight → trees_of (map tree_view b.trees.items) ≡ ts → StandsAt batches b.plan t (length (marks_in b.rows.items)) w b.matcher → BuildFits batches (asked_view b.plan) (marks_in b.rows.items) weight ts t
+    → Builds batches (kept_owes batches s (asked_view b.plan) (scan_order (prims_of batches) (asked_view b.plan)) (marks_in b.rows.items) (building weight ts t)) s b w
+build_thaws batches s b w weight ts t asked has listed few weight_is trees_are stood fits = record {
   asked = asked;
-  keeps = rows_kept batches s b.plan w kept has;
+  keeps = rows_kept batches s b.plan w (marks_in b.rows.items) has;
   listed = listed;
-  over = over;
-  order = ordered;
-  few = subst (λ n. n ≤ 4_294_967_295) (sym weight_is) few;
+  rows = tells_kept batches s (asked_view b.plan) w (marks_in b.rows.items) asked has;
+  over = stood.over;
+  order = stood.order;
+  inside = stood.inside;
+  light = light_at b.matcher t stood.stands_at stood.light;
+  built = record {
+    first = ts;
+    from = plain t;
+    given = [];
+    later = no_trees;
+    fits = plain_builds (prims_of batches) one_member (asked_view b.plan) (length (marks_in b.rows.items)) weight ts t fits;
+    runs = subst (Runs (prims_of batches) (rows_order (page_rows w)) (template_of (asked_view b.plan)) (plain t) []) (sym stood.stands_at) (stays (plain t));
+    trees = ap (λ us. append us no_trees) trees_are;
+    all = λ little. refl;
+    onward = subst (λ (e : Scan). t.iter.place ≤ e.iter.place) (sym stood.stands_at) (omega arith);
+  };
+  few = subst (λ n. n ≤ max_number) (sym weight_is) few;
   owes =
       ap (λ n. body_owes batches s (asked_view b.plan) w (building n (trees_of (map tree_view b.trees.items)) (stands b.matcher))) weight_is
       ∙ ap (λ us. body_owes batches s (asked_view b.plan) w (building weight us (stands b.matcher))) trees_are
-      ∙ ap (λ e. body_owes batches s (asked_view b.plan) w (building weight ts e)) at
+      ∙ ap (λ e. body_owes batches s (asked_view b.plan) w (building weight ts e)) stood.stands_at
       ∙ builds_same (prims_of batches) (asked_view b.plan) s.dateline s.with_cursor (after_of s.after) (marks_of w) (scan_order (prims_of batches) (asked_view b.plan)) weight ts (plain t) t
       (plain_tried (prims_of batches) (template_of (asked_view b.plan)) t) refl
-      ∙ kept_owe rows_told (prims_of batches) (asked_view b.plan) (after_of s.after) kept w has.is has.seen (scan_order (prims_of batches) (asked_view b.plan)) s.dateline s.with_cursor (building weight ts t) asked.some;
+      ∙ kept_owe rows_told (prims_of batches) (asked_view b.plan) (after_of s.after) (marks_in b.rows.items) w has.is has.seen (scan_order (prims_of batches) (asked_view b.plan)) s.dateline s.with_cursor (building weight ts t) asked.some;
+}
+
+-- a count prints from a text, whatever its body is that owes the same
+counts_kept : (batches : List Batch) (s : Subject) (plan : Found) (w : Kept) (kept : List Mark) (body : Body) → IsAsked batches s (asked_view plan) → HasKept (prims_of batches) (asked_view plan) s kept w → (asked_view plan).count ≡ true
+    → body_owes batches s (asked_view plan) w (printing 0 no_trees []) ≡ body_owes batches s (asked_view plan) w body
+    → CountsRows batches (kept_owes batches s (asked_view plan) (scan_order (prims_of batches) (asked_view plan)) kept body) s plan kept w
+counts_kept batches s plan w kept body asked has counts same = record {
+  asked = asked;
+  keeps = rows_kept batches s plan w kept has;
+  tells = tells_kept batches s (asked_view plan) w kept asked has;
+  fits = count_prints_fit (prims_of batches) (asked_view plan) (length kept);
+  prints = ap (λ c. if c then Ok (count_json (length (page_rows w))) else page_shape (prims_of batches) (asked_view plan) [] []) (sym counts);
+  owes = same ∙ kept_owe rows_told (prims_of batches) (asked_view plan) (after_of s.after) kept w has.is has.seen (scan_order (prims_of batches) (asked_view plan)) s.dateline s.with_cursor body asked.some;
 }
 
 -- LAW: of a count the rows are printed
-pub count_thaws : (batches : List Batch) (s : Subject) (plan : Found) (w : Kept) (kept : List Mark) (n weight : ℕ) (ts : defs.Trees) (t : Scan) → IsAsked batches s (asked_view plan) → HasKept (prims_of batches) (asked_view plan) s kept w
-    → (asked_view plan).count ≡ true → n ≡ length (take w.limit w.rows)
-    → IsBuilt batches (kept_owes batches s (asked_view plan) (scan_order (prims_of batches) (asked_view plan)) kept (building weight ts t)) s plan (page.Count n) w
-count_thaws batches s plan w kept n weight ts t asked has counts is = record {
-  asked = asked;
-  keeps = rows_kept batches s plan w kept has;
-  prints = ap (λ m. Ok (count_json m)) (is ∙ page_many w) ∙ ap (λ c. if c then Ok (count_json (length (page_rows w))) else page_shape (prims_of batches) (asked_view plan) [] []) (sym counts);
-  owes =
-      sym (counts_alike (prims_of batches) (asked_view plan) (scan_order (prims_of batches) (asked_view plan)) s.dateline s.with_cursor (after_of s.after) (marks_of w) counts weight 0 ts no_trees [] t)
-      ∙ kept_owe rows_told (prims_of batches) (asked_view plan) (after_of s.after) kept w has.is has.seen (scan_order (prims_of batches) (asked_view plan)) s.dateline s.with_cursor (building weight ts t) asked.some;
-}
+pub count_thaws : (batches : List Batch) (s : Subject) (plan : Found) (w : Kept) (kept : List Mark) (weight : ℕ) (ts : defs.Trees) (t : Scan) → IsAsked batches s (asked_view plan) → HasKept (prims_of batches) (asked_view plan) s kept w
+    → (asked_view plan).count ≡ true → CountsRows batches (kept_owes batches s (asked_view plan) (scan_order (prims_of batches) (asked_view plan)) kept (building weight ts t)) s plan kept w
+count_thaws batches s plan w kept weight ts t asked has counts =
+    counts_kept batches s plan w kept (building weight ts t) asked has counts
+    (sym (counts_alike (prims_of batches) (asked_view plan) (scan_order (prims_of batches) (asked_view plan)) s.dateline s.with_cursor (after_of s.after) (marks_of w) counts weight 0 ts no_trees [] t))
 
 -- ---- what fits
 
 -- LAW: the stage of a scan
-pub scan_stands : (batches : List Batch) (s : Subject) (plan : Found) (m : Matcher) (w : Kept) (kept : List Mark) (text : Scan) (r : Root) (t : Template) → t ≡ template_of (asked_view plan)
+pub scan_stands : (batches : List Batch) (s : Subject) (plan : Found) (m : Matcher) (w : Kept) (kept : List Mark) (scan : FrozenScan) (r : Root) (t : Template) → t ≡ template_of (asked_view plan)
     → (written : Query) × (asked_query (prims_of batches) written ≡ Ok (asked_view plan)) → IsAsked batches s (asked_view plan) → HasKept (prims_of batches) (asked_view plan) s kept w
-    → (scan_fits (prims_of batches) one_member t text ≡ true) × MatcherThaws batches t r text m
-    → (length (prims_of batches) ≤ 2_097_151 → ScansDefined batches t r) → StandsIn (length (prims_of batches)) batches t m → text.weight ≤ 4_294_967_295
-    → StageThaws batches s (asked_view plan) kept (scanning text) w (Some (stage.Scanning (record { plan = plan; matcher = m; found = None })))
-scan_stands batches s plan m w kept text r t same meaning asked has thaws scans inside light =
+    → (scan_fits (prims_of batches) one_member t (scan_of scan) ≡ true) × MatcherThaws batches t r (scan_of scan) m
+    → (length (prims_of batches) ≤ 2_097_151 → ScansDefined batches t r) → StandsIn (length (prims_of batches)) batches t m → (scan_of scan).weight ≤ max_number
+    → StageThaws batches s (asked_view plan) kept (scanning (scan_of scan)) w (Some (stage.Scanning (record { plan = plan; matcher = m; before = scan; found = None })))
+scan_stands batches s plan m w kept scan r t same meaning asked has thaws scans inside light =
     let q = asked_view plan in
-    let fits = subst (λ u. scan_fits (prims_of batches) one_member u text ≡ true) same thaws.0 in (
+    let fits = subst (λ u. scan_fits (prims_of batches) one_member u (scan_of scan) ≡ true) same thaws.0 in (
       fits,
-      scan_thaws batches s plan m w kept text asked has fits thaws.1.stands_at (subst (λ u. IsOver batches u m) same thaws.1.over)
-          (λ from. ap (λ o. order_from (prims_of batches) (template_of q) o from) (thaws.1.order batches (template_of q) asked.end) ∙ scans asked.end meaning.0 q asked.held meaning.1 (sym same) from)
-          (subst (λ u. StandsIn (length (prims_of batches)) batches u m) same inside) light,
+      record {
+        scans = scan_thaws batches s plan m w kept (scan_of scan) asked has fits thaws.1.stands_at (subst (λ u. IsOver batches u m) same thaws.1.over)
+            (λ from. ap (λ o. order_from (prims_of batches) (template_of q) o from) (thaws.1.order batches (template_of q) asked.end) ∙ scans asked.end meaning.0 q asked.held meaning.1 (sym same) from)
+            (subst (λ u. StandsIn (length (prims_of batches)) batches u m) same inside) light;
+        tells = record {
+          fits = fits;
+          light = light;
+          owes = kept_owe rows_told (prims_of batches) q (after_of s.after) kept w has.is has.seen (scan_order (prims_of batches) q) s.dateline s.with_cursor (scanning (scan_of scan)) asked.some;
+        };
+      },
     )
 
 -- LAW: trees of a text
@@ -183,9 +218,22 @@ pub trees_past : (prims : List Primitive) (q : Asked) (rows most : ℕ) (ts : de
 trees_past prims q rows most ts trees few same many =
     ap (λ b. list_all (tree_fits prims (template_of q)) (list_of ts) && b) (trees_many q.count (length (list_of ts)) rows most few (subst (λ us. most < length (list_of us)) same many)) ∙ and_false _
 
+-- the weight of a scan within its bounds
+scan_low : (s : Scan) → scan_in_bounds s ≡ true → s.weight ≤ max_number
+scan_low s is = leb-true s.weight max_number (and_parts _ _ (and_parts _ _ is).0).1
+
+-- LAW: the numbers of a text lie within its bounds
+pub text_numbers : (f : FrozenReading) → Fits (reading_of f) → NumbersFit (body_of f.body)
+text_numbers f fits = by (body_of f.body) (and_parts _ _ fits).1
+  where
+    by : (b : Body) → body_in_bounds b ≡ true → NumbersFit b
+    by (scanning s) is = scan_low s is
+    by (building w ts s) is = let one = and_parts _ _ is in (leb-true w max_number (and_parts _ _ one.0).0, scan_low s one.1)
+    by (printing n ts ws) is = let one = and_parts _ _ is in (leb-true n max_number (and_parts _ _ one.0).0, one.1)
+
 -- ---- the body of a reading that builds
 
-count_marks : (rows : List RowAt) → length (marks_in rows) ≡ length rows
+pub count_marks : (rows : List RowAt) → length (marks_in rows) ≡ length rows
 count_marks rows = length-map row_of rows
 
 second_false : (a b c d : Bool) → b ≡ false → (((a && b) && c) && d) ≡ false
@@ -210,11 +258,13 @@ module _ (batches : List Batch) (s : Subject) (plan : Found) (w : Kept) (rows : 
       is_within few = grind (arith, nat_tests)
 
 -- LAW: a matcher of the rows of a window stands where a text says
-pub rows_stand : (batches : List Batch) (s : Subject) (plan : Found) (w : Kept) (text : Scan) (m : Matcher) (ids : Vec ℕ Global) (t : Template) → t ≡ template_of (asked_view plan) → IsAsked batches s (asked_view plan)
-    → ids.items ≡ map (λ (r : Row). r.id) (take w.limit w.rows) → MatcherThaws batches t (root.Rows ids) text m → StandsAt batches plan text w m
-rows_stand batches s plan w text m ids t same asked are thaws = record {
+pub rows_stand : (batches : List Batch) (s : Subject) (plan : Found) (w : Kept) (text : Scan) (m : Matcher) (ids : Vec ℕ Global) (end : ℕ) (t : Template) → t ≡ template_of (asked_view plan) → IsAsked batches s (asked_view plan)
+    → ids.items ≡ map (λ (r : Row). r.id) (take w.limit w.rows) → MatcherThaws batches t (root.Rows ids) text m → StandsIn end batches t m → text.weight ≤ max_number → StandsAt batches plan text end w m
+rows_stand batches s plan w text m ids end t same asked are thaws inside light = record {
   stands_at = thaws.stands_at;
   over = subst (λ u. IsOver batches u m) same thaws.over;
+  inside = subst (λ u. StandsIn end batches u m) same inside;
+  light = light;
   order = thaws.order batches (template_of (asked_view plan)) asked.end ∙ ap (enumerate_from 0) (are ∙ sym (page_ids w));
 }
 
@@ -230,14 +280,18 @@ pub trees_again : (trees : Built) → trees_of (map tree_view (out-Trees trees).
 trees_again trees = again (trees_view trees) (map tree_view (out-Trees trees).items.items) (list_seen trees)
 
 -- LAW: what a reading does that builds from where a text says
-pub building_thaws : (batches : List Batch) (s : Subject) (plan : Found) (m : Matcher) (trees : Built) (weight : ℕ) (w : Kept) (kept : List Mark) (text : Scan) (ts : defs.Trees) → weight ≤ 4_294_967_295 → IsAsked batches s (asked_view plan)
-    → HasKept (prims_of batches) (asked_view plan) s kept w → trees_view trees ≡ ts → StandsAt batches plan text w m → (asked_view plan).count ≡ false
-    → (b : Building) → b.plan ≡ plan → b.matcher ≡ m → trees_of (map tree_view b.trees.items) ≡ trees_view trees → b.weight ≡ weight
-    → Builds batches (kept_owes batches s (asked_view plan) (scan_order (prims_of batches) (asked_view plan)) kept (building weight ts text)) s b w
-building_thaws batches s plan m trees weight w kept text ts few asked has same stood listed b plan_is matcher_is trees_are weight_is =
-    subst (λ (p : Found). Builds batches (kept_owes batches s (asked_view plan) (scan_order (prims_of batches) (asked_view plan)) kept (building weight ts text)) s (record b { plan = p }) w) (sym plan_is)
-    (subst (λ (n : Matcher). Builds batches (kept_owes batches s (asked_view plan) (scan_order (prims_of batches) (asked_view plan)) kept (building weight ts text)) s (record b { plan = plan; matcher = n }) w) (sym matcher_is)
-    (build_thaws batches s (record b { plan = plan; matcher = m }) w kept weight ts text asked has listed few weight_is (trees_are ∙ same) stood.stands_at stood.over stood.order))
+pub building_thaws : (batches : List Batch) (s : Subject) (plan : Found) (m : Matcher) (trees : Built) (rows : Vec RowAt Global) (weight : ℕ) (w : Kept) (text : Scan) (ts : defs.Trees) → weight ≤ max_number → IsAsked batches s (asked_view plan)
+    → HasKept (prims_of batches) (asked_view plan) s (marks_in rows.items) w → trees_view trees ≡ ts → StandsAt batches plan text (length (marks_in rows.items)) w m → BuildFits batches (asked_view plan) (marks_in rows.items) weight ts text → (asked_view plan).count ≡ false
+    → (b : Building) → b.plan ≡ plan → b.matcher ≡ m → b.rows ≡ rows → trees_of (map tree_view b.trees.items) ≡ trees_view trees → b.weight ≡ weight
+    → Builds batches (kept_owes batches s (asked_view plan) (scan_order (prims_of batches) (asked_view plan)) (marks_in rows.items) (building weight ts text)) s b w
+building_thaws batches s plan m trees rows weight w text ts few asked has same stood fits listed b plan_is matcher_is rows_are trees_are weight_is =
+    subst (λ (p : Found). Goal (record b { plan = p })) (sym plan_is)
+    (subst (λ (n : Matcher). Goal (record b { plan = plan; matcher = n })) (sym matcher_is)
+    (subst (λ (rs : Vec RowAt Global). Goal (record b { plan = plan; matcher = m; rows = rs })) (sym rows_are)
+    (build_thaws batches s (record b { plan = plan; matcher = m; rows = rows }) w weight ts text asked has listed few weight_is (trees_are ∙ same) stood fits)))
+  where
+    Goal : Building → Type 0
+    Goal x = Builds batches (kept_owes batches s (asked_view plan) (scan_order (prims_of batches) (asked_view plan)) (marks_in rows.items) (building weight ts text)) s x w
 
 -- LAW: rows of a text, as marks
 pub all_rows : (prims : List Primitive) (q : Asked) (rows : List RowAt) → list_all (λ (r : RowAt). row_fits prims q (row_of r)) rows ≡ list_all (row_fits prims q) (marks_in rows)
@@ -262,12 +316,15 @@ rows_right batches q f fits =
 pub keeps_text : (prims : List Primitive) (plan a b : Found) (s : Subject) (rows given texts : List RowAt) (w v : Kept) → a ≡ plan → b ≡ plan → given ≡ rows → texts ≡ rows → w ≡ window_of prims (asked_view a) (after_of s.after) []
     → v ≡ record w { rows = v.rows } → HasSeen v (read_rows prims (asked_view b) (marks_in given))
     → (list_all (λ (r : RowAt). row_fits prims (asked_view plan) (row_of r)) texts && nat_le (length texts) ((asked_view plan).limit + 1)) ≡ true → HasKept prims (asked_view plan) s (marks_in rows) v
-keeps_text prims plan a b s rows given texts w v one two same text made stays seen fits = record {
-  is = stays ∙ ap (λ (u : Kept). record u { rows = v.rows }) (made ∙ ap (λ (f : Found). window_of prims (asked_view f) (after_of s.after) []) one);
+keeps_text prims plan a b s rows given texts w v one two same text was still seen fits = record {
+  is = still ∙ ap (λ (u : Kept). record u { rows = v.rows }) (was ∙ ap (λ (f : Found). window_of prims (asked_view f) (after_of s.after) []) one);
   seen = subst (λ (f : Found). HasSeen v (read_rows prims (asked_view f) (marks_in rows))) two (subst (λ l. HasSeen v (read_rows prims (asked_view b) (marks_in l))) same seen);
-  fit = sym (all_rows prims (asked_view plan) rows) ∙ (and_parts (list_all (λ (r : RowAt). row_fits prims (asked_view plan) (row_of r)) rows) (nat_le (length rows) ((asked_view plan).limit + 1))
-      (subst (λ l. (list_all (λ (r : RowAt). row_fits prims (asked_view plan) (row_of r)) l && nat_le (length l) ((asked_view plan).limit + 1)) ≡ true) text fits)).0;
+  fit = sym (all_rows prims (asked_view plan) rows) ∙ both.0;
+  few = let many = count_marks rows in let low = leb-true (length rows) ((asked_view plan).limit + 1) both.1 in omega (arith, many, low);
 }
+  where
+    both : (list_all (λ (r : RowAt). row_fits prims (asked_view plan) (row_of r)) rows ≡ true) × (nat_le (length rows) ((asked_view plan).limit + 1) ≡ true)
+    both = and_parts _ _ (subst (λ l. (list_all (λ (r : RowAt). row_fits prims (asked_view plan) (row_of r)) l && nat_le (length l) ((asked_view plan).limit + 1)) ≡ true) text fits)
 
 -- LAW: one whose body does not
 pub body_fails : (batches : List Batch) (q : Asked) (with_cursor : Bool) (f : FrozenReading) → (s : Subject) (w : Kept) → (list_all (λ (r : RowAt). row_fits (prims_of batches) q (row_of r)) f.rows.items && nat_le (length f.rows.items) (q.limit + 1)) ≡ true
@@ -297,39 +354,52 @@ rows_told_of prims ps plan a rows l one two three b is =
 -- ---- printing
 
 -- LAW: trees of a text are printed on
-pub print_thaws : (batches : List Batch) (s : Subject) (plan taken : Found) (w : Kept) (kept : List Mark) (n : ℕ) (ts : defs.Trees) (ws : List Walk) (trees : Built) (p : Printing) → IsAsked batches s (asked_view plan)
-    → HasKept (prims_of batches) (asked_view plan) s kept w → (asked_view plan).count ≡ false → trees_view trees ≡ ts → taken ≡ plan → p.single ≡ plan.single
-    → page_told (prims_of batches) p.shape ≡ body_told (prims_of batches) (asked_view taken) (page.Trees trees) ws → IsOf (prims_of batches) p.shape
-    → Prints batches (kept_owes batches s (asked_view plan) (scan_order (prims_of batches) (asked_view plan)) kept (printing n ts ws)) s p w
-print_thaws batches s plan taken w kept n ts ws trees p asked has listed trees_are same single told known = record {
+pub print_thaws : (batches : List Batch) (s : Subject) (plan : Found) (w : Kept) (n : ℕ) (ws : List Walk) (trees : Built) (p : Printing) → IsAsked batches s (asked_view plan)
+    → HasKept (prims_of batches) (asked_view plan) s (marks_in p.rows.items) w → (asked_view plan).count ≡ false → trees_view trees ≡ trees_in p.trees → PrintFits batches (asked_view plan) (marks_in p.rows.items) n (trees_in p.trees) ws → p.single ≡ plan.single
+    → page_told (prims_of batches) p.shape ≡ body_told (prims_of batches) (asked_view plan) (page.Trees trees) ws → IsOf (prims_of batches) p.shape → walks_in p.shape ≡ ws → p.places ≤ trees_count (trees_view trees) → p.places ≤ max_number
+    → Prints batches (kept_owes batches s (asked_view plan) (scan_order (prims_of batches) (asked_view plan)) (marks_in p.rows.items) (printing n (trees_in p.trees) ws)) s p w
+print_thaws batches s plan w n ws trees p asked has listed trees_are fit single told known walks_are held low = record {
   q = asked_view plan;
-  trees = ts;
-  walks = ws;
-  printed = n;
   asked = asked;
-  keeps = rows_kept batches s plan w kept has;
+  keeps = rows_kept batches s plan w (marks_in p.rows.items) has;
+  rows = tells_kept batches s (asked_view plan) w (marks_in p.rows.items) asked has;
   single = single;
   prints = told
-      ∙ ap (λ (a : Found). body_told (prims_of batches) (asked_view a) (page.Trees trees) ws) same
       ∙ ap (λ us. page_shape (prims_of batches) (asked_view plan) (list_of us) ws) trees_are
-      ∙ ap (λ c. if c then Ok (count_json (length (page_rows w))) else page_shape (prims_of batches) (asked_view plan) (list_of ts) ws) (sym listed);
+      ∙ ap (λ c. if c then Ok (count_json (length (page_rows w))) else page_shape (prims_of batches) (asked_view plan) (list_of (trees_in p.trees)) ws) (sym listed)
+      ∙ ap (page_prints (prims_of batches) (asked_view plan) w (trees_in p.trees)) (sym walks_are);
   known = known;
-  owes = kept_owe rows_told (prims_of batches) (asked_view plan) (after_of s.after) kept w has.is has.seen (scan_order (prims_of batches) (asked_view plan)) s.dateline s.with_cursor (printing n ts ws) asked.some;
+  fits = ap (λ vs. body_fits (prims_of batches) one_member (asked_view plan) (length (marks_in p.rows.items)) (printing 0 (trees_in p.trees) vs)) walks_are
+      ∙ printed_fits (prims_of batches) (asked_view plan) (length (marks_in p.rows.items)) n 0 (trees_in p.trees) ws fit.fits (omega arith);
+  held = subst (λ us. p.places ≤ trees_count us) trees_are held;
+  low = low;
+  walks = ap (list_all walk_in_bounds) walks_are ∙ fit.bounds;
+  owes = ap (λ vs. body_owes batches s (asked_view plan) w (printing n (trees_in p.trees) vs)) walks_are
+      ∙ kept_owe rows_told (prims_of batches) (asked_view plan) (after_of s.after) (marks_in p.rows.items) w has.is has.seen (scan_order (prims_of batches) (asked_view plan)) s.dateline s.with_cursor (printing n (trees_in p.trees) ws) asked.some;
 }
 
+-- LAW: so it is where its parts are these
+pub prints_at : (batches : List Batch) (s : Subject) (plan : Found) (w : Kept) (n : ℕ) (ws : List Walk) (trees : Built) (rows : Vec RowAt Global) (told : List Piece) (p : Printing) → IsAsked batches s (asked_view plan)
+    → HasKept (prims_of batches) (asked_view plan) s (marks_in rows.items) w → (asked_view plan).count ≡ false → trees_view trees ≡ trees_in told → PrintFits batches (asked_view plan) (marks_in rows.items) n (trees_in told) ws → p.rows ≡ rows → p.trees ≡ told
+    → p.single ≡ plan.single → page_told (prims_of batches) p.shape ≡ body_told (prims_of batches) (asked_view plan) (page.Trees trees) ws → IsOf (prims_of batches) p.shape → walks_in p.shape ≡ ws → p.places ≤ trees_count (trees_view trees) → p.places ≤ max_number
+    → Prints batches (kept_owes batches s (asked_view plan) (scan_order (prims_of batches) (asked_view plan)) (marks_in rows.items) (printing n (trees_in told) ws)) s p w
+prints_at batches s plan w n ws trees rows told p asked has listed trees_are fit rows_are told_are single page known walks held low =
+    subst (λ (rs : Vec RowAt Global). Goal rs told p) rows_are
+    (subst (λ (us : List Piece). Goal p.rows us p) told_are
+    (print_thaws batches s plan w n ws trees p asked (subst (λ (rs : Vec RowAt Global). HasKept (prims_of batches) (asked_view plan) s (marks_in rs.items) w) (sym rows_are) has) listed (trees_are ∙ ap trees_in (sym told_are))
+    (subst (λ (rs : Vec RowAt Global). PrintFits batches (asked_view plan) (marks_in rs.items) n (trees_in p.trees) ws) (sym rows_are) (subst (λ (us : List Piece). PrintFits batches (asked_view plan) (marks_in rows.items) n (trees_in us) ws) (sym told_are) fit))
+    single page known walks held low))
+  where
+    Goal : Vec RowAt Global → List Piece → Printing → Type 0
+    Goal rs us x = Prints batches (kept_owes batches s (asked_view plan) (scan_order (prims_of batches) (asked_view plan)) (marks_in rs.items) (printing n (trees_in us) ws)) s x w
+
 -- LAW: of a count the rows are printed, whatever trees a text has
-pub count_prints : (batches : List Batch) (s : Subject) (plan : Found) (w : Kept) (kept : List Mark) (m n : ℕ) (ts : defs.Trees) (ws : List Walk) → IsAsked batches s (asked_view plan) → HasKept (prims_of batches) (asked_view plan) s kept w
-    → (asked_view plan).count ≡ true → m ≡ length (take w.limit w.rows)
-    → IsBuilt batches (kept_owes batches s (asked_view plan) (scan_order (prims_of batches) (asked_view plan)) kept (printing n ts ws)) s plan (page.Count m) w
-count_prints batches s plan w kept m n ts ws asked has counts is = record {
-  asked = asked;
-  keeps = rows_kept batches s plan w kept has;
-  prints = ap (λ k. Ok (count_json k)) (is ∙ page_many w) ∙ ap (λ c. if c then Ok (count_json (length (page_rows w))) else page_shape (prims_of batches) (asked_view plan) [] []) (sym counts);
-  owes =
-      sym (counts_alike (prims_of batches) (asked_view plan) (scan_order (prims_of batches) (asked_view plan)) s.dateline s.with_cursor (after_of s.after) (marks_of w) counts 0 0 no_trees no_trees [] start)
-      ∙ counts_alike (prims_of batches) (asked_view plan) (scan_order (prims_of batches) (asked_view plan)) s.dateline s.with_cursor (after_of s.after) (marks_of w) counts 0 n no_trees ts ws start
-      ∙ kept_owe rows_told (prims_of batches) (asked_view plan) (after_of s.after) kept w has.is has.seen (scan_order (prims_of batches) (asked_view plan)) s.dateline s.with_cursor (printing n ts ws) asked.some;
-}
+pub count_prints : (batches : List Batch) (s : Subject) (plan : Found) (w : Kept) (kept : List Mark) (n : ℕ) (ts : defs.Trees) (ws : List Walk) → IsAsked batches s (asked_view plan) → HasKept (prims_of batches) (asked_view plan) s kept w
+    → (asked_view plan).count ≡ true → CountsRows batches (kept_owes batches s (asked_view plan) (scan_order (prims_of batches) (asked_view plan)) kept (printing n ts ws)) s plan kept w
+count_prints batches s plan w kept n ts ws asked has counts =
+    counts_kept batches s plan w kept (printing n ts ws) asked has counts
+    (sym (counts_alike (prims_of batches) (asked_view plan) (scan_order (prims_of batches) (asked_view plan)) s.dateline s.with_cursor (after_of s.after) (marks_of w) counts 0 0 no_trees no_trees [] start)
+    ∙ counts_alike (prims_of batches) (asked_view plan) (scan_order (prims_of batches) (asked_view plan)) s.dateline s.with_cursor (after_of s.after) (marks_of w) counts 0 n no_trees ts ws start)
 
 -- walks of a text, as the definitions have them
 all_walks : (prims : List Primitive) (ws : List WalkAt) → list_all (λ (w : WalkAt). walk_fits prims (walk_of w)) ws ≡ list_all (walk_fits prims) (map walk_of ws)

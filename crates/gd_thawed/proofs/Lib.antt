@@ -1,6 +1,7 @@
 pub mod KeyLinks
 pub mod Keyed
 pub mod Advanced
+pub mod Bodies
 pub mod Scanned
 pub mod Built
 pub mod Printed

@@ -1,19 +1,28 @@
 -- Readings that print their page.
-use Rattle.std.proofs.Common.{◌≡◌, ℕ, ◌-◌, List, [], ◌∷◌, Bool, true, false, length, map, take, Some, None, Result, Ok, Err, refl, ap, sym, subst, ◌∙◌, arith, Option}
+use Rattle.std.proofs.Common.{◌≡◌, ◌≤◌, ℕ, ◌-◌, List, [], ◌∷◌, Bool, true, false, length, map, take, Some, None, Result, Ok, Err, refl, ap, sym, subst, ◌∙◌, arith, Option, Vec, Global}
 use Rattle.std.specs.Prelude.{nat_lt, slice_get, if◌then◌else◌, codes}
-use Rattle.std.specs.List.{last_or}
+use Rattle.std.specs.List.{last_or, list_all}
 use Rattle.gd_prim.specs.declared.Batch.{Batch}
 use Rattle.gd_prim.specs.History.{prims_of}
-use Rattle.gd_grammar.specs.Mark.{cursor_text}
+use Rattle.gd_grammar.specs.Mark.{Mark, cursor_text}
 use Rattle.gd_tree.specs.Json.{Json, text, compact}
+use Rattle.gd_tree.specs.Trees.{Trees, trees_count}
+use Rattle.gd_bytes.specs.Frozen.{Walk, printing, max_number, walk_in_bounds}
 use Rattle.gd_defs.specs.Lines.{refused_at}
 use Rattle.gd_defs.specs.Reply.{Answer, Path, is_ambiguous, page_cursor, row_mark, page_answer}
+use Rattle.gd_frozen.specs.Meaning.{walk_of}
+use Rattle.gd_frozen.specs.Pieces as pieces
+use Rattle.gd_frozen.specs.declared.frozen.RowAt.{RowAt}
+use Rattle.gd_frozen.specs.declared.frozen.Walk.{Walk as WalkAt}
+use Rattle.gd_frozen.specs.declared.tree.Piece.{Piece}
+use Rattle.gd_runs.specs.Fitting.{body_fits}
 use Rattle.gd_runs.specs.Scanned.{scan_order}
 use Rattle.gd_plan.specs.Asked.{asked_view}
 use Rattle.gd_plan.specs.declared.asked.Asked.{Asked as Found}
 use Rattle.gd_reply.specs.Answers.{told_of}
 use Rattle.gd_shape.specs.Outcome.{text_of}
-use Rattle.gd_shape.specs.Shaping.{page_of, body_print, IsOf, IsSamePage, count_or, asked_of, trees_in, walks_in}
+use Rattle.gd_shape.specs.declared.shape.PageBody.TheVariants as page
+use Rattle.gd_shape.specs.Shaping.{page_of, body_print, body_told, body_places, IsOf, IsSamePage, count_or, asked_of, trees_in, walks_in}
 use Rattle.gd_shape.specs.declared.shape.PageBody.{PageBody}
 use Rattle.gd_shape.specs.declared.shape.Shape.{Shape}
 use Rattle.gd_runs.specs.Shape.{page_shape}
@@ -21,10 +30,11 @@ use Rattle.gd_window.specs.declared.row.Row.{Row}
 use Rattle.gd_window.specs.Kept.{Kept}
 use Rattle.gd_window.specs.Laws.{defined}
 use Rattle.gd_suspended_laws.specs.Standing.{rows_of, page_rows}
-use Rattle.gd_suspended_laws.proofs.Going.{map-take, length-map}
+use Rattle.gd_suspended_laws.proofs.Going.{map-take, length-map, page_many}
+use Rattle.gd_thaw_laws.specs.Spelled.{one_member}
 use Rattle.gd_thaw_laws.proofs.Owing.{prints_many, prints_page}
-use Rattle.gd_thawed.specs.Subject.{after_of}
-use Rattle.gd_thawed.specs.Stages.{IsBuilt, Prints, body_trees}
+use Rattle.gd_thawed.specs.Subject.{after_of, marks_in}
+use Rattle.gd_thawed.specs.Stages.{IsBuilt, CountsRows, Prints, body_trees, page_prints, body_owes}
 use Rattle.gd_thawed.specs.declared.subject.Subject.{Subject}
 use Rattle.gd_thawed.specs.declared.printing.Printing.{Printing}
 
@@ -69,44 +79,69 @@ page_refused cursor path (Err other) is = let e : path ≡ other = cc in ap (λ 
 
 module _ (batches : List Batch) (owed : Answer) (s : Subject) where
   -- LAW: a page begins to be printed
-  pub prints_first : (plan taken : Found) (body : PageBody) (w : Kept) (p : Printing) → IsBuilt batches owed s plan body w → taken ≡ plan → p.single ≡ plan.single
-      → page_of (prims_of batches) p.shape ≡ body_print (prims_of batches) (asked_view taken) body → IsOf (prims_of batches) p.shape → Prints batches owed s p w
-  prints_first plan taken body w p built same single page known = record {
+  pub prints_first : (plan : Found) (body : PageBody) (w : Kept) (p : Printing) → IsBuilt batches owed s plan body (marks_in p.rows.items) w → p.single ≡ plan.single
+      → page_of (prims_of batches) p.shape ≡ body_print (prims_of batches) (asked_view plan) body → IsOf (prims_of batches) p.shape → pieces.trees_in p.trees ≡ body_trees body → walks_in p.shape ≡ [] → p.places ≤ body_places body → p.places ≤ max_number
+      → Prints batches owed s p w
+  prints_first plan body w p built single prints known trees walks held low = record {
     q = asked_view plan;
-    trees = body_trees body;
-    walks = [];
-    printed = 0;
     asked = built.asked;
     keeps = built.keeps;
+    rows = built.tells;
     single = single;
-    prints = page ∙ ap (λ (a : Found). body_print (prims_of batches) (asked_view a) body) same ∙ built.prints;
+    prints = prints ∙ built.prints ∙ sym (same (λ ts ws. page_prints (prims_of batches) (asked_view plan) w ts ws));
     known = known;
-    owes = built.owes;
+    fits = same (λ ts ws. body_fits (prims_of batches) one_member (asked_view plan) (length (marks_in p.rows.items)) (printing 0 ts ws)) ∙ built.fits;
+    held = subst (λ n. p.places ≤ n) (as_many body ∙ ap trees_count (sym trees)) held;
+    low = low;
+    walks = ap (list_all walk_in_bounds) walks;
+    owes = same (λ ts ws. body_owes batches s (asked_view plan) w (printing 0 ts ws)) ∙ built.owes;
   }
+    where
+      same : {A : Type 0} (f : Trees → List Walk → A) → f (pieces.trees_in p.trees) (walks_in p.shape) ≡ f (body_trees body) []
+      same f = ap (λ ts. f ts (walks_in p.shape)) trees ∙ ap (f (body_trees body)) walks
+
+      as_many : (b : PageBody) → body_places b ≡ trees_count (body_trees b)
+      as_many (page.Trees ts) = refl
+      as_many (page.Count n) = refl
+
+  -- LAW: so it does where its parts are these
+  pub prints_began : (plan : Found) (body : PageBody) (rows : Vec RowAt Global) (trees : List Piece) (none : List WalkAt) (w : Kept) (p : Printing) → IsBuilt batches owed s plan body (marks_in rows.items) w → pieces.trees_in trees ≡ body_trees body → none ≡ [] → p.rows ≡ rows
+      → p.trees ≡ trees → p.single ≡ plan.single → page_of (prims_of batches) p.shape ≡ body_told (prims_of batches) (asked_view plan) body (map walk_of none) → IsOf (prims_of batches) p.shape → walks_in p.shape ≡ map walk_of none → p.places ≤ body_places body → p.places ≤ max_number
+      → Prints batches owed s p w
+  prints_began plan body rows trees none w p built same empty rows_are trees_are single page known walks held low =
+      prints_first plan body w p (subst (λ (rs : Vec RowAt Global). IsBuilt batches owed s plan body (marks_in rs.items) w) (sym rows_are) built) single
+      (page ∙ ap (λ ws. body_told (prims_of batches) (asked_view plan) body (map walk_of ws)) empty) known (ap pieces.trees_in trees_are ∙ same) (walks ∙ ap (map walk_of) empty) held low
+
+  -- LAW: the rows of a page are as many
+  pub counts_rows : (plan : Found) (rows : List Mark) (w : Kept) (n : ℕ) → CountsRows batches owed s plan rows w → n ≡ length (take w.limit w.rows) → IsBuilt batches owed s plan (page.Count n) rows w
+  counts_rows plan rows w n counts is = subst (λ k. IsBuilt batches owed s plan (page.Count k) rows w) (sym (is ∙ page_many w)) counts
 
   -- LAW: it goes on
   pub prints_on : (p : Printing) (new : Shape) (w : Kept) → Prints batches owed s p w → IsSamePage p.shape new → IsOf (prims_of batches) new → Prints batches owed s (record p { shape = new }) w
   prints_on p new w prints same known = record {
     q = prints.q;
-    trees = prints.trees;
-    walks = prints.walks;
-    printed = prints.printed;
     asked = prints.asked;
     keeps = prints.keeps;
+    rows = prints.rows;
     single = prints.single;
     prints = ap (λ n. count_or n (page_shape (prims_of batches) (asked_of new) (trees_in new) (walks_in new))) same.count
         ∙ ap (λ q. count_or p.shape.count (page_shape (prims_of batches) q (trees_in new) (walks_in new))) same.asked
         ∙ ap (λ ts. count_or p.shape.count (page_shape (prims_of batches) (asked_of p.shape) ts (walks_in new))) same.trees
         ∙ ap (λ ws. count_or p.shape.count (page_shape (prims_of batches) (asked_of p.shape) (trees_in p.shape) ws)) same.walks
-        ∙ prints.prints;
+        ∙ prints.prints
+        ∙ ap (page_prints (prims_of batches) prints.q w (pieces.trees_in p.trees)) (sym same.walks);
     known = known;
-    owes = prints.owes;
+    fits = ap (λ ws. body_fits (prims_of batches) one_member prints.q (length (marks_in p.rows.items)) (printing 0 (pieces.trees_in p.trees) ws)) same.walks ∙ prints.fits;
+    held = prints.held;
+    low = prints.low;
+    walks = ap (list_all walk_in_bounds) same.walks ∙ prints.walks;
+    owes = ap (λ ws. body_owes batches s prints.q w (printing 0 (pieces.trees_in p.trees) ws)) same.walks ∙ prints.owes;
   }
 
   -- LAW: more than one row was found where one is asked
   pub prints_too_many : (p : Printing) (w : Kept) → Prints batches owed s p w → is_ambiguous p.single (length (rows_of w)) ≡ true → Err (refused_at (codes "NotUnique") []) ≡ owed
   prints_too_many p w prints many =
-      sym (prints_many (prims_of batches) prints.q (scan_order (prims_of batches) prints.q) s.dateline s.with_cursor (after_of s.after) w prints.keeps.is prints.keeps.again prints.printed prints.trees prints.walks
+      sym (prints_many (prims_of batches) prints.q (scan_order (prims_of batches) prints.q) s.dateline s.with_cursor (after_of s.after) w prints.keeps.is prints.keeps.again 0 (pieces.trees_in p.trees) (walks_in p.shape)
       (ap (λ b. is_ambiguous b (length (rows_of w))) (sym prints.single) ∙ many))
       ∙ prints.owes
 
@@ -115,6 +150,6 @@ module _ (batches : List Batch) (owed : Answer) (s : Subject) where
       → page_answer (if s.with_cursor then Some (page_cursor s.dateline (page_rows w) (nat_lt w.limit (length (rows_of w)))) else None) (page_of (prims_of batches) p.shape) ≡ owed
   prints_answer p w prints one =
       ap (page_answer (if s.with_cursor then Some (page_cursor s.dateline (page_rows w) (nat_lt w.limit (length (rows_of w)))) else None)) prints.prints
-      ∙ sym (prints_page (prims_of batches) prints.q (scan_order (prims_of batches) prints.q) s.dateline s.with_cursor (after_of s.after) w prints.keeps.is prints.keeps.again prints.printed prints.trees prints.walks
+      ∙ sym (prints_page (prims_of batches) prints.q (scan_order (prims_of batches) prints.q) s.dateline s.with_cursor (after_of s.after) w prints.keeps.is prints.keeps.again 0 (pieces.trees_in p.trees) (walks_in p.shape)
       (ap (λ b. is_ambiguous b (length (rows_of w))) (sym prints.single) ∙ one))
       ∙ prints.owes

@@ -1,5 +1,5 @@
 -- Which readings come of frozen texts.
-use Rattle.std.specs.Prelude.{◌≡◌, ℕ, List, length, Bool, true, false, Option, Some, None}
+use Rattle.std.specs.Prelude.{◌≡◌, ◌+◌, ◌≤◌, ℕ, List, length, Bool, true, false, Option, Some, None}
 use Rattle.std.specs.List.{list_all}
 use Rattle.gd_grammar.specs.Mark.{Mark}
 use Rattle.gd_prim.specs.declared.Batch.{Batch}
@@ -8,10 +8,10 @@ use Rattle.gd_prim.specs.History.{prims_of}
 use Rattle.gd_tree.specs.Trees.{Trees}
 use Rattle.gd_defs.specs.Asked.{Asked}
 use Rattle.gd_defs.specs.Plan.{template_of}
-use Rattle.gd_bytes.specs.Frozen.{Scan, Body, Frozen}
+use Rattle.gd_bytes.specs.Frozen.{Scan, Walk, Body, building, printing, Frozen, max_number, walk_in_bounds}
 use Rattle.gd_runs.specs.Fitting.{row_fits, trees_fit, body_fits, fits}
 use Rattle.gd_runs.specs.Scanned.{scan_order}
-use Rattle.gd_roots.specs.PassedOn.{stands, IsOver, Matcher, plain}
+use Rattle.gd_roots.specs.PassedOn.{StandsIn, stands, IsOver, Matcher, plain}
 use Rattle.gd_match_laws.specs.Rows.{rows_order}
 use Rattle.gd_plan.specs.Asked.{asked_view}
 use Rattle.gd_plan.specs.declared.asked.Asked.{Asked as Found}
@@ -28,22 +28,34 @@ use Rattle.gd_thawed.specs.declared.subject.Subject.{Subject}
 use Rattle.gd_thawed.specs.declared.stage.Stage.{Stage}
 use Rattle.gd_thawed.specs.declared.query.ThawedQuery.{ThawedQuery}
 
--- the window of a query to which the rows of marks were offered, which fit, and no others
+-- the window of a query to which the rows of marks were offered, which fit and are not too many, and no others
 pub record HasKept (prims : List Primitive) (q : Asked) (s : Subject) (kept : List Mark) (w : Kept) : Type 0 where
   pub is : w ≡ window_of prims q (after_of s.after) w.rows
   pub seen : HasSeen w (read_rows prims q kept)
   pub fit : list_all (row_fits prims q) kept ≡ true
+  pub few : length kept ≤ q.limit + 1
 
 -- trees that were read are those of a text and fit a query with so many rows; none come exactly where they do not fit
 abbrev pub TreesThaw : List Primitive → Asked → ℕ → Trees → Option Built → Type 0
 TreesThaw prims q rows ts None = trees_fit prims q rows ts ≡ false
 TreesThaw prims q rows ts (Some trees) = (trees_fit prims q rows ts ≡ true) × (trees_view trees ≡ ts)
 
--- a matcher goes over the rows of a window, and stands where a text says
-pub record StandsAt (batches : List Batch) (plan : Found) (text : Scan) (w : Kept) (m : Matcher) : Type 0 where
+-- a matcher goes over the rows of a window, and stands where a text with so many rows says, in place
+pub record StandsAt (batches : List Batch) (plan : Found) (text : Scan) (rows : ℕ) (w : Kept) (m : Matcher) : Type 0 where
   pub stands_at : stands m ≡ plain text
   pub over : IsOver batches (template_of (asked_view plan)) m
+  pub inside : StandsIn rows batches (template_of (asked_view plan)) m
   pub order : order_for batches plan m ≡ rows_order (page_rows w)
+  pub light : text.weight ≤ max_number
+
+-- a body that builds fits a query with these rows
+abbrev pub BuildFits : List Batch → Asked → List Mark → ℕ → Trees → Scan → Type 0
+BuildFits batches q kept weight ts text = body_fits (prims_of batches) one_member q (length kept) (building weight ts text) ≡ true
+
+-- a body that prints fits a query with these rows, and its walks lie within the bounds of texts
+pub record PrintFits (batches : List Batch) (q : Asked) (kept : List Mark) (n : ℕ) (ts : Trees) (ws : List Walk) : Type 0 where
+  pub fits : body_fits (prims_of batches) one_member q (length kept) (printing n ts ws) ≡ true
+  pub bounds : list_all walk_in_bounds ws ≡ true
 
 -- a stage that stands where a body of a text does owes what that owes with the rows of the text; none comes exactly where the body does not fit
 abbrev pub StageThaws : List Batch → Subject → Asked → List Mark → Body → Kept → Option Stage → Type 0

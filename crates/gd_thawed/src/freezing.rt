@@ -1,58 +1,31 @@
 //! Readings that go on, as they are put away.
-ghost use Rattle.std.specs.Prelude.{◌≡◌, ◌≤◌, length, map, option_map, IfOk, MatchOption};
-ghost use Rattle.gd_defs.specs.Plan.{template_of};
+ghost use Rattle.std.specs.Prelude.{◌≡◌, ◌≤◌, map, Some, IfOk};
 ghost use Rattle.gd_defs.specs.Reply.{Answer as TheAnswer, row_mark};
 ghost use Rattle.gd_bytes.specs.Frozen.{scanning};
-ghost use Rattle.gd_frozen.specs.Meaning.{reading_of, row_of};
+ghost use Rattle.gd_frozen.specs.Meaning.{reading_of, row_of, scan_of};
 ghost use Rattle.gd_roots.specs.PassedOn.{CanBeTold, stands};
-ghost use Rattle.gd_plan.specs.Asked.{asked_view};
 ghost use Rattle.gd_suspended_laws.specs.Standing.{marks_of};
-ghost use Rattle.gd_thaw_laws.specs.Told.{told};
 ghost use Rattle.gd_window.specs.Laws.{defined};
 ghost use Rattle.gd_window.specs.declared.row.Row.{Row as WindowRow};
-ghost use Rattle.gd_thawed.specs.Freezing.{Freezes, scan_standing, standing};
+ghost use Rattle.gd_thawed.specs.Freezing.{Freezes, frozen_as, scan_told, build_told, print_told, standing};
 ghost use Rattle.gd_thawed.specs.Query.{IsGoing};
-ghost use Rattle.gd_thawed.specs.Stages.{ScansOn};
-ghost use Rattle.gd_thawed.specs.Subject.{after_of};
+ghost use Rattle.gd_thawed.specs.Subject.{marks_in};
 
+use crate::again::{after_again, rows_again, scan_again, trees_again, walks_again};
+use crate::building::Building;
 use crate::cursors::places_of;
+use crate::printing::Printing;
 use crate::query::ThawedQuery;
 use crate::scanning::Scanning;
 use crate::stage::Stage;
 use crate::subject::Subject;
-use gd_base::id::Id;
 use gd_base::memory::Memory;
-use gd_frozen::cursor::Places;
-use gd_frozen::frozen::{FrozenBody, FrozenReading, RowAt};
+use gd_frozen::frozen::{FrozenBody, FrozenReading, FrozenScan, RowAt};
+use gd_roots::frozen_list;
 use gd_store::view::View;
 use gd_window::row::Row;
 use gd_window::window::Window;
 use std::alloc::Global;
-
-/// The same places of keys.
-fn places_again(keys: &[Option<Id>]) -> Places
-    requires { length keys.now ≤ 4 }
-    ensures { result ≡ keys.now }
-{
-    let mut places = Places::new();
-    for key in keys {
-        places.push(*key);
-    }
-    places
-}
-
-/// The same row, if there is one.
-fn row_again(after: &Option<RowAt>) -> Option<RowAt>
-    ensures { after_of result ≡ after_of after.now }
-{
-    match after {
-        Some(row) => Some(RowAt {
-            object: row.object,
-            keys: places_again(row.keys.as_slice()),
-        }),
-        None => None,
-    }
-}
 
 /// A row that a window keeps, by its places.
 fn row_at(row: &Row) -> RowAt
@@ -66,7 +39,7 @@ fn row_at(row: &Row) -> RowAt
 
 /// The rows that a window keeps. `Memory`: an allocation was refused.
 fn rows_at(alloc: Global, rows: &[Row]) -> Result<Vec<RowAt>, Memory>
-    ensures { IfOk result (λ marks. map row_of marks.items
+    ensures { IfOk result (λ marks. marks_in marks.items
         ≡ map (λ (r : WindowRow). row_mark (defined r)) rows.now) }
 {
     let mut marks = Vec::with_capacity(alloc, rows.len())?;
@@ -77,83 +50,121 @@ fn rows_at(alloc: Global, rows: &[Row]) -> Result<Vec<RowAt>, Memory>
 }
 
 /// The rows of the window of a reading. `Memory`: an allocation was refused.
-fn window_rows(alloc: Global, window: &Window) -> Result<Vec<RowAt>, Memory>
-    ensures { IfOk result (λ marks. map row_of marks.items ≡ marks_of window.now) }
+pub(crate) fn window_rows(alloc: Global, window: &Window) -> Result<Vec<RowAt>, Memory>
+    ensures { IfOk result (λ marks. marks_in marks.items ≡ marks_of window.now) }
 {
     rows_at(alloc, window.rows())
 }
 
-/// A reading that scans, as it is put away: the rows that it keeps, and where its matcher stands.
-fn scan_text(
+/// The scan of a reading that scans: where its matcher stands, or, while a row waits for its keys,
+/// where it stood before the candidate. `Memory`: an allocation was refused.
+fn scan_at(alloc: Global, reading: &Scanning) -> Result<FrozenScan, Memory>
+    requires { CanBeTold (stands reading.now.matcher) }
+    ensures { IfOk result (λ scan. scan_of scan ≡ scan_told reading.now) }
+{
+    match &reading.found {
+        None => reading.matcher.freeze(alloc, reading.plan.template()),
+        Some(_) => scan_again(alloc, &reading.before),
+    }
+}
+
+/// A reading that scans, as it is put away: the rows that it keeps, and its scan. `Memory`: an
+/// allocation was refused.
+fn freeze_scan(
     alloc: Global,
     subject: &Subject,
     window: &Window,
     reading: &Scanning,
 ) -> Result<FrozenReading, Memory>
     requires { CanBeTold (stands reading.now.matcher) }
-    ensures { IfOk result (λ frozen. reading_of frozen ≡ record {
-      dateline = subject.now.dateline;
-      after = after_of subject.now.after;
-      rows = marks_of window.now;
-      body = scanning (told (template_of (asked_view reading.now.plan))
-          (stands reading.now.matcher));
-    }) }
+    ensures { IfOk result (λ frozen. reading_of frozen
+        ≡ frozen_as subject.now (marks_of window.now) (scanning (scan_told reading.now))) }
 {
-    let scan = reading.matcher.freeze(alloc, reading.plan.template())?;
+    let scan = scan_at(alloc, reading)?;
     let rows = window_rows(alloc, window)?;
     Ok(FrozenReading {
         dateline: subject.dateline,
-        after: row_again(&subject.after),
+        after: after_again(&subject.after),
         rows,
         body: FrozenBody::Scan(scan),
     })
 }
 
-/// The same, unless the row of a candidate waits for its keys.
-fn scan_frozen(
+/// A reading that builds, as it is put away: the rows with which it began, the weights and the trees
+/// so far, and the scan of its matcher over the rows. `Memory`: an allocation was refused.
+fn freeze_build(
     alloc: Global,
     subject: &Subject,
-    window: &Window,
-    reading: &Scanning,
-    view: &View<'_>,
-) -> Result<Option<FrozenReading>, Memory>
-    requires some { (owed : TheAnswer) × ScansOn view.now owed subject.now reading.now window.now }
-    ensures freezes { (owed : TheAnswer)
-        → ScansOn view.now owed subject.now reading.now window.now
-        → IfOk result (λ given. MatchOption given (Unit {0})
-        (λ frozen. Freezes view.now owed subject.now (reading_of frozen))) }
-    ensures told { IfOk result (λ given. option_map reading_of given
-        ≡ scan_standing subject.now window.now reading.now) }
+    reading: &Building,
+) -> Result<FrozenReading, Memory>
+    requires told { CanBeTold (stands reading.now.matcher) }
+    requires few { reading.now.weight ≤ 4_294_967_295 }
+    ensures { IfOk result (λ frozen. reading_of frozen
+        ≡ frozen_as subject.now (marks_in reading.now.rows.items) (build_told reading.now)) }
 {
-    let _ = view;
-    match &reading.found {
-        Some(_) => Ok(None),
-        None => Ok(Some(scan_text(alloc, subject, window, reading)?)),
-    }
+    let trees = frozen_list(alloc, reading.trees.as_slice())?;
+    let scan = reading.matcher.freeze(alloc, reading.plan.template())?;
+    let rows = rows_again(alloc, reading.rows.as_slice())?;
+    Ok(FrozenReading {
+        dateline: subject.dateline,
+        after: after_again(&subject.after),
+        rows,
+        body: FrozenBody::Build {
+            weight: reading.weight as u32,
+            trees,
+            scan,
+        },
+    })
+}
+
+/// A reading that prints, as it is put away: the rows, the trees and the walks with which its page
+/// began, and how many places of the trees were counted. `Memory`: an allocation was refused.
+fn freeze_print(
+    alloc: Global,
+    subject: &Subject,
+    reading: &Printing,
+) -> Result<FrozenReading, Memory>
+    ensures { IfOk result (λ frozen. reading_of frozen
+        ≡ frozen_as subject.now (marks_in reading.now.rows.items) (print_told reading.now)) }
+{
+    let trees = trees_again(alloc, &reading.trees)?;
+    let walks = walks_again(alloc, reading.shape.walks())?;
+    let rows = rows_again(alloc, reading.rows.as_slice())?;
+    Ok(FrozenReading {
+        dateline: subject.dateline,
+        after: after_again(&subject.after),
+        rows,
+        body: FrozenBody::Print {
+            printed: reading.shape.printed().min(reading.places),
+            trees,
+            walks,
+        },
+    })
 }
 
 impl ThawedQuery {
     /// Where the reading stands, as a frozen text tells it, over a view of its dateline; it stays as
-    /// it is. What is told can be read again, fits the query, and owes what the reading owes. None:
-    /// it does not scan any more, or the row of a candidate waits for its keys. `Memory`: an
-    /// allocation was refused.
-    pub fn freeze(&self, alloc: Global, view: &View<'_>) -> Result<Option<FrozenReading>, Memory>
+    /// it is. What is told can be read again, fits the query, and owes what the reading owes.
+    /// `Memory`: an allocation was refused.
+    pub fn freeze(&self, alloc: Global, view: &View<'_>) -> Result<FrozenReading, Memory>
         // The view stands for the batches below the dateline, over which it owes some answer.
         requires going { (owed : TheAnswer) × IsGoing view.now owed self.now }
 
-        // It is told where it stands, or not.
-        ensures told { IfOk result (λ given. option_map reading_of given ≡ standing self.now) }
+        // It is told where it stands.
+        ensures told { IfOk result (λ frozen. Some (reading_of frozen) ≡ standing self.now) }
 
         // What it is put away as owes the same.
         ensures freezes { (owed : TheAnswer) → IsGoing view.now owed self.now
-            → IfOk result (λ given. MatchOption given (Unit {0})
-            (λ frozen. Freezes view.now owed self.now.subject (reading_of frozen))) }
+            → IfOk result (λ frozen. Freezes view.now owed self.now.subject (reading_of frozen)) }
     {
+        let _ = view;
         match &self.stage {
             Stage::Scanning(scanning) => {
-                scan_frozen(alloc, &self.subject, &self.window, scanning, view)
+                freeze_scan(alloc, &self.subject, &self.window, scanning)
             }
-            _ => Ok(None),
+            Stage::Building(building) => freeze_build(alloc, &self.subject, building),
+            Stage::Printing(printing) => freeze_print(alloc, &self.subject, printing),
+            Stage::Spent => unreachable!(),
         }
     }
 }

@@ -1,5 +1,5 @@
 //! The row of an object, whose sort keys are looked for one after another.
-ghost use Rattle.std.specs.Prelude.{◌≡◌, ◌+◌, ◌<◌, ◌≤◌, [], None, length, IfSome, OnOk, true, false};
+ghost use Rattle.std.specs.Prelude.{◌≡◌, ◌+◌, ◌<◌, ◌≤◌, [], None, length, IfOk, IfSome, OnOk, true, false};
 ghost use Rattle.gd_base.specs.Counts.{Rose};
 ghost use Rattle.gd_prim.specs.History.{prims_of};
 ghost use Rattle.gd_defs.specs.Rows as defs;
@@ -11,6 +11,7 @@ use crate::keys::key_at;
 use gd_base::id::Id;
 use gd_base::memory::Memory;
 use gd_base::steps::Steps;
+use gd_iter_core::budget::Budget;
 use gd_plan::asked::{Asked, SortKey};
 use gd_store::view::View;
 use gd_window::keys::{Key, Keys4};
@@ -104,6 +105,38 @@ impl Keying {
             }
             None => Ok(()),
         }
+    }
+
+    /// Looks for the keys that are left, until all are known or the budget is spent; whether all
+    /// are. At most 29 steps more than the budget.
+    pub(crate) fn look_all<L>(
+        &mut self,
+        view: &View<'_>,
+        asked: &Asked,
+        budget: u64,
+        steps: &mut Steps<L>,
+    ) -> Result<bool, Memory>
+        requires has { HasKeys (prims_of view.now) asked.now.sort.items self.old }
+        ensures has { IfOk result (λ known. HasKeys (prims_of view.now) asked.now.sort.items
+            self.new) }
+        ensures known { IfOk result (λ known. known ≡ true
+            → length asked.now.sort.items ≤ length self.new.keys.items) }
+        ensures object { self.new.object ≡ self.old.object }
+        ensures work { steps.new ≤ steps.old + budget + 29 }
+        ensures later { steps.old ≤ steps.new }
+    {
+        let whole = Budget::new(budget, steps);
+        for _key in 0..asked.sort.len() {
+            if self.is_known(asked) {
+                return Ok(true);
+            }
+            if whole.is_spent(steps) {
+                return Ok(false);
+            }
+            let left = whole.left(steps);
+            self.look_on(view, asked, left, steps)?;
+        }
+        Ok(self.is_known(asked))
     }
 
     /// The row, once all keys are known.

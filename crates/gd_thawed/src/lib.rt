@@ -3,6 +3,7 @@
 #![tactic(auto)]
 
 mod advance;
+mod again;
 mod answers;
 mod building;
 mod cursors;

@@ -13,18 +13,22 @@ ghost use Rattle.gd_suspended_laws.specs.Standing.{rows_of, page_rows};
 ghost use Rattle.gd_reply.specs.Answers.{Tells};
 ghost use Rattle.gd_window.specs.Kept.{Kept};
 ghost use Rattle.gd_thawed.specs.declared.subject.Subject.{Subject as TheSubject};
-ghost use Rattle.gd_thawed.specs.Stages.{IsAsked, Prints, IsBuilt, StageOwes, kept_owes};
-ghost use Rattle.gd_thawed.specs.Thaw.{HasKept};
-ghost use Rattle.gd_grammar.specs.Mark.{Mark};
+ghost use Rattle.gd_thawed.specs.Stages.{IsAsked, Prints, IsBuilt, CountsRows, StageOwes};
+ghost use Rattle.gd_thawed.specs.Stages.{body_trees, kept_owes};
+ghost use Rattle.gd_thawed.specs.Subject.{marks_in};
+ghost use Rattle.gd_thawed.specs.Thaw.{HasKept, PrintFits};
+ghost use Rattle.gd_prim.specs.declared.Primitive.{Primitive};
 ghost use Rattle.gd_prim.specs.History.{prims_of};
-ghost use Rattle.gd_tree.specs.Trees.{Trees as Listed, trees_count};
+ghost use Rattle.gd_tree.specs.Trees.{trees_count};
 ghost use Rattle.gd_bytes.specs.Frozen.{printing};
 ghost use Rattle.gd_frozen.specs.Meaning.{walk_of};
+ghost use Rattle.gd_frozen.specs.Pieces.{trees_in};
 ghost use Rattle.gd_plan.specs.Asked.{asked_view};
 ghost use Rattle.gd_runs.specs.Scanned.{scan_order};
 ghost use Rattle.gd_trees.specs.View.{trees_view};
-ghost use Rattle.gd_thawed.specs.Rounds.{RoundGives, RoundGoes};
+ghost use Rattle.gd_thawed.specs.Rounds.{RoundGoes};
 ghost use Rattle.gd_shape.specs.Outcome.{text_of};
+ghost use Rattle.gd_shape.specs.Shaping.{page_of as page_told, body_told, body_places, walks_in, IsOf};
 
 use crate::cursors::row_text;
 use crate::rows::page_of;
@@ -33,11 +37,13 @@ use crate::subject::Subject;
 use gd_base::memory::Memory;
 use gd_base::steps::Steps;
 use gd_fault::fault::Path;
-use gd_frozen::frozen::Walk;
+use gd_frozen::frozen::{RowAt, Walk};
+use gd_frozen::tree::FrozenTrees;
 use gd_json::value::Json;
 use gd_plan::plan::Plan;
 use gd_reply::answer::Answer;
 use gd_reply::refusal::Refusal;
+use gd_roots::frozen_list;
 use gd_shape::shape::{PageBody, Shape, ShapeFault, ShapeTurn};
 use gd_store::view::View;
 use gd_trees::tree::Trees;
@@ -45,11 +51,18 @@ use gd_window::row::Row;
 use gd_window::window::Window;
 use std::alloc::Global;
 
-/// A reading that prints: its page, and whether it asks for one object alone.
+/// The greatest number of places that a text tells.
+const MOST_PLACES: u64 = 4_294_967_295;
+
+/// A reading that prints: its page, whether it asks for one object alone, and with what it is put
+/// away: the rows, the trees of the page, and how many places these have, at most.
 #[derive(Drop)]
 pub(crate) struct Printing {
     pub(crate) shape: Shape,
     pub(crate) single: bool,
+    pub(crate) rows: Vec<RowAt>,
+    pub(crate) trees: FrozenTrees,
+    pub(crate) places: u32,
 }
 
 /// The refusal that says that more than one object was found where one is asked.
@@ -68,15 +81,97 @@ fn are_many(single: bool, window: &Window) -> bool
     single && window.rows().len() > 1
 }
 
-/// What a reading does that begins to print a page from a body.
-pub(crate) fn page_stage(alloc: Global, plan: Plan, body: PageBody) -> Result<Stage, Memory>
-    ensures { (batches : List Batch) (owed : TheAnswer) (s : TheSubject) (w : Kept)
-        → IsBuilt batches owed s plan body w
-        → IfOk result (λ stage. StageOwes batches owed s stage w) }
+/// How many places the trees of a body have, or as many as a text tells where they have more: none
+/// for a count.
+fn places_of(body: &PageBody) -> u32
+    ensures { result ≤ body_places body.now }
+{
+    match body {
+        PageBody::Trees(trees) => trees.count().min(MOST_PLACES) as u32,
+        PageBody::Count(_) => 0,
+    }
+}
+
+/// A page that is printed from a body of which so many places were counted, and whose first ids are
+/// spelt by walks; it is put away with these rows and trees.
+fn printing_of(
+    alloc: Global,
+    plan: Plan,
+    body: PageBody,
+    printed: u32,
+    walks: Vec<Walk>,
+    rows: Vec<RowAt>,
+    trees: FrozenTrees,
+) -> Result<Printing, Memory>
+    requires printed { printed ≤ body_places body }
+    ensures page { IfOk result (λ printing. (prims : List Primitive)
+        → page_told prims printing.shape
+        ≡ body_told prims (asked_view plan) body (map walk_of walks.items)) }
+    ensures of { IfOk result (λ printing. (prims : List Primitive) → IsOf prims printing.shape) }
+    ensures walks { IfOk result (λ printing. walks_in printing.shape ≡ map walk_of walks.items) }
+    ensures single { IfOk result (λ printing. printing.single ≡ plan.single) }
+    ensures rows { IfOk result (λ printing. printing.rows ≡ rows) }
+    ensures trees { IfOk result (λ printing. printing.trees ≡ trees) }
+    ensures places { IfOk result (λ printing. printing.places ≤ body_places body) }
+    ensures low { IfOk result (λ printing. printing.places ≤ 4_294_967_295) }
 {
     let single = plan.asked().single;
-    let shape = Shape::start(alloc, plan.into_asked(), body)?;
-    Ok(Stage::Printing(Printing { shape, single }))
+    let places = places_of(&body);
+    match Shape::start_at(alloc, plan.into_asked(), body, printed, walks) {
+        Ok(shape) => Ok(Printing {
+            shape,
+            single,
+            rows,
+            trees,
+            places,
+        }),
+        Err(refused) => {
+            drop(rows);
+            drop(trees);
+            Err(refused)
+        }
+    }
+}
+
+/// What a reading does that begins to print a page from a body, and is put away with these rows and
+/// with the trees of the body.
+pub(crate) fn page_stage(
+    alloc: Global,
+    plan: Plan,
+    body: PageBody,
+    rows: Vec<RowAt>,
+    trees: FrozenTrees,
+) -> Result<Stage, Memory>
+    ensures { (batches : List Batch) (owed : TheAnswer) (s : TheSubject) (w : Kept)
+        → IsBuilt batches owed s plan body (marks_in rows.items) w
+        → trees_in trees ≡ body_trees body
+        → IfOk result (λ stage. StageOwes batches owed s stage w) }
+{
+    let none = Vec::new(alloc);
+    let printing = printing_of(alloc, plan, body, 0, none, rows, trees)?;
+    Ok(Stage::Printing(printing))
+}
+
+/// What a reading does that prints how many rows its page has, and is put away with these rows.
+pub(crate) fn count_stage(
+    alloc: Global,
+    plan: Plan,
+    window: &Window,
+    rows: Vec<RowAt>,
+) -> Result<Stage, Memory>
+    ensures { (batches : List Batch) (owed : TheAnswer) (s : TheSubject)
+        → CountsRows batches owed s plan (marks_in rows.items) window.now
+        → IfOk result (λ stage. StageOwes batches owed s stage window.now) }
+{
+    let count = page_of(window.rows(), window.limit()).len() as u32;
+    match frozen_list(alloc, &[]) {
+        Ok(none) => page_stage(alloc, plan, PageBody::Count(count), rows, none),
+        Err(refused) => {
+            drop(plan);
+            drop(rows);
+            Err(refused)
+        }
+    }
 }
 
 /// What a reading does that goes on printing from trees of which so many places were counted, whose
@@ -85,37 +180,26 @@ pub(crate) fn stage_at(
     alloc: Global,
     plan: Plan,
     trees: Trees,
+    told: FrozenTrees,
     printed: u32,
     walks: Vec<Walk>,
+    rows: Vec<RowAt>,
 ) -> Result<Stage, Memory>
     requires listed { (asked_view plan).count ≡ false }
     requires places { printed ≤ trees_count (trees_view trees) }
-    ensures { (batches : List Batch) (s : TheSubject) (w : Kept) (kept : List Mark) (ts : Listed)
+    ensures { (batches : List Batch) (s : TheSubject) (w : Kept)
         → IsAsked batches s (asked_view plan)
-        → HasKept (prims_of batches) (asked_view plan) s kept w → trees_view trees ≡ ts
+        → HasKept (prims_of batches) (asked_view plan) s (marks_in rows.items) w
+        → trees_view trees ≡ trees_in told
+        → PrintFits batches (asked_view plan) (marks_in rows.items) printed (trees_in told)
+        (map walk_of walks.items)
         → IfOk result (λ stage. StageOwes batches (kept_owes batches s (asked_view plan)
-        (scan_order (prims_of batches) (asked_view plan)) kept
-        (printing printed ts (map walk_of walks.items))) s stage w) }
+        (scan_order (prims_of batches) (asked_view plan)) (marks_in rows.items)
+        (printing printed (trees_in told) (map walk_of walks.items))) s stage w) }
 {
-    let single = plan.asked().single;
     let body = PageBody::Trees(trees);
-    let shape = Shape::start_at(alloc, plan.into_asked(), body, printed, walks)?;
-    Ok(Stage::Printing(Printing { shape, single }))
-}
-
-/// Begins to print a page from a body.
-pub(crate) fn print_page(
-    alloc: Global,
-    plan: Plan,
-    body: PageBody,
-    subject: &Subject,
-    window: &Window,
-    view: &View<'_>,
-) -> Result<Round, Memory>
-    ensures { (owed : TheAnswer) → IsBuilt view.now owed subject.now plan body window.now
-        → IfOk result (λ round. RoundGives view.now owed subject.now window.now round) }
-{
-    Ok(Round::Going(page_stage(alloc, plan, body)?))
+    let printing = printing_of(alloc, plan, body, printed, walks, rows, told)?;
+    Ok(Stage::Printing(printing))
 }
 
 /// The cursor of a page, of the rows that are kept: it marks the last row, and is false where no

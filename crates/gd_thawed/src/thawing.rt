@@ -1,27 +1,31 @@
 //! Readings that are thawed from frozen texts.
-ghost use Rattle.std.specs.Prelude.{◌≡◌, ◌+◌, ◌≤◌, ◌<◌, List, length, map, nat_le, Ok, IfOk, if◌then◌else◌};
-ghost use Rattle.gd_grammar.specs.Mark.{Mark};
+ghost use Rattle.std.specs.Prelude.{◌≡◌, ◌+◌, ◌≤◌, ◌<◌, List, length, map, nat_le, true, Ok, IfOk};
+ghost use Rattle.std.specs.Prelude.{if◌then◌else◌};
+ghost use Rattle.std.specs.List.{list_all};
 ghost use Rattle.gd_prim.specs.declared.Batch.{Batch};
 ghost use Rattle.gd_prim.specs.History.{prims_of};
 ghost use Rattle.gd_tree.specs.Trees.{Trees as Listed, list_of, trees_of, trees_count};
 ghost use Rattle.gd_defs.specs.Asked.{asked_query};
 ghost use Rattle.gd_defs.specs.Query.{Query};
-ghost use Rattle.gd_bytes.specs.Frozen.{Scan, scanning, building, printing, Fits};
+ghost use Rattle.gd_bytes.specs.Frozen.{Scan, scanning, building, printing, Fits, max_number};
+ghost use Rattle.gd_bytes.specs.Frozen.{walk_in_bounds};
 ghost use Rattle.gd_frozen.specs.Meaning.{body_of, reading_of, scan_of, walk_of};
 ghost use Rattle.gd_frozen.specs.Pieces.{trees_in};
 ghost use Rattle.gd_plan.specs.Asked.{asked_view};
 ghost use Rattle.gd_runs.specs.Fitting.{tried_count};
 ghost use Rattle.gd_runs.specs.Scanned.{scan_order};
+ghost use Rattle.gd_thaw_laws.specs.Spelled.{NumbersFit};
 ghost use Rattle.gd_trees.specs.View.{view as tree_view, trees_view};
 ghost use Rattle.gd_thawed.specs.Stages.{IsAsked, StageOwes, kept_owes};
 ghost use Rattle.gd_thawed.specs.Subject.{marks_in};
-ghost use Rattle.gd_thawed.specs.Thaw.{HasKept, TreesThaw, StandsAt, StageThaws, Thaws};
+ghost use Rattle.gd_thawed.specs.Thaw.{HasKept, TreesThaw, StandsAt, BuildFits, PrintFits};
+ghost use Rattle.gd_thawed.specs.Thaw.{StageThaws, Thaws};
 ghost use Rattle.gd_thawed.specs.declared.subject.Subject.{Subject as TheSubject};
 
 use crate::building::Building;
 use crate::first::root_for;
 use crate::fitting::{rows_fit, walks_fit};
-use crate::printing::{page_stage, stage_at};
+use crate::printing::{count_stage, stage_at};
 use crate::query::ThawedQuery;
 use crate::rows::{objects_of, offer_marks, page_of, window_behind};
 use crate::scanning::Scanning;
@@ -35,19 +39,11 @@ use gd_plan::asked::Asked;
 use gd_plan::plan::Plan;
 use gd_roots::{Matcher, Root, thawed_trees};
 use gd_shape::ids::ids_printed;
-use gd_shape::shape::PageBody;
 use gd_store::view::View;
 use gd_trees::tree::Trees;
 use gd_window::window::Window;
 use std::alloc::Global;
 use std::snapshot::Snapshot;
-
-/// The weight of the candidate that a scan tries, so far.
-fn weight_so_far(scan: &FrozenScan) -> u32
-    ensures { (scan_of scan.now).weight ≤ 4_294_967_295 }
-{
-    scan.weight
-}
 
 /// A reading that scans from where a text says. None: the scan does not fit the query.
 fn scan_stage<L>(
@@ -57,7 +53,7 @@ fn scan_stage<L>(
     subject: &Subject,
     window: &Window,
     rows: &[RowAt],
-    scan: &FrozenScan,
+    scan: FrozenScan,
     steps: &mut Steps<L>,
 ) -> Result<Option<Stage>, Memory>
     requires meaning { (written : Query) × (asked_query (prims_of view.now) written
@@ -65,17 +61,17 @@ fn scan_stage<L>(
     requires asked { IsAsked view.now subject.now (asked_view plan) }
     requires kept { HasKept (prims_of view.now) (asked_view plan) subject.now (marks_in rows.now)
         window.now }
+    requires light { (scan_of scan).weight ≤ max_number }
     ensures thaws { IfOk result (StageThaws view.now subject.now (asked_view plan)
-        (marks_in rows.now) (scanning (scan_of scan.now)) window.now) }
+        (marks_in rows.now) (scanning (scan_of scan)) window.now) }
     ensures later { steps.old ≤ steps.new }
 {
-    // It is said here that the weight is one of four bytes.
-    let _weight = weight_so_far(scan);
     let root = root_for(alloc, view, plan.template(), steps)?;
-    match Matcher::thaw(alloc, plan.template(), root, scan, view, steps)? {
+    match Matcher::thaw(alloc, plan.template(), root, &scan, view, steps)? {
         Some(matcher) => Ok(Some(Stage::Scanning(Scanning {
             plan,
             matcher,
+            before: scan,
             found: None,
         }))),
         None => Ok(None),
@@ -149,17 +145,19 @@ fn build_stage<L>(
     plan: Plan,
     subject: &Subject,
     window: &Window,
-    rows: &[RowAt],
+    rows: Vec<RowAt>,
     weight: u32,
     trees: &FrozenTrees,
     scan: &FrozenScan,
     steps: &mut Steps<L>,
 ) -> Result<Option<Stage>, Memory>
     requires asked { IsAsked view.now subject.now (asked_view plan) }
-    requires kept { HasKept (prims_of view.now) (asked_view plan) subject.now (marks_in rows.now)
+    requires kept { HasKept (prims_of view.now) (asked_view plan) subject.now (marks_in rows.items)
         window.now }
+    requires light { (scan_of scan.now).weight ≤ max_number }
     ensures thaws { IfOk result (StageThaws view.now subject.now (asked_view plan)
-        (marks_in rows.now) (building weight (trees_in trees.now) (scan_of scan.now)) window.now) }
+        (marks_in rows.items) (building weight (trees_in trees.now) (scan_of scan.now))
+        window.now) }
     ensures later { steps.old ≤ steps.new }
 {
     if scan.iter.place.place() as usize > rows.len() {
@@ -177,12 +175,12 @@ fn build_stage<L>(
     }
     let ids = objects_of(alloc, page_of(window.rows(), window.limit()))?;
     match Matcher::thaw_at(alloc, plan.template(), Root::Rows(ids), scan, view, steps)? {
-        Some(matcher) => Ok(Some(build_from(alloc, plan, window, matcher, trees, weight)?)),
+        Some(matcher) => Ok(Some(build_from(alloc, plan, window, matcher, trees, weight, rows)?)),
         None => Ok(None),
     }
 }
 
-/// What a reading does that builds, with a matcher and trees of a text: of a count no tree is
+/// What a reading does that builds, with a matcher, trees and rows of a text: of a count no tree is
 /// built, so its rows are printed.
 fn build_from(
     alloc: Global,
@@ -191,37 +189,47 @@ fn build_from(
     matcher: Matcher,
     trees: Trees,
     weight: u32,
+    rows: Vec<RowAt>,
 ) -> Result<Stage, Memory>
-    ensures { (batches : List Batch) (s : TheSubject) (kept : List Mark) (text : Scan) (ts : Listed)
+    ensures { (batches : List Batch) (s : TheSubject) (text : Scan) (ts : Listed)
         → IsAsked batches s (asked_view plan)
-        → HasKept (prims_of batches) (asked_view plan) s kept window.now
-        → trees_view trees ≡ ts → StandsAt batches plan text window.now matcher
+        → HasKept (prims_of batches) (asked_view plan) s (marks_in rows.items) window.now
+        → trees_view trees ≡ ts
+        → StandsAt batches plan text (length (marks_in rows.items)) window.now matcher
+        → BuildFits batches (asked_view plan) (marks_in rows.items) weight ts text
         → IfOk result (λ stage. StageOwes batches (kept_owes batches s (asked_view plan)
-        (scan_order (prims_of batches) (asked_view plan)) kept (building weight ts text)) s stage
-        window.now) }
+        (scan_order (prims_of batches) (asked_view plan)) (marks_in rows.items)
+        (building weight ts text)) s stage window.now) }
 {
     if plan.asked().count {
         drop(matcher);
         drop(trees);
-        let count = page_of(window.rows(), window.limit()).len() as u32;
-        return page_stage(alloc, plan, PageBody::Count(count));
+        return count_stage(alloc, plan, window, rows);
     }
-    Ok(Stage::Building(building_of(plan, matcher, trees, weight)))
+    Ok(Stage::Building(building_of(plan, matcher, trees, weight, rows)))
 }
 
-/// A reading that builds, with the trees of a text.
+/// A reading that builds, with the trees and the rows of a text.
 #[tactic(auto, using(crate::proofs::FromText::trees_again))]
-fn building_of(plan: Plan, matcher: Matcher, trees: Trees, weight: u32) -> Building
+fn building_of(
+    plan: Plan,
+    matcher: Matcher,
+    trees: Trees,
+    weight: u32,
+    rows: Vec<RowAt>,
+) -> Building
     ensures plan { result.plan ≡ plan }
     ensures matcher { result.matcher ≡ matcher }
     ensures trees { trees_of (map tree_view result.trees.items) ≡ trees_view trees }
     ensures weight { result.weight ≡ weight }
+    ensures rows { result.rows ≡ rows }
 {
     Building {
         plan,
         matcher,
         trees: trees.items,
         weight: u64::from(weight),
+        rows,
     }
 }
 
@@ -232,25 +240,29 @@ fn print_from(
     plan: Plan,
     window: &Window,
     trees: Trees,
+    told: FrozenTrees,
     printed: u32,
     walks: Vec<Walk>,
+    rows: Vec<RowAt>,
 ) -> Result<Stage, Memory>
     requires places { printed ≤ trees_count (trees_view trees) }
-    ensures { (batches : List Batch) (s : TheSubject) (kept : List Mark) (ts : Listed)
+    ensures { (batches : List Batch) (s : TheSubject)
         → IsAsked batches s (asked_view plan)
-        → HasKept (prims_of batches) (asked_view plan) s kept window.now
-        → trees_view trees ≡ ts
+        → HasKept (prims_of batches) (asked_view plan) s (marks_in rows.items) window.now
+        → trees_view trees ≡ trees_in told
+        → PrintFits batches (asked_view plan) (marks_in rows.items) printed (trees_in told)
+        (map walk_of walks.items)
         → IfOk result (λ stage. StageOwes batches (kept_owes batches s (asked_view plan)
-        (scan_order (prims_of batches) (asked_view plan)) kept
-        (printing printed ts (map walk_of walks.items))) s stage window.now) }
+        (scan_order (prims_of batches) (asked_view plan)) (marks_in rows.items)
+        (printing printed (trees_in told) (map walk_of walks.items))) s stage window.now) }
 {
     if plan.asked().count {
         drop(trees);
+        drop(told);
         drop(walks);
-        let count = page_of(window.rows(), window.limit()).len() as u32;
-        return page_stage(alloc, plan, PageBody::Count(count));
+        return count_stage(alloc, plan, window, rows);
     }
-    stage_at(alloc, plan, trees, printed, walks)
+    stage_at(alloc, plan, trees, told, printed, walks, rows)
 }
 
 /// Whether trees have so many places.
@@ -267,24 +279,25 @@ fn print_stage<L>(
     plan: Plan,
     subject: &Subject,
     window: &Window,
-    rows: &[RowAt],
+    rows: Vec<RowAt>,
     printed: u32,
-    trees: &FrozenTrees,
+    told: FrozenTrees,
     walks: Vec<Walk>,
     steps: &mut Steps<L>,
 ) -> Result<Option<Stage>, Memory>
     requires asked { IsAsked view.now subject.now (asked_view plan) }
-    requires kept { HasKept (prims_of view.now) (asked_view plan) subject.now (marks_in rows.now)
+    requires kept { HasKept (prims_of view.now) (asked_view plan) subject.now (marks_in rows.items)
         window.now }
+    requires bounds { list_all walk_in_bounds (map walk_of walks.items) ≡ true }
     ensures thaws { IfOk result (StageThaws view.now subject.now (asked_view plan)
-        (marks_in rows.now) (printing printed (trees_in trees.now) (map walk_of walks.items))
+        (marks_in rows.items) (printing printed (trees_in told) (map walk_of walks.items))
         window.now) }
     ensures later { steps.old ≤ steps.new }
 {
     if !walks_fit(view.primitives(), walks.as_slice()) {
         return Ok(None);
     }
-    let trees = match built_trees(alloc, view, &plan, rows.len(), trees, steps)? {
+    let trees = match built_trees(alloc, view, &plan, rows.len(), &told, steps)? {
         Some(trees) => trees,
         None => return Ok(None),
     };
@@ -294,7 +307,7 @@ fn print_stage<L>(
     if walks.as_slice().len() > ids_printed(alloc, view, plan.asked(), trees.items.as_slice())? {
         return Ok(None);
     }
-    Ok(Some(print_from(alloc, plan, window, trees, printed, walks)?))
+    Ok(Some(print_from(alloc, plan, window, trees, told, printed, walks, rows)?))
 }
 
 /// What a reading does from where the body of a text says. None: it does not fit the query.
@@ -304,23 +317,31 @@ fn stage_of<L>(
     plan: Plan,
     subject: &Subject,
     window: &Window,
-    rows: &[RowAt],
+    rows: Vec<RowAt>,
     body: FrozenBody,
     steps: &mut Steps<L>,
 ) -> Result<Option<Stage>, Memory>
     requires meaning { (written : Query) × (asked_query (prims_of view.now) written
         ≡ Ok (asked_view plan)) }
     requires asked { IsAsked view.now subject.now (asked_view plan) }
-    requires kept { HasKept (prims_of view.now) (asked_view plan) subject.now (marks_in rows.now)
+    requires kept { HasKept (prims_of view.now) (asked_view plan) subject.now (marks_in rows.items)
         window.now }
+    requires numbers { NumbersFit (body_of body) }
     ensures thaws { IfOk result (StageThaws view.now subject.now (asked_view plan)
-        (marks_in rows.now) (body_of body) window.now) }
+        (marks_in rows.items) (body_of body) window.now) }
     ensures later { steps.old ≤ steps.new }
 {
     match body {
-        FrozenBody::Scan(scan) => {
-            scan_stage(alloc, view, plan, subject, window, rows, &scan, steps)
-        }
+        FrozenBody::Scan(scan) => scan_stage(
+            alloc,
+            view,
+            plan,
+            subject,
+            window,
+            rows.as_slice(),
+            scan,
+            steps,
+        ),
         FrozenBody::Build {
             weight,
             trees,
@@ -333,7 +354,7 @@ fn stage_of<L>(
             trees,
             walks,
         } => print_stage(
-            alloc, view, plan, subject, window, rows, printed, &trees, walks, steps,
+            alloc, view, plan, subject, window, rows, printed, trees, walks, steps,
         ),
     }
 }
@@ -386,16 +407,7 @@ impl ThawedQuery {
             with_cursor,
             after,
         };
-        let stage = stage_of(
-            alloc,
-            view,
-            plan,
-            &subject,
-            &window,
-            rows.as_slice(),
-            body,
-            steps,
-        )?;
+        let stage = stage_of(alloc, view, plan, &subject, &window, rows, body, steps)?;
         match stage {
             Some(stage) => Ok(Some(ThawedQuery {
                 subject,

@@ -1,5 +1,5 @@
 use Rattle.std.proofs.Common.{◌≡◌, length, take}
-use Rattle.gd_thawed.proofs.freezing.places_again.Given as goal
+use Rattle.gd_thawed.proofs.again.places_again.Given as goal
 
 abbrev pub invariant-loop-key : goal.invariant-loop-key
 invariant-loop-key l = record {
