@@ -1,5 +1,5 @@
 //! The places of key links.
-ghost use Rattle.std.specs.Prelude.{◌≡◌, ℕ, ◌<◌, List, [], Some, length, OnOk, OnErr};
+ghost use Rattle.std.specs.Prelude.{◌≡◌, ℕ, ◌<◌, List, [], Some, length, OnOk, OnErr, IfOk};
 ghost use Rattle.std.specs.Option.{ForSome, option_copied};
 ghost use Rattle.gd_postings.specs.Postings.{IsAbove};
 ghost use Rattle.gd_keys.specs.Keys.{key_list, object_list, is_under, is_of, with_entry};
@@ -46,6 +46,17 @@ impl Keys {
             by_object: NodeLists::new(alloc),
             empty: Postings::new(alloc),
         }
+    }
+
+    /// The same places again. No list is looked up.
+    pub fn copy(&self) -> Result<Keys, Memory>
+        ensures { IfOk result (λ copy. copy ≡ self.now) }
+    {
+        Ok(Keys {
+            by_key: self.by_key.copy()?,
+            by_object: self.by_object.copy()?,
+            empty: self.empty.copy()?,
+        })
     }
 
     /// The list of a namespace and a key.

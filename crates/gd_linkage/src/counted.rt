@@ -1,5 +1,5 @@
 //! Lists under nodes, and how long they are at most.
-ghost use Rattle.std.specs.Prelude.{◌≡◌, ℕ, ◌+◌, ◌<◌, ◌≤◌, [], Some, unwrap_or, length, OnOk};
+ghost use Rattle.std.specs.Prelude.{◌≡◌, ℕ, ◌+◌, ◌<◌, ◌≤◌, [], Some, unwrap_or, length, OnOk, IfOk};
 ghost use Rattle.std.specs.Option.{ForSome, option_copied};
 ghost use Rattle.gd_postings.specs.Postings.{IsAbove};
 ghost use Rattle.gd_lists.specs.Lists.{id_list, nothing};
@@ -51,6 +51,16 @@ impl CountedLists {
             lists: NodeLists::new(alloc),
             most: 0,
         }
+    }
+
+    /// The same lists again, and the same number that no list is longer than.
+    pub fn copy(&self) -> Result<CountedLists, Memory>
+        ensures { IfOk result (λ copy. copy ≡ self.now) }
+    {
+        Ok(CountedLists {
+            lists: self.lists.copy()?,
+            most: self.most,
+        })
     }
 
     /// A number that no list is longer than. It does not fall where identities are taken away.

@@ -1,6 +1,6 @@
 //! Which places name a node, by the end at which they name it.
 ghost use Rattle.std.specs.Prelude.{◌≡◌, ℕ, ◌+◌, ◌-◌, ◌<◌, ◌≤◌, ◌^◌, [], Some, length, min};
-ghost use Rattle.std.specs.Prelude.{slice_get, OnOk};
+ghost use Rattle.std.specs.Prelude.{slice_get, OnOk, IfOk};
 ghost use Rattle.gd_prim.specs.End.{end_of};
 ghost use Rattle.gd_prim.specs.declared.End as prims;
 ghost use Rattle.gd_postings.specs.Postings.{ids_below};
@@ -57,6 +57,19 @@ impl Linkage {
             scope: CountedLists::new(alloc),
             empty: Postings::new(alloc),
         }
+    }
+
+    /// The same places again. No node is looked up.
+    pub fn copy(&self) -> Result<Linkage, Memory>
+        ensures { IfOk result (λ copy. copy ≡ self.now) }
+    {
+        Ok(Linkage {
+            left: self.left.copy()?,
+            right: self.right.copy()?,
+            typ: self.typ.copy()?,
+            scope: self.scope.copy()?,
+            empty: self.empty.copy()?,
+        })
     }
 
     /// The lists of an end.

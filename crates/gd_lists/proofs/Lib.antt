@@ -1,3 +1,4 @@
 pub mod Each
 pub mod Entries
 pub mod Table
+pub mod Last

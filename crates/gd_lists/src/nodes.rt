@@ -90,6 +90,17 @@ fn index_of(numbers: &[u32], node: usize) -> usize
     numbers[node] as usize - 1
 }
 
+/// The same lists again.
+fn copies(alloc: Global, lists: &[Postings]) -> Result<Vec<Postings>, Memory>
+    ensures { IfOk result (λ made. made.items ≡ lists.now) }
+{
+    let mut made = Vec::with_capacity(alloc, lists.len())?;
+    for list in lists {
+        made.push(list.copy()?)?;
+    }
+    Ok(made)
+}
+
 impl NodeLists {
     /// No lists.
     pub fn new(alloc: Global) -> NodeLists
@@ -100,6 +111,17 @@ impl NodeLists {
             lists: Vec::new(alloc),
             alloc,
         }
+    }
+
+    /// The same lists again. No node is looked up.
+    pub fn copy(&self) -> Result<NodeLists, Memory>
+        ensures { IfOk result (λ copy. copy ≡ self.now) }
+    {
+        Ok(NodeLists {
+            numbers: self.numbers.to_vec(self.alloc)?,
+            lists: copies(self.alloc, self.lists.as_slice())?,
+            alloc: self.alloc,
+        })
     }
 
     /// The list of a node, if one was made.

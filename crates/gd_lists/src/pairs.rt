@@ -1,6 +1,6 @@
 //! Lists under a namespace and a key.
 ghost use Rattle.std.specs.Prelude.{◌≡◌, ℕ, ◌<◌, ◌==◌, ◌&&◌, List, [], ◌∷◌, ◌++◌, unwrap_or, Some};
-ghost use Rattle.std.specs.Prelude.{length, OnOk};
+ghost use Rattle.std.specs.Prelude.{length, OnOk, IfOk};
 ghost use Rattle.std.specs.Option.{ForSome, option_copied};
 ghost use Rattle.std.specs.Str.{bytes_eq};
 ghost use Rattle.gd_postings.specs.Postings.{IsAbove};
@@ -32,6 +32,18 @@ impl Model for PairLists {
     ghost view = { λ names. names.texts.entries };
 }
 
+/// The same lists again, entered in their order.
+fn copies(alloc: Global, texts: &BTreeMap<Id, TextLists>) -> Result<BTreeMap<Id, TextLists>, Memory>
+    ensures { IfOk result (λ made. made.entries ≡ texts.now.entries) }
+{
+    let mut made = BTreeMap::new(alloc);
+    for (namespace, lists) in texts.iter() {
+        let same = lists.copy()?;
+        drop(made.insert(*namespace, same)?);
+    }
+    Ok(made)
+}
+
 impl PairLists {
     /// No lists.
     pub fn new(alloc: Global) -> PairLists
@@ -41,6 +53,16 @@ impl PairLists {
             texts: BTreeMap::new(alloc),
             alloc,
         }
+    }
+
+    /// The same lists again.
+    pub fn copy(&self) -> Result<PairLists, Memory>
+        ensures { IfOk result (λ copy. copy ≡ self.now) }
+    {
+        Ok(PairLists {
+            texts: copies(self.alloc, &self.texts)?,
+            alloc: self.alloc,
+        })
     }
 
     /// The list of a namespace and a key, if one was made.

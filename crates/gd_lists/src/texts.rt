@@ -1,5 +1,5 @@
 //! Lists under texts.
-ghost use Rattle.std.specs.Prelude.{◌≡◌, ℕ, ◌<◌, List, [], ◌∷◌, ◌++◌, unwrap_or, length, OnOk};
+ghost use Rattle.std.specs.Prelude.{◌≡◌, ℕ, ◌<◌, List, [], ◌∷◌, ◌++◌, unwrap_or, length, OnOk, IfOk};
 ghost use Rattle.std.specs.Option.{option_copied};
 ghost use Rattle.std.specs.Str.{bytes_eq};
 ghost use Rattle.gd_postings.specs.Postings.{IsAbove};
@@ -30,6 +30,22 @@ impl Model for TextLists {
     ghost view = { λ texts. texts.lists.entries };
 }
 
+/// The same lists again, entered in their order.
+fn copies(
+    alloc: Global,
+    lists: &BTreeMap<Text, Postings>,
+) -> Result<BTreeMap<Text, Postings>, Memory>
+    ensures { IfOk result (λ made. made.entries ≡ lists.now.entries) }
+{
+    let mut made = BTreeMap::new(alloc);
+    for (text, list) in lists.iter() {
+        let name = text.copy()?;
+        let same = list.copy()?;
+        drop(made.insert(name, same)?);
+    }
+    Ok(made)
+}
+
 impl TextLists {
     /// No lists.
     pub fn new(alloc: Global) -> TextLists
@@ -39,6 +55,16 @@ impl TextLists {
             lists: BTreeMap::new(alloc),
             alloc,
         }
+    }
+
+    /// The same lists again.
+    pub fn copy(&self) -> Result<TextLists, Memory>
+        ensures { IfOk result (λ copy. copy ≡ self.now) }
+    {
+        Ok(TextLists {
+            lists: copies(self.alloc, &self.lists)?,
+            alloc: self.alloc,
+        })
     }
 
     /// The list under a text, if one was made.

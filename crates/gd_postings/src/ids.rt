@@ -1,5 +1,5 @@
 //! Where the identities of a list stand.
-ghost use Rattle.std.specs.Prelude.{◌≡◌, ◌+◌, ◌<◌, ◌≤◌, [], ◌∷◌, ◌++◌, IfSome, IfNone, OnOk, OnErr};
+ghost use Rattle.std.specs.Prelude.{◌≡◌, ◌+◌, ◌<◌, ◌≤◌, [], ◌∷◌, ◌++◌, IfSome, IfNone, OnOk, OnErr, IfOk};
 ghost use Rattle.gd_postings.specs.Ids.{ids_of, room_of};
 
 use crate::many::Many;
@@ -28,6 +28,20 @@ impl Ids {
             Ids::Two(ids) => ids.as_slice(),
             Ids::Three(ids) => ids.as_slice(),
             Ids::Many(many) => many.as_slice(),
+        }
+    }
+
+    /// The same identities again, and as much room.
+    pub(crate) fn copy(&self, alloc: Global) -> Result<Ids, Memory>
+        ensures ids { IfOk result (λ copy. ids_of copy ≡ ids_of self.now) }
+        ensures room { IfOk result (λ copy. room_of copy ≡ room_of self.now) }
+    {
+        match self {
+            Ids::Empty => Ok(Ids::Empty),
+            Ids::One(ids) => Ok(Ids::One(*ids)),
+            Ids::Two(ids) => Ok(Ids::Two(*ids)),
+            Ids::Three(ids) => Ok(Ids::Three(*ids)),
+            Ids::Many(many) => Ok(Ids::Many(Box::new(alloc, many.copy(alloc)?)?)),
         }
     }
 

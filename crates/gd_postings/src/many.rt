@@ -36,6 +36,18 @@ impl Many {
         Ok(Many { ids, spare: 1 })
     }
 
+    /// The same identities again, and as much room. It takes one allocation where there is none.
+    pub(crate) fn copy(&self, alloc: Global) -> Result<Many, Memory>
+        ensures { IfOk result (λ copy. copy ≡ self.now) }
+    {
+        let mut ids = self.ids.to_vec(alloc)?;
+        ids.reserve(self.spare)?;
+        Ok(Many {
+            ids,
+            spare: self.spare,
+        })
+    }
+
     /// The identities.
     pub(crate) fn as_slice(&self) -> &[Id]
         ensures { result.now ≡ self.now.ids }

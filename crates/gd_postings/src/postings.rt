@@ -1,6 +1,6 @@
 //! Posting lists.
 ghost use Rattle.std.specs.Prelude.{◌≡◌, ◌+◌, ◌-◌, ◌^◌, ◌<◌, ◌≤◌, ◌↔◌, [], ◌∷◌, ◌++◌, Some, length};
-ghost use Rattle.std.specs.Prelude.{slice_get, min, OnOk, OnErr, IfSome, IfNone, IsTrue};
+ghost use Rattle.std.specs.Prelude.{slice_get, min, OnOk, OnErr, IfOk, IfSome, IfNone, IsTrue};
 ghost use Rattle.std.specs.List.{Contains};
 ghost use Rattle.gd_base.specs.Counts.{Rose};
 ghost use Rattle.gd_postings.specs.Postings.{Places, IsRising, IsAbove, ids_below, IsSplit};
@@ -47,6 +47,17 @@ impl Postings {
             ids: Ids::Empty,
             alloc,
         }
+    }
+
+    /// The same identities again, and room for as many more. It takes memory only where there are
+    /// more than three.
+    pub fn copy(&self) -> Result<Postings, Memory>
+        ensures { IfOk result (λ copy. copy ≡ self.now) }
+    {
+        Ok(Postings {
+            ids: self.ids.copy(self.alloc)?,
+            alloc: self.alloc,
+        })
     }
 
     /// Makes room for one identity more. It never lowers `spare`. `Memory` leaves all as it was,

@@ -1,8 +1,10 @@
 //! Publishing two copies of a store.
-ghost use Rattle.std.specs.Prelude.{◌≡◌, ◌<◌, [], IfOk, All, vec_len};
+ghost use Rattle.std.specs.Prelude.{◌≡◌, ◌<◌, [], None, IfOk, All, vec_len, drop};
+ghost use Rattle.left_right.specs.Sides.{view as known};
+ghost use Rattle.gd_shared.specs.History.{counter_of};
 ghost use Rattle.gd_shared.specs.Shared.{IsNewSeat};
 
-use crate::front::{Front, WholeStore};
+use crate::front::{Counter, Front, WholeStore};
 use crate::published::{Published, TakesPublished};
 use crate::publisher::{Copies, Publisher};
 use crate::seat::Seat;
@@ -11,6 +13,50 @@ use gd_store::store::Store;
 use left_right::writer::Writer;
 use std::alloc::Global;
 use std::sync::Wait;
+
+/// A new history whose one group is the list of a store: the word that counts its groups, and the
+/// front that is this list.
+fn history_of(store: &Store) -> Result<(Counter, Front), Memory>
+    ensures counter { IfOk result (λ both. both.0 ≡ counter_of both.1.history) }
+    ensures list { IfOk result (λ both. both.1.list ≡ store.now) }
+{
+    let (counter, mut front) = Front::of_new_history();
+    match front.extend::<Store, WholeStore>(&counter, store, store.requests()) {
+        Ok(()) => Ok((counter, front)),
+        Err(fault) => Err(fault),
+    }
+}
+
+/// A table of two copies that stand for one list, with room for so many seats. The first one is
+/// published, and no place knows a front of it.
+fn table(
+    alloc: Global,
+    first: Store,
+    second: Store,
+    front: &Front,
+    seats: u32,
+) -> Result<Copies, Memory>
+    requires alike { first ≡ second }
+    requires some { 0 < seats }
+    requires front { front.now.list ≡ first }
+    ensures shown { IfOk result (λ copies. copies.desk.shown.value
+        ≡ record { store = first; front = front.now }) }
+    ensures none { IfOk result (λ copies. drop copies.behind copies.log.items ≡ []) }
+    ensures knows { IfOk result (λ copies. known copies.desk.place ≡ None) }
+{
+    let first = Published {
+        store: first,
+        front: front.copy(),
+    };
+    let second = Published {
+        store: second,
+        front: front.copy(),
+    };
+    match Writer::new(alloc, first, second, seats as usize) {
+        Ok(copies) => Ok(copies),
+        Err(_) => Err(Memory),
+    }
+}
 
 /// A publisher of two stores that stand for one list, with room for so many seats.
 fn published<R: Wait>(
@@ -25,22 +71,20 @@ fn published<R: Wait>(
     ensures { IfOk result (λ publisher. (publisher.shown ≡ first) × (publisher.pending ≡ [])) }
 {
     let total = first.requests();
-    let (counter, mut front) = Front::of_new_history();
-    front.extend::<Store, WholeStore>(&counter, &first, total)?;
-    let first = Published {
-        store: first,
-        front: front.copy(),
+    let (counter, front) = match history_of(&first) {
+        Ok(both) => both,
+        Err(fault) => {
+            drop(first);
+            drop(second);
+            return Err(fault);
+        }
     };
-    let second = Published {
-        store: second,
-        front: front.copy(),
-    };
-    let copies: Copies = Writer::new(alloc, first, second, seats as usize)?;
+    let copies = table(alloc, first, second, &front, seats)?;
     let (copies, shown) = copies.publish_as::<TakesPublished, R>(rt);
     match shown {
         Ok(()) => Ok(Publisher::new(copies, counter, front, total)),
         Err(_) => {
-            copies.take(rt);
+            drop(copies.take(rt));
             Err(Memory)
         }
     }

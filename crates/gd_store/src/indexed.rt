@@ -126,12 +126,14 @@ impl IndexedPrims {
         self.prims.truncate(len);
     }
 
-    /// The same primitives again.
+    /// The same primitives again, with their indexes as they stand.
     pub(crate) fn copy(&self, alloc: Global) -> Result<IndexedPrims, Memory>
-        requires { length self.now ≤ 2_097_151 }
         ensures { IfOk result (λ made. made ≡ self.now) }
     {
-        IndexedPrims::new(alloc, self.prims.copy()?)
+        Ok(IndexedPrims {
+            prims: self.prims.copy()?,
+            indexes: self.indexes.copy(alloc)?,
+        })
     }
 
     /// The primitive below `end` that has this place as `previous`, if there is one.

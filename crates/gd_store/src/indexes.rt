@@ -2,7 +2,7 @@
 //! name a node, and which have a value.
 ghost use Rattle.std.specs.Prelude.{◌≡◌, ℕ, ◌+◌, ◌-◌, ◌^◌, ◌<◌, ◌≤◌, [], None, Some, length, take, List};
 ghost use Rattle.std.specs.Prelude.{slice_get, min, position, is_some, true, if◌then◌else◌, IsTrue, OnOk};
-ghost use Rattle.std.specs.Prelude.{OnErr, IfSome};
+ghost use Rattle.std.specs.Prelude.{OnErr, IfSome, IfOk};
 ghost use Rattle.std.specs.List.{last_or};
 ghost use Rattle.std.specs.Option.{option_copied};
 ghost use Rattle.gd_base.specs.Counts.{Rose};
@@ -267,6 +267,19 @@ impl Indexes {
             values: Values::new(alloc),
             lefts: Lefts::new(alloc),
         }
+    }
+
+    /// The same indexes again, as they stand: nothing is entered anew.
+    pub(crate) fn copy(&self, alloc: Global) -> Result<Indexes, Memory>
+        ensures { IfOk result (λ copy. copy ≡ self.now) }
+    {
+        Ok(Indexes {
+            versions: self.versions.copy(alloc)?,
+            keys: self.keys.copy()?,
+            linkage: self.linkage.copy()?,
+            values: self.values.copy()?,
+            lefts: self.lefts.copy(alloc)?,
+        })
     }
 
     /// The values by number.

@@ -1,6 +1,6 @@
 //! How far the left ends of links come, by what the links name or say, as long as they rise.
 ghost use Rattle.std.specs.Prelude.{◌≡◌, ℕ, ◌+◌, ◌^◌, ◌<◌, ◌≤◌, [], Some, true, length, take, List, OnOk};
-ghost use Rattle.std.specs.Prelude.{OnErr};
+ghost use Rattle.std.specs.Prelude.{OnErr, IfOk};
 ghost use Rattle.std.specs.Option.{ForSome};
 ghost use Rattle.gd_prim.specs.declared.Primitive.{Primitive};
 ghost use Rattle.gd_prim.specs.End.{places_with};
@@ -73,6 +73,15 @@ impl Fronts {
         }
     }
 
+    /// The same fronts again.
+    fn copy(&self, alloc: Global) -> Result<Fronts, Memory>
+        ensures { IfOk result (λ copy. copy ≡ self.now) }
+    {
+        Ok(Fronts {
+            numbers: self.numbers.to_vec(alloc)?,
+        })
+    }
+
     /// Whether the front with this number is known.
     fn has(&self, number: usize) -> bool
         ensures { result ≡ true → front_of self.now number < no_front }
@@ -130,6 +139,17 @@ impl Lefts {
             typ: Fronts::new(alloc),
             value: Fronts::new(alloc),
         }
+    }
+
+    /// The same fronts again.
+    pub(crate) fn copy(&self, alloc: Global) -> Result<Lefts, Memory>
+        ensures { IfOk result (λ copy. copy ≡ self.now) }
+    {
+        Ok(Lefts {
+            right: self.right.copy(alloc)?,
+            typ: self.typ.copy(alloc)?,
+            value: self.value.copy(alloc)?,
+        })
     }
 
     /// Sees the primitive at a place, the last of those of which these are the values. What is

@@ -1,3 +1,4 @@
 pub mod Each
+pub mod Last
 pub mod Ranked
 pub mod Runs

@@ -95,6 +95,17 @@ fn numbers_before(
     )
 }
 
+/// The same runs again.
+fn copies(alloc: Global, runs: &[Run]) -> Result<Vec<Run>, Memory>
+    ensures { IfOk result (λ made. made.items ≡ runs.now) }
+{
+    let mut made = Vec::with_capacity(alloc, runs.len())?;
+    for run in runs {
+        made.push(run.copy(alloc)?)?;
+    }
+    Ok(made)
+}
+
 impl Order {
     /// No numbers. It takes no memory.
     pub(crate) fn new(alloc: Global) -> Order
@@ -104,6 +115,16 @@ impl Order {
             runs: Vec::new(alloc),
             alloc,
         }
+    }
+
+    /// The same numbers in the same runs again. No values are compared.
+    pub(crate) fn copy(&self) -> Result<Order, Memory>
+        ensures { IfOk result (λ copy. copy.runs.items ≡ self.now.runs.items) }
+    {
+        Ok(Order {
+            runs: copies(self.alloc, self.runs.as_slice())?,
+            alloc: self.alloc,
+        })
     }
 
     /// The place before all numbers.

@@ -36,6 +36,15 @@ impl Run {
         Ok(Run { numbers })
     }
 
+    /// The same numbers again.
+    pub(crate) fn copy(&self, alloc: Global) -> Result<Run, Memory>
+        ensures { IfOk result (λ copy. copy ≡ self.now) }
+    {
+        Ok(Run {
+            numbers: self.numbers.to_vec(alloc)?,
+        })
+    }
+
     /// The numbers.
     pub(crate) fn as_slice(&self) -> &[u32]
         ensures numbers { result.now ≡ self.now }

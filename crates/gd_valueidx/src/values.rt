@@ -52,6 +52,22 @@ impl Model for Values {
         × AreOrdered values.order.runs.items (keys_of values.lists.entries) };
 }
 
+/// The same values with the same lists again, entered in their order. Each value is hashed once.
+fn copies(
+    alloc: Global,
+    lists: &IndexMap<Datum, Postings>,
+) -> Result<IndexMap<Datum, Postings>, Memory>
+    ensures { IfOk result (λ made. made.entries ≡ lists.now.entries) }
+{
+    let mut made = IndexMap::with_capacity(alloc, lists.len())?;
+    for (value, list) in lists.iter() {
+        let key = value.copy()?;
+        let same = list.copy()?;
+        drop(made.insert(key, same)?);
+    }
+    Ok(made)
+}
+
 impl Values {
     /// No values. It takes no memory.
     pub fn new(alloc: Global) -> Values
@@ -63,6 +79,18 @@ impl Values {
             empty: Postings::new(alloc),
             alloc,
         }
+    }
+
+    /// The same values again, with the same numbers, places and order. None is compared.
+    pub fn copy(&self) -> Result<Values, Memory>
+        ensures { IfOk result (λ copy. copy ≡ self.now) }
+    {
+        Ok(Values {
+            lists: copies(self.alloc, &self.lists)?,
+            order: self.order.copy()?,
+            empty: self.empty.copy()?,
+            alloc: self.alloc,
+        })
     }
 
     /// The list of a value.

@@ -1,6 +1,6 @@
 //! Which primitive succeeds which.
 ghost use Rattle.std.specs.Prelude.{◌≡◌, ℕ, ◌+◌, ◌-◌, ◌^◌, ◌<◌, ◌≤◌, ◌==◌, [], None, Some, length};
-ghost use Rattle.std.specs.Prelude.{min, slice_set, if◌then◌else◌, OnOk, OnErr, IfSome, IsSome};
+ghost use Rattle.std.specs.Prelude.{min, slice_set, if◌then◌else◌, OnOk, OnErr, IfSome, IsSome, IfOk};
 ghost use Rattle.gd_versions.specs.Versions.{successor_of, with_places};
 
 use crate::slot::Slot;
@@ -34,6 +34,15 @@ impl Versions {
         Versions {
             slots: Vec::new(alloc),
         }
+    }
+
+    /// The same slots again.
+    pub fn copy(&self, alloc: Global) -> Result<Versions, Memory>
+        ensures { IfOk result (λ copy. copy ≡ self.now) }
+    {
+        Ok(Versions {
+            slots: self.slots.to_vec(alloc)?,
+        })
     }
 
     /// Makes room, so that each place below `places` has a slot. A new slot holds none, and the

@@ -1,6 +1,5 @@
-use Rattle.std.proofs.Common.{rules, ◌≡◌, [], drop, sym, ap, ◌∙◌}
+use Rattle.std.proofs.Common.{rules, ◌≡◌, [], drop}
 use Rattle.left_right.specs.Sides.{view as known}
-use Rattle.gd_shared.specs.History.{counter_of}
 use Rattle.gd_shared.specs.Published.{Takes}
 use Rattle.gd_shared.specs.declared.published.Published.{Published}
 use Rattle.gd_shared.proofs.Table.{may_repeat}
@@ -13,14 +12,14 @@ publish_as-copies-requires g c next is =
     let none : drop copies.behind copies.log.items ≡ [] = search rules in
     may_repeat _ _ copies.desk.shown.value next (drop copies.behind copies.log.items) none is
 
-pub new-requires-in-Ok : goal.new-requires-in-Ok
-new-requires-in-Ok g c =
-    let f = c.extend.new.self in
+pub new-requires : goal.new-requires
+new-requires g c =
+    let f = c.in-Ok.both.1 in
     let after = c.publish_as-copies.result.0 in
     let shown : Published = after.desk.shown.value in
     let is : shown ≡ record { store = c.args.first; front = f } = search rules in
     let none : drop after.behind after.log.items ≡ [] = search rules in
-    let takes : Takes (known c.in_ok-copies.copies.desk.place) shown (known after.desk.place) = search rules in
     let all : f.list ≡ c.args.first = search rules in
-    new_publisher shown (known after.desk.place) (drop after.behind after.log.items) c.of_new_history-counter.result.0 f c.requests-total.result c.args.first is all none takes.2
-    (c.of_new_history-counter.ensures.counter ∙ ap counter_of (sym c.extend.ensures.history)) c.requests-total.ensures.count
+    let takes : Takes (known c.in_ok-copies.copies.desk.place) shown (known after.desk.place) = search rules in
+    new_publisher shown (known after.desk.place) (drop after.behind after.log.items) c.in-Ok.both.0 f c.requests-total.result c.args.first is all none takes.2 c.in-Ok.ensures.counter
+    c.requests-total.ensures.count
