@@ -3,7 +3,7 @@
 
 pub use gd_resolve::ids::named_object;
 pub use gd_resolve::property::{Property, expected_type, is_language, is_of};
-pub use gd_resolve::up::id_of;
+pub use gd_resolve::up::links_up;
 pub use gd_resolve::words::{Named, named_property};
 pub use gd_template::View;
 pub use gd_template::template::Mode;

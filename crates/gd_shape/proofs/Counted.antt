@@ -133,3 +133,7 @@ page_counted prims q ts printed objects rows are =
     ap length are
     ∙ rows_counted prims q.members (map tree_view printed)
     ∙ ap (sum_by (λ t. object_ids prims q.members 0 (place_of t) (lists_of t))) (printed_trees q.listed ts printed rows)
+
+-- LAW: where all rows are printed, as many as are gathered from all
+pub all_counted : (prims : List Primitive) (q : Asked) (ts : List Tree) (objects : List ℕ) → q.listed ≡ true → objects ≡ rows_listed prims q.members (map tree_view ts) → length objects ≡ page_ids prims q (map tree_view ts)
+all_counted prims q ts objects listed are = page_counted prims q ts ts objects (sym (ap (λ b. if b then ts else take 1 ts) listed)) are

@@ -2,6 +2,7 @@ pub mod Alike
 pub mod Counted
 pub mod Data
 pub mod Due
+pub mod Found
 pub mod Guids
 pub mod InTrees
 pub mod Knowing

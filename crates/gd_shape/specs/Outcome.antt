@@ -5,6 +5,7 @@ use Rattle.json.specs.Token.{Token}
 use Rattle.gd_tree.specs.Json.{Json, Items, Members, compact}
 use Rattle.gd_bytes.specs.Frozen.{Walk}
 use Rattle.gd_defs.specs.Reply.{Path}
+use Rattle.gd_frozen.specs.declared.frozen.Walk.{Walk as WalkAt}
 use Rattle.gd_runs.specs.Shape.{Printed}
 use Rattle.gd_json.specs.Tokens.{tokens_of, items_tokens, members_tokens}
 use Rattle.gd_order_laws.specs.Window.{In}
@@ -47,7 +48,7 @@ text_of (Ok j) = Ok (compact j)
 text_of (Err path) = Err path
 
 -- an object whose id is lacking has none among these
-abbrev pub Lacks : List (ℕ × List ℕ) → Lack → Type 0
+abbrev pub Lacks : List (ℕ × WalkAt) → Lack → Type 0
 Lacks ids (lack.IdOf object) = IsNone (known_at ids object)
 Lacks ids lack.Memory = Unit {0}
 

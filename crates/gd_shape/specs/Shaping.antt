@@ -1,5 +1,5 @@
 -- What a page that is being printed stands for.
-use Rattle.std.specs.Prelude.{◌≡◌, ◌+◌, ◌-◌, ◌*◌, ◌<◌, ◌≤◌, min, sum_by, ℕ, List, [], length, Option, None, Some, map, Bool, true, false, if◌then◌else◌, Result, Ok, Err, IsNone}
+use Rattle.std.specs.Prelude.{◌≡◌, ◌+◌, ◌-◌, ◌*◌, ◌<◌, ◌≤◌, ◌++◌, min, sum_by, ℕ, List, [], length, drop, take, Option, None, Some, map, Bool, true, false, if◌then◌else◌, Result, Ok, Err, IsNone}
 use Rattle.gd_prim.specs.declared.Primitive.{Primitive}
 use Rattle.gd_tree.specs.Json as tree
 use Rattle.gd_tree.specs.Trees.{Tree, list_of, tree_count, trees_count}
@@ -15,8 +15,9 @@ use Rattle.gd_plan.specs.Asked.{asked_view}
 use Rattle.gd_frozen.specs.Meaning.{walk_of}
 use Rattle.gd_defs.specs.Lines.{count_json}
 use Rattle.gd_runs.specs.Shape.{page_shape}
+use Rattle.gd_runs.specs.Shape.Ids.{page_ids}
 use Rattle.gd_trees.specs.View.{view as tree_view, trees_view}
-use Rattle.gd_shape.specs.Knowing.{known_at, unknown_of, IsKnownOf}
+use Rattle.gd_shape.specs.Knowing.{known_at, unknown_of, walks_found, IsKnownOf}
 use Rattle.gd_shape.specs.Listed.{AreAmong}
 use Rattle.gd_shape.specs.Outcome.{seen, text_of}
 use Rattle.gd_shape.specs.declared.shape.Shape.{Shape}
@@ -43,6 +44,10 @@ trees_in s = map tree_view s.trees.items
 abbrev pub walks_in : Shape → List Walk
 walks_in s = map walk_of s.walks.items
 
+-- the walks that are told of its first ids: those with which it was started, and behind them those of the objects that follow, as far as they are known and may be told
+abbrev pub walks_told : Shape → List Walk
+walks_told s = walks_in s ++ walks_found s.ids (drop (length (walks_in s)) (take s.most s.objects.items))
+
 -- a count as it prints, if one is asked, else the page
 abbrev pub count_or : Option ℕ → Result tree.Json Path → Result tree.Json Path
 count_or None page = page
@@ -60,6 +65,11 @@ body_told prims q (body.Count n) ws = Ok (count_json n)
 -- the same where none is told
 abbrev pub body_print : List Primitive → Asked → PageBody → Result tree.Json Path
 body_print prims q b = body_told prims q b []
+
+-- the trees of a body: none of a count
+abbrev pub body_list : PageBody → List Tree
+body_list (body.Trees trees) = list_of (trees_view trees)
+body_list (body.Count n) = []
 
 -- the places of a body: those of its trees
 abbrev pub body_places : PageBody → ℕ
@@ -93,11 +103,13 @@ abbrev pub IsBodyOf : List Primitive → Asked → List Row → PageBody → Typ
 IsBodyOf prims q rows (body.Trees trees) = list_of (trees_view trees) ≡ map (λ (r : Row). tree_of prims (template_of q) r.object) rows
 IsBodyOf prims q rows (body.Count n) = Unit {0}
 
--- the ids that were found are of this list, those that are to be found are printed, and the places are counted
+-- the ids that were found are of this list, those that are to be found are printed, the places are counted, and the objects whose walks may be told are the first of those that are printed, no more than a text may tell
 pub record IsOf (prims : List Primitive) (s : Shape) : Type 0 where
   pub known : IsKnownOf prims s.ids
   pub listed : AreAmong s.objects.items (listed_of prims s)
   pub counted : AreCounted (trees_in s) s.printed s.places
+  pub first : take s.most s.objects.items ≡ take s.most (listed_of prims s)
+  pub few : s.most ≤ page_ids prims (asked_of s) (trees_in s)
 
 -- both print the same rows of the same query
 pub record IsSamePage (a b : Shape) : Type 0 where

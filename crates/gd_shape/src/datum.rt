@@ -130,7 +130,13 @@ fn write_guid(out: &mut Writer, place: Id) -> Result<(), Memory>
 }
 
 /// Writes the id of an object that is known.
-fn write_known(out: &mut Writer, sight: &Sight<'_>, ids: &Known, object: Id) -> Result<(), Lack>
+fn write_known(
+    alloc: Global,
+    out: &mut Writer,
+    sight: &Sight<'_>,
+    ids: &Known,
+    object: Id,
+) -> Result<(), Lack>
     requires { IsKnownOf sight.now ids.now }
     ensures printed { OnOk result (Adds out.old.tokens out.new.tokens
         (text (id_text sight.now object))) }
@@ -139,9 +145,9 @@ fn write_known(out: &mut Writer, sight: &Sight<'_>, ids: &Known, object: Id) -> 
     ensures listed { IfErr result (λ lack. LacksOf
         (object ∷ []) lack) }
 {
-    match sight.id(ids, object) {
-        Ok(text) => {
-            out.string(text.as_str())?;
+    match sight.walk(ids, object) {
+        Ok(walk) => {
+            write_walk(alloc, out, sight, object, walk)?;
             Ok(())
         }
         Err(lack) => Err(lack),
@@ -186,7 +192,7 @@ fn write_id(
 {
     match told.next() {
         Some(walk) => write_walk(alloc, out, sight, object, walk)?,
-        None => write_known(out, sight, ids, object)?,
+        None => write_known(alloc, out, sight, ids, object)?,
     }
     Ok(())
 }

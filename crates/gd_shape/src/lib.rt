@@ -2,7 +2,7 @@
 #![tactic(auto)]
 
 pub use gd_trees::answered::answered;
-pub use gd_trees::grow::{Grown, grow};
+pub use gd_trees::grow::{Grown, grow_passing};
 pub use gd_trees::judge::{Judged, judge};
 pub use gd_trees::shallow::{is_light, is_never_heavy, is_shallow};
 pub use gd_trees::tree::{Tree, Trees};
@@ -25,3 +25,4 @@ pub mod shape;
 pub mod sight;
 mod spelt;
 pub mod told;
+mod walks;

@@ -19,17 +19,19 @@ ghost use Rattle.gd_shape.specs.Knowing.{known_at, unknown_of, IsKnownOf};
 ghost use Rattle.gd_shape.specs.Outcome.{seen, text_of, Lacks, LacksOf};
 ghost use Rattle.gd_shape.specs.declared.shape.Shape.{Shape};
 ghost use Rattle.gd_shape.specs.declared.shape.ShapeFault.TheVariants.{Memory as no_memory};
-ghost use Rattle.gd_shape.specs.Shaping.{asked_of, trees_in, walks_in, page_of};
-ghost use Rattle.gd_shape.specs.Shaping.{body_print, body_told, body_places, AreCounted};
+ghost use Rattle.gd_shape.specs.Shaping.{asked_of, trees_in, walks_in, walks_told, page_of};
+ghost use Rattle.gd_shape.specs.Shaping.{body_print, body_told, body_list, body_places, AreCounted};
 ghost use Rattle.gd_shape.specs.Shaping.{IsOf, IsSamePage, IsWanted};
 ghost use Rattle.gd_shape.specs.Shaping.{steps_due, shape_due, body_due, listed_of};
 ghost use Rattle.gd_shape.specs.Shaping.{IsBodyOf, IsDue, IsNextDue};
 ghost use Rattle.gd_shape.specs.Shaping.{IsNext, Tells, Refuses, is_unfinished};
 
 use crate::gather::objects_printed;
+use crate::ids::ids_among;
 use crate::known::Known;
 use crate::page::page_text;
 use crate::sight::{Lack, Sight};
+use crate::walks::{walk_up, walks_so_far};
 use gd_base::id::Id;
 use gd_base::memory::Memory;
 use gd_base::steps::Steps;
@@ -37,7 +39,6 @@ use gd_frozen::frozen::Walk;
 use gd_json::text::json_text;
 use gd_json::value::{Json, JsonText};
 use gd_plan::asked::Asked;
-use gd_plan::id_of;
 use gd_trees::View;
 use gd_trees::tree::{Tree, Trees};
 use std::alloc::Global;
@@ -84,7 +85,7 @@ impl From<Memory> for ShapeFault {
 }
 
 /// A page that is being printed: what is asked, the trees of its rows, the walks that spell the
-/// first of its ids, and the ids that were found so far.
+/// first of its ids, and the walks that tell the ids that were found so far.
 #[derive(Drop)]
 pub struct Shape {
     asked: Asked,
@@ -102,6 +103,8 @@ pub struct Shape {
     objects: Vec<Id>,
     /// The place among these of the next one whose id is to be found.
     next: usize,
+    /// How many of these may be told by walks: those that are printed, none before they are gathered.
+    most: usize,
     /// The objects were gathered.
     gathered: bool,
     /// A fault was told: nothing is printed any more.
@@ -155,7 +158,7 @@ fn unknown(objects: &[Id], next: &mut usize, ids: &Known) -> Option<Id>
 }
 
 /// Finds the id of an object that is not known: at most 785 steps.
-#[tactic(auto, using(crate::proofs::Knowing::some_unknown))]
+#[tactic(auto, using(crate::proofs::Knowing::some_unknown, crate::proofs::WalkUp::walk_up_tells))]
 fn find_id<L>(
     alloc: Global,
     ids: &mut Known,
@@ -173,8 +176,8 @@ fn find_id<L>(
     ensures counted { Rose steps.old steps.new }
 {
     steps.tick();
-    let text = id_of(alloc, view, object, steps)?;
-    ids.learn(object, text)
+    let walk = walk_up(alloc, view, object, steps)?;
+    ids.learn(object, walk)
 }
 
 /// What is left of a budget after so many steps, of which one at least counts.
@@ -223,6 +226,7 @@ fn begun(
         printed,
         places,
         objects: Vec::new(alloc),
+        most: 0,
         gathered: false,
         stopped: false,
     }
@@ -272,6 +276,8 @@ impl Shape {
             → shape_due prims shape + printed ≤ body_due prims (asked_view asked) body) }
         ensures printed { IfOk result (λ shape. shape.printed ≡ printed) }
         ensures walks { IfOk result (λ shape. walks_in shape ≡ map walk_of walks.items) }
+        ensures asked { IfOk result (λ shape. asked_of shape ≡ asked_view asked) }
+        ensures trees { IfOk result (λ shape. trees_in shape ≡ body_list body) }
     {
         match body {
             PageBody::Trees(trees) => {
@@ -310,11 +316,19 @@ impl Shape {
     }
 
     /// Walks of the first ids that the page prints, in the order in which it prints them, with
-    /// which it prints the same: those with which it was started.
-    pub fn walks(&self) -> &[Walk]
-        ensures { map walk_of result.now ≡ walks_in self.now }
+    /// which it prints the same: those with which it was started, and behind them those of the ids
+    /// that were found since, up to the first that was not. Where one answer alone is printed they
+    /// are no more than that one prints. `Memory`: an allocation was refused.
+    pub fn walks(&self, alloc: Global) -> Result<Vec<Walk>, Memory>
+        ensures { IfOk result (λ walks. map walk_of walks.items ≡ walks_told self.now) }
     {
-        self.walks.as_slice()
+        walks_so_far(
+            alloc,
+            self.walks.as_slice(),
+            self.objects.as_slice(),
+            self.most,
+            &self.ids,
+        )
     }
 
     /// The objects whose ids are printed are gathered, if that was not done yet.
@@ -327,7 +341,9 @@ impl Shape {
         if !self.gathered {
             let sight = Sight::new(view);
             let trees = self.trees.as_slice();
-            self.objects = objects_printed(alloc, &sight, &self.asked, trees)?;
+            let objects = objects_printed(alloc, &sight, &self.asked, trees)?;
+            self.most = ids_among(alloc, view, &self.asked, trees, objects.as_slice())?;
+            self.objects = objects;
             self.gathered = true;
         }
         Ok(())

@@ -3,15 +3,15 @@ ghost use Rattle.std.specs.Prelude.{◌≡◌, ◌≤◌, [], ◌∷◌, IfErr, 
 ghost use Rattle.std.specs.Option.{option_copied};
 ghost use Rattle.gd_prim.specs.History.{prims_of};
 ghost use Rattle.gd_prim.specs.WellFormed.{may_hold};
-ghost use Rattle.gd_defs.specs.Ids.{id_text};
-ghost use Rattle.gd_shape.specs.Knowing.{IsKnownOf};
+ghost use Rattle.gd_frozen.specs.Meaning.{walk_of};
+ghost use Rattle.gd_shape.specs.Knowing.{IsKnownOf, TellsId};
 ghost use Rattle.gd_shape.specs.Outcome.{Lacks, LacksOf};
 ghost use Rattle.gd_shape.specs.declared.sight.Lack.TheVariants.{Memory as no_memory};
 
 use crate::known::Known;
 use gd_base::id::Id;
 use gd_base::memory::Memory;
-use gd_json::value::JsonText;
+use gd_frozen::frozen::Walk;
 use gd_prim::Primitive;
 use gd_trees::View;
 use std::alloc::{AllocError, AllocFailed};
@@ -87,16 +87,16 @@ impl<'a> Sight<'a> {
         self.view.primitives().get(place.place() as usize)
     }
 
-    /// The id of an object, if it is among those that are known. It takes no memory.
-    pub(crate) fn id<'b>(&self, ids: &'b Known, object: Id) -> Result<&'b JsonText, Lack>
+    /// The walk that tells the id of an object, if it is among those that are known. It takes no memory.
+    pub(crate) fn walk<'b>(&self, ids: &'b Known, object: Id) -> Result<&'b Walk, Lack>
         requires { IsKnownOf self.now ids.now }
-        ensures id { IfOk result (λ text. text.now ≡ id_text self.now object) }
+        ensures tells { IfOk result (λ walk. TellsId self.now object (walk_of walk.now)) }
         ensures lacks { IfErr result (λ lack. Lacks ids.now lack) }
         ensures listed { IfErr result (λ lack. LacksOf
             (object ∷ []) lack) }
     {
         match ids.at(object) {
-            Some(text) => Ok(text),
+            Some(walk) => Ok(walk),
             None => Err(Lack::IdOf(object)),
         }
     }

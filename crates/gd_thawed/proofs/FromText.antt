@@ -59,7 +59,8 @@ use Rattle.gd_thaw_laws.proofs.Gone.{goes_at_once}
 use Rattle.gd_thaw_laws.proofs.Owing.{counts_alike}
 use Rattle.gd_thaw_laws.proofs.Thawed.{scans_alike, builds_same, kept_again, kept_owe}
 use Rattle.gd_thawed.specs.Subject.{after_of}
-use Rattle.gd_shape.specs.Shaping.{page_of as page_told, body_told, walks_in, IsOf}
+use Rattle.gd_shape.specs.Shaping as shaping
+use Rattle.gd_shape.specs.Shaping.{page_of as page_told, asked_of, body_told, body_list, walks_in, IsOf}
 use Rattle.gd_thawed.specs.declared.printing.Printing.{Printing}
 use Rattle.gd_thawed.specs.Stages.{IsAsked, TellsRows, StageOwes, Scans, KeepsRows, Builds, CountsRows, Prints, page_prints, kept_owes, body_owes, order_for}
 use Rattle.gd_thaw_laws.specs.Spelled.{one_member, NumbersFit}
@@ -355,15 +356,17 @@ rows_told_of prims ps plan a rows l one two three b is =
 
 -- LAW: trees of a text are printed on
 pub print_thaws : (batches : List Batch) (s : Subject) (plan : Found) (w : Kept) (n : ℕ) (ws : List Walk) (trees : Built) (p : Printing) → IsAsked batches s (asked_view plan)
-    → HasKept (prims_of batches) (asked_view plan) s (marks_in p.rows.items) w → (asked_view plan).count ≡ false → trees_view trees ≡ trees_in p.trees → PrintFits batches (asked_view plan) (marks_in p.rows.items) n (trees_in p.trees) ws → p.single ≡ plan.single
+    → HasKept (prims_of batches) (asked_view plan) s (marks_in p.rows.items) w → (asked_view plan).count ≡ false → trees_view trees ≡ trees_in p.trees → PrintFits batches (asked_view plan) (marks_in p.rows.items) n (trees_in p.trees) ws → p.single ≡ plan.single → (asked_of p.shape ≡ asked_view plan) × (shaping.trees_in p.shape ≡ body_list (page.Trees trees))
     → page_told (prims_of batches) p.shape ≡ body_told (prims_of batches) (asked_view plan) (page.Trees trees) ws → IsOf (prims_of batches) p.shape → walks_in p.shape ≡ ws → p.places ≤ trees_count (trees_view trees) → p.places ≤ max_number
     → Prints batches (kept_owes batches s (asked_view plan) (scan_order (prims_of batches) (asked_view plan)) (marks_in p.rows.items) (printing n (trees_in p.trees) ws)) s p w
-print_thaws batches s plan w n ws trees p asked has listed trees_are fit single told known walks_are held low = record {
+print_thaws batches s plan w n ws trees p asked has listed trees_are fit single parts told known walks_are held low = record {
   q = asked_view plan;
   asked = asked;
   keeps = rows_kept batches s plan w (marks_in p.rows.items) has;
   rows = tells_kept batches s (asked_view plan) w (marks_in p.rows.items) asked has;
   single = single;
+  asks = parts.0;
+  has = parts.1 ∙ ap list_of trees_are;
   prints = told
       ∙ ap (λ us. page_shape (prims_of batches) (asked_view plan) (list_of us) ws) trees_are
       ∙ ap (λ c. if c then Ok (count_json (length (page_rows w))) else page_shape (prims_of batches) (asked_view plan) (list_of (trees_in p.trees)) ws) (sym listed)
@@ -381,14 +384,14 @@ print_thaws batches s plan w n ws trees p asked has listed trees_are fit single 
 -- LAW: so it is where its parts are these
 pub prints_at : (batches : List Batch) (s : Subject) (plan : Found) (w : Kept) (n : ℕ) (ws : List Walk) (trees : Built) (rows : Vec RowAt Global) (told : List Piece) (p : Printing) → IsAsked batches s (asked_view plan)
     → HasKept (prims_of batches) (asked_view plan) s (marks_in rows.items) w → (asked_view plan).count ≡ false → trees_view trees ≡ trees_in told → PrintFits batches (asked_view plan) (marks_in rows.items) n (trees_in told) ws → p.rows ≡ rows → p.trees ≡ told
-    → p.single ≡ plan.single → page_told (prims_of batches) p.shape ≡ body_told (prims_of batches) (asked_view plan) (page.Trees trees) ws → IsOf (prims_of batches) p.shape → walks_in p.shape ≡ ws → p.places ≤ trees_count (trees_view trees) → p.places ≤ max_number
+    → p.single ≡ plan.single → (asked_of p.shape ≡ asked_view plan) × (shaping.trees_in p.shape ≡ body_list (page.Trees trees)) → page_told (prims_of batches) p.shape ≡ body_told (prims_of batches) (asked_view plan) (page.Trees trees) ws → IsOf (prims_of batches) p.shape → walks_in p.shape ≡ ws → p.places ≤ trees_count (trees_view trees) → p.places ≤ max_number
     → Prints batches (kept_owes batches s (asked_view plan) (scan_order (prims_of batches) (asked_view plan)) (marks_in rows.items) (printing n (trees_in told) ws)) s p w
-prints_at batches s plan w n ws trees rows told p asked has listed trees_are fit rows_are told_are single page known walks held low =
+prints_at batches s plan w n ws trees rows told p asked has listed trees_are fit rows_are told_are single parts page known walks held low =
     subst (λ (rs : Vec RowAt Global). Goal rs told p) rows_are
     (subst (λ (us : List Piece). Goal p.rows us p) told_are
     (print_thaws batches s plan w n ws trees p asked (subst (λ (rs : Vec RowAt Global). HasKept (prims_of batches) (asked_view plan) s (marks_in rs.items) w) (sym rows_are) has) listed (trees_are ∙ ap trees_in (sym told_are))
     (subst (λ (rs : Vec RowAt Global). PrintFits batches (asked_view plan) (marks_in rs.items) n (trees_in p.trees) ws) (sym rows_are) (subst (λ (us : List Piece). PrintFits batches (asked_view plan) (marks_in rows.items) n (trees_in us) ws) (sym told_are) fit))
-    single page known walks held low))
+    single parts page known walks held low))
   where
     Goal : Vec RowAt Global → List Piece → Printing → Type 0
     Goal rs us x = Prints batches (kept_owes batches s (asked_view plan) (scan_order (prims_of batches) (asked_view plan)) (marks_in rs.items) (printing n (trees_in us) ws)) s x w

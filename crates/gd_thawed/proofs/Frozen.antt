@@ -1,27 +1,37 @@
 -- Readings that are put away as texts.
-use Rattle.std.proofs.Common.{◌≡◌, ◌∙◌, refl, sym, ap, subst, arith, ℕ, ◌+◌, ◌≤◌, min, List, [], ◌∷◌, ◌++◌, true, Option, Some, None, length, map}
+use Rattle.std.proofs.Common.{◌≡◌, ◌∙◌, refl, sym, ap, subst, arith, ℕ, ◌+◌, ◌≤◌, min, List, [], ◌∷◌, ◌++◌, Bool, true, not, Option, Some, None, Result, Ok, Err, length, map, take, codes}
+use Rattle.std.specs.Prelude.{if◌then◌else◌, ◌&&◌, nat_lt}
 use Rattle.std.specs.List.{list_all}
-use Rattle.std.proofs.lemmas.Bool.{and_parts, and_from, le-leb}
+use Rattle.std.proofs.lemmas.Bool.{and_parts, and_from, le-leb, leb-true}
 use Rattle.gd_prim.specs.declared.Batch.{Batch}
 use Rattle.gd_prim.specs.declared.Primitive.{Primitive}
 use Rattle.gd_prim.specs.History.{prims_of}
 use Rattle.gd_defs.specs.Asked.{Asked}
 use Rattle.gd_defs.specs.Plan.{template_of}
-use Rattle.gd_defs.specs.Reply.{Answer, Mark, row_mark}
+use Rattle.gd_tree.specs.Json.{Json}
+use Rattle.gd_tree.specs.Trees.{Trees, list_of}
+use Rattle.gd_defs.specs.Lines.{refused_at, too_wide, count_json}
+use Rattle.gd_defs.specs.Rows as rows
+use Rattle.gd_defs.specs.Reply.{Answer, Path, Mark, mark_row, row_mark, page_answer, page_cursor, max_page_weight}
 use Rattle.gd_defs.specs.Template.{Template}
-use Rattle.gd_bytes.specs.Frozen.{Frame, Scan, Body, Frozen, scanning, building, printing, max_number}
+use Rattle.gd_bytes.specs.Frozen.{Frame, Scan, Body, Walk, Frozen, scanning, building, printing, max_number}
 use Rattle.gd_frozen.specs.Meaning.{scan_of}
 use Rattle.gd_frozen.specs.Pieces.{trees_in}
 use Rattle.gd_frozen.specs.declared.frozen.FrozenScan.{FrozenScan}
 use Rattle.gd_runs.specs.Fitting.{row_fits, body_fits, fits}
-use Rattle.gd_runs.specs.Owed.{candidate, tried}
+use Rattle.gd_runs.specs.Owed.{ScanOrder, candidate, tried}
+use Rattle.gd_runs.specs.Shape.{page_shape}
+use Rattle.gd_runs.specs.Shape.Ids.{page_ids}
+use Rattle.gd_runs.specs.Thawed.{window, body_answer}
 use Rattle.gd_runs.specs.Scanned.{scan_order}
 use Rattle.gd_match_laws.specs.Best.{page_of}
 use Rattle.gd_match_laws.specs.Moves.{Runs}
 use Rattle.gd_match_laws.specs.Rows.{rows_order}
 use Rattle.gd_plan.specs.Asked.{asked_view}
 use Rattle.gd_plan.specs.declared.asked.Asked.{Asked as Found}
-use Rattle.gd_shape.specs.Shaping.{walks_in}
+use Rattle.gd_shape.specs.Shaping as shaping
+use Rattle.gd_shape.specs.Shaping.{asked_of, walks_in, walks_told}
+use Rattle.gd_shape.proofs.Found.{told_print, told_fit, told_bounds, told_few}
 use Rattle.gd_window.specs.Kept.{Kept}
 use Rattle.gd_window.specs.Laws.{defined}
 use Rattle.gd_window.specs.declared.row.Row.{Row}
@@ -35,7 +45,7 @@ use Rattle.gd_thaw_laws.proofs.Spelled.{fitting_are_spelled}
 use Rattle.gd_thaw_laws.proofs.Telling.{told_weighs, gone_told_owes, gone_told_fits, builds_told_owes}
 use Rattle.gd_thaw_laws.proofs.Thawed.{scans_alike}
 use Rattle.gd_thawed.specs.Freezing.{Freezes, frozen_as, scan_told, build_told, print_told, standing}
-use Rattle.gd_thawed.specs.Stages.{IsAsked, TellsScan, Scans, ScansOn, Builds, Prints, StageOwes, trees_built, kept_owes, order_for}
+use Rattle.gd_thawed.specs.Stages.{IsAsked, TellsScan, Scans, ScansOn, Builds, Prints, StageOwes, trees_built, kept_owes, body_owes, order_for}
 use Rattle.gd_thawed.specs.Subject.{after_of, marks_in}
 use Rattle.gd_thawed.specs.declared.building.Building.{Building}
 use Rattle.gd_thawed.specs.declared.keying.Keying.{Keying}
@@ -171,13 +181,56 @@ build_freezes batches owed s b w builds =
     again : page_rows w ≡ page_of prims q (after_of s.after) (marks_of w)
     again = page_again prims q (scan_order prims q) s.dateline s.with_cursor (after_of s.after) w builds.keeps.is builds.keeps.again
 
+-- a page that prints the same is owed alike
+printed_alike : (prims : List Primitive) (q : Asked) (order : ScanOrder) (dateline : ℕ) (with_cursor : Bool) (after : Option Mark) (kept : List Mark) (n m : ℕ) (ts : Trees) (ws vs : List Walk)
+    → page_shape prims q (list_of ts) ws ≡ page_shape prims q (list_of ts) vs
+    → body_answer prims q order dateline with_cursor after kept (printing n ts ws) ≡ body_answer prims q order dateline with_cursor after kept (printing m ts vs)
+printed_alike prims q order dateline with_cursor after kept n m ts ws vs same = ap whole same
+  where
+    offered : List rows.Row
+    offered = window prims q after (map (mark_row prims q.sort) kept)
+
+    whole : Result Json Path → Answer
+    whole page =
+        if not q.count && nat_lt max_page_weight 0 then Err (too_wide (max_page_weight + 1))
+        else if q.single && nat_lt 1 (length offered) then Err (refused_at (codes "NotUnique") [])
+        else page_answer (if with_cursor then Some (page_cursor dateline (take q.limit offered) (nat_lt q.limit (length offered))) else None)
+        (if q.count then Ok (count_json (length (take q.limit offered))) else page)
+
 -- LAW: one that prints
 pub print_freezes : (batches : List Batch) (owed : Answer) (s : Subject) (p : Printing) (w : Kept) → Prints batches owed s p w → Freezes batches owed s (frozen_as s (marks_in p.rows.items) (print_told p))
 print_freezes batches owed s p w prints =
     freezes_with batches owed s prints.q (marks_in p.rows.items) (print_told p) prints.asked prints.rows.fit prints.rows.few
-    (printed_fits (prims_of batches) prints.q (length (marks_in p.rows.items)) 0 (min p.shape.printed p.places) (trees_in p.trees) (walks_in p.shape) prints.fits (let held = prints.held in omega (arith, held)))
-    (let low = prints.low in omega (arith, low), prints.walks)
-    (prints.rows.alike (print_told p) ∙ prints.owes)
+    (printed_fits (prims_of batches) prints.q (length (marks_in p.rows.items)) 0 (min p.shape.printed p.places) (trees_in p.trees) (walks_told p.shape) more_fit (let held = prints.held in omega (arith, held)))
+    (let low = prints.low in omega (arith, low), told_bounds prims p.shape prints.known prints.asked.end prints.walks)
+    (prints.rows.alike (print_told p) ∙ more_owe ∙ prints.owes)
+  where
+    prims : List Primitive
+    prims = prims_of batches
+
+    ids : page_ids prims (asked_of p.shape) (shaping.trees_in p.shape) ≡ page_ids prims prints.q (list_of (trees_in p.trees))
+    ids = ap (λ (q : Asked). page_ids prims q (shaping.trees_in p.shape)) prints.asks ∙ ap (page_ids prims prints.q) prints.has
+
+    -- it fits with more walks
+    more_fit : body_fits prims one_member prints.q (length (marks_in p.rows.items)) (printing 0 (trees_in p.trees) (walks_told p.shape)) ≡ true
+    more_fit =
+        let parts = and_parts _ _ prints.fits in
+        let front = and_parts _ _ parts.0 in
+        let few : length (walks_told p.shape) ≤ page_ids prims prints.q (list_of (trees_in p.trees)) =
+        subst (λ n. length (walks_told p.shape) ≤ n) ids
+        (told_few prims p.shape prints.known (subst (λ n. length (walks_in p.shape) ≤ n) (sym ids) (leb-true (length (walks_in p.shape)) (page_ids prims prints.q (list_of (trees_in p.trees))) parts.1))) in
+        and_from _ _ (and_from _ _ (and_from _ _ (and_parts _ _ front.0).0 (told_fit prims p.shape prints.known (and_parts _ _ front.0).1)) front.1)
+        (le-leb (length (walks_told p.shape)) (page_ids prims prints.q (list_of (trees_in p.trees))) few)
+
+    -- the page prints the same
+    same : page_shape prims prints.q (list_of (trees_in p.trees)) (walks_told p.shape) ≡ page_shape prims prints.q (list_of (trees_in p.trees)) (walks_in p.shape)
+    same = sym (here (walks_told p.shape)) ∙ told_print prims p.shape prints.known ∙ here (walks_in p.shape)
+      where
+        here : (ws : List Walk) → page_shape prims (asked_of p.shape) (shaping.trees_in p.shape) ws ≡ page_shape prims prints.q (list_of (trees_in p.trees)) ws
+        here ws = ap (λ (q : Asked). page_shape prims q (shaping.trees_in p.shape) ws) prints.asks ∙ ap (λ ts. page_shape prims prints.q ts ws) prints.has
+
+    more_owe : body_owes batches s prints.q w (print_told p) ≡ body_owes batches s prints.q w (printing 0 (trees_in p.trees) (walks_in p.shape))
+    more_owe = printed_alike prims prints.q (scan_order prims prints.q) s.dateline s.with_cursor (after_of s.after) (marks_of w) (min p.shape.printed p.places) 0 (trees_in p.trees) (walks_told p.shape) (walks_in p.shape) same
 
 -- ---- where readings stand
 

@@ -6,7 +6,7 @@ use Rattle.gd_prim.specs.declared.Batch.{Batch}
 use Rattle.gd_prim.specs.History.{prims_of}
 use Rattle.gd_grammar.specs.Mark.{Mark, cursor_text}
 use Rattle.gd_tree.specs.Json.{Json, text, compact}
-use Rattle.gd_tree.specs.Trees.{Trees, trees_count}
+use Rattle.gd_tree.specs.Trees.{Trees, list_of, trees_count}
 use Rattle.gd_bytes.specs.Frozen.{Walk, printing, max_number, walk_in_bounds}
 use Rattle.gd_defs.specs.Lines.{refused_at}
 use Rattle.gd_defs.specs.Reply.{Answer, Path, is_ambiguous, page_cursor, row_mark, page_answer}
@@ -22,7 +22,7 @@ use Rattle.gd_plan.specs.declared.asked.Asked.{Asked as Found}
 use Rattle.gd_reply.specs.Answers.{told_of}
 use Rattle.gd_shape.specs.Outcome.{text_of}
 use Rattle.gd_shape.specs.declared.shape.PageBody.TheVariants as page
-use Rattle.gd_shape.specs.Shaping.{page_of, body_print, body_told, body_places, IsOf, IsSamePage, count_or, asked_of, trees_in, walks_in}
+use Rattle.gd_shape.specs.Shaping.{page_of, body_print, body_told, body_list, body_places, IsOf, IsSamePage, count_or, asked_of, trees_in, walks_in}
 use Rattle.gd_shape.specs.declared.shape.PageBody.{PageBody}
 use Rattle.gd_shape.specs.declared.shape.Shape.{Shape}
 use Rattle.gd_runs.specs.Shape.{page_shape}
@@ -79,15 +79,17 @@ page_refused cursor path (Err other) is = let e : path ≡ other = cc in ap (λ 
 
 module _ (batches : List Batch) (owed : Answer) (s : Subject) where
   -- LAW: a page begins to be printed
-  pub prints_first : (plan : Found) (body : PageBody) (w : Kept) (p : Printing) → IsBuilt batches owed s plan body (marks_in p.rows.items) w → p.single ≡ plan.single
+  pub prints_first : (plan : Found) (body : PageBody) (w : Kept) (p : Printing) → IsBuilt batches owed s plan body (marks_in p.rows.items) w → p.single ≡ plan.single → (asked_of p.shape ≡ asked_view plan) × (trees_in p.shape ≡ body_list body)
       → page_of (prims_of batches) p.shape ≡ body_print (prims_of batches) (asked_view plan) body → IsOf (prims_of batches) p.shape → pieces.trees_in p.trees ≡ body_trees body → walks_in p.shape ≡ [] → p.places ≤ body_places body → p.places ≤ max_number
       → Prints batches owed s p w
-  prints_first plan body w p built single prints known trees walks held low = record {
+  prints_first plan body w p built single parts prints known trees walks held low = record {
     q = asked_view plan;
     asked = built.asked;
     keeps = built.keeps;
     rows = built.tells;
     single = single;
+    asks = parts.0;
+    has = parts.1 ∙ listed body ∙ ap list_of (sym trees);
     prints = prints ∙ built.prints ∙ sym (same (λ ts ws. page_prints (prims_of batches) (asked_view plan) w ts ws));
     known = known;
     fits = same (λ ts ws. body_fits (prims_of batches) one_member (asked_view plan) (length (marks_in p.rows.items)) (printing 0 ts ws)) ∙ built.fits;
@@ -100,16 +102,20 @@ module _ (batches : List Batch) (owed : Answer) (s : Subject) where
       same : {A : Type 0} (f : Trees → List Walk → A) → f (pieces.trees_in p.trees) (walks_in p.shape) ≡ f (body_trees body) []
       same f = ap (λ ts. f ts (walks_in p.shape)) trees ∙ ap (f (body_trees body)) walks
 
+      listed : (b : PageBody) → body_list b ≡ list_of (body_trees b)
+      listed (page.Trees ts) = refl
+      listed (page.Count n) = refl
+
       as_many : (b : PageBody) → body_places b ≡ trees_count (body_trees b)
       as_many (page.Trees ts) = refl
       as_many (page.Count n) = refl
 
   -- LAW: so it does where its parts are these
   pub prints_began : (plan : Found) (body : PageBody) (rows : Vec RowAt Global) (trees : List Piece) (none : List WalkAt) (w : Kept) (p : Printing) → IsBuilt batches owed s plan body (marks_in rows.items) w → pieces.trees_in trees ≡ body_trees body → none ≡ [] → p.rows ≡ rows
-      → p.trees ≡ trees → p.single ≡ plan.single → page_of (prims_of batches) p.shape ≡ body_told (prims_of batches) (asked_view plan) body (map walk_of none) → IsOf (prims_of batches) p.shape → walks_in p.shape ≡ map walk_of none → p.places ≤ body_places body → p.places ≤ max_number
+      → p.trees ≡ trees → p.single ≡ plan.single → (asked_of p.shape ≡ asked_view plan) × (trees_in p.shape ≡ body_list body) → page_of (prims_of batches) p.shape ≡ body_told (prims_of batches) (asked_view plan) body (map walk_of none) → IsOf (prims_of batches) p.shape → walks_in p.shape ≡ map walk_of none → p.places ≤ body_places body → p.places ≤ max_number
       → Prints batches owed s p w
-  prints_began plan body rows trees none w p built same empty rows_are trees_are single page known walks held low =
-      prints_first plan body w p (subst (λ (rs : Vec RowAt Global). IsBuilt batches owed s plan body (marks_in rs.items) w) (sym rows_are) built) single
+  prints_began plan body rows trees none w p built same empty rows_are trees_are single parts page known walks held low =
+      prints_first plan body w p (subst (λ (rs : Vec RowAt Global). IsBuilt batches owed s plan body (marks_in rs.items) w) (sym rows_are) built) single parts
       (page ∙ ap (λ ws. body_told (prims_of batches) (asked_view plan) body (map walk_of ws)) empty) known (ap pieces.trees_in trees_are ∙ same) (walks ∙ ap (map walk_of) empty) held low
 
   -- LAW: the rows of a page are as many
@@ -124,6 +130,8 @@ module _ (batches : List Batch) (owed : Answer) (s : Subject) where
     keeps = prints.keeps;
     rows = prints.rows;
     single = prints.single;
+    asks = same.asked ∙ prints.asks;
+    has = same.trees ∙ prints.has;
     prints = ap (λ n. count_or n (page_shape (prims_of batches) (asked_of new) (trees_in new) (walks_in new))) same.count
         ∙ ap (λ q. count_or p.shape.count (page_shape (prims_of batches) q (trees_in new) (walks_in new))) same.asked
         ∙ ap (λ ts. count_or p.shape.count (page_shape (prims_of batches) (asked_of p.shape) ts (walks_in new))) same.trees

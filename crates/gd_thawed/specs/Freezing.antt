@@ -11,7 +11,7 @@ use Rattle.gd_frozen.specs.Pieces.{trees_in}
 use Rattle.gd_runs.specs.Fitting.{fits}
 use Rattle.gd_plan.specs.Asked.{asked_view}
 use Rattle.gd_roots.specs.PassedOn.{stands}
-use Rattle.gd_shape.specs.Shaping.{walks_in}
+use Rattle.gd_shape.specs.Shaping.{walks_told}
 use Rattle.gd_suspended_laws.specs.Standing.{marks_of}
 use Rattle.gd_thaw_laws.specs.Spelled.{one_member}
 use Rattle.gd_thaw_laws.specs.Told.{told}
@@ -51,9 +51,9 @@ scan_told r = by r.found
 abbrev pub build_told : Building → Body
 build_told b = building b.weight (trees_built b) (told (template_of (asked_view b.plan)) (stands b.matcher))
 
--- the places that a reading that prints has counted, its trees, and the walks with which its page began
+-- the places that a reading that prints has counted, its trees, and the walks with which its page began, with those of the ids that it has found since
 abbrev pub print_told : Printing → Body
-print_told p = printing (min p.shape.printed p.places) (trees_in p.trees) (walks_in p.shape)
+print_told p = printing (min p.shape.printed p.places) (trees_in p.trees) (walks_told p.shape)
 
 -- where a reading stands: with the rows of its window while it scans, and behind its scan with those with which it began to build; one that gave its answer stands nowhere
 abbrev pub standing : ThawedQuery → Option Frozen

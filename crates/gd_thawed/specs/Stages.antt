@@ -33,7 +33,8 @@ use Rattle.gd_suspended_laws.specs.Standing.{rows_of, marks_of, page_rows, windo
 use Rattle.gd_thaw_laws.specs.Gone.{HasGone}
 use Rattle.gd_thaw_laws.specs.Spelled.{one_member}
 use Rattle.gd_thaw_laws.specs.Standing.{RowsFit, ScansAlike}
-use Rattle.gd_shape.specs.Shaping.{page_of, body_print, walks_in, IsOf}
+use Rattle.gd_shape.specs.Shaping as shaping
+use Rattle.gd_shape.specs.Shaping.{asked_of, page_of, body_print, walks_in, IsOf}
 use Rattle.gd_shape.specs.declared.shape.PageBody.{PageBody}
 use Rattle.gd_shape.specs.declared.shape.PageBody.TheVariants as page
 use Rattle.gd_thawed.specs.Keying.{HasKeys}
@@ -215,6 +216,8 @@ pub record Prints (batches : List Batch) (owed : Answer) (s : Subject) (p : Prin
   pub keeps : KeepsRows (prims_of batches) q s w
   pub rows : TellsRows batches s q (marks_in p.rows.items) w
   pub single : p.single ≡ q.single
+  pub asks : asked_of p.shape ≡ q
+  pub has : shaping.trees_in p.shape ≡ list_of (trees_in p.trees)
   pub prints : page_of (prims_of batches) p.shape ≡ page_prints (prims_of batches) q w (trees_in p.trees) (walks_in p.shape)
   pub known : IsOf (prims_of batches) p.shape
   pub fits : body_fits (prims_of batches) one_member q (length (marks_in p.rows.items)) (printing 0 (trees_in p.trees) (walks_in p.shape)) ≡ true

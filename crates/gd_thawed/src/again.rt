@@ -1,12 +1,12 @@
 //! Parts of frozen readings, once more.
 ghost use Rattle.std.specs.Prelude.{◌≡◌, ◌≤◌, length, map, IfOk};
-ghost use Rattle.gd_frozen.specs.Meaning.{frame_of, row_of, scan_of, walk_of};
+ghost use Rattle.gd_frozen.specs.Meaning.{frame_of, row_of, scan_of};
 ghost use Rattle.gd_thawed.specs.Subject.{after_of, marks_in};
 
 use gd_base::id::Id;
 use gd_base::memory::Memory;
 use gd_frozen::cursor::Places;
-use gd_frozen::frozen::{FrozenFrame, FrozenScan, RowAt, Walk};
+use gd_frozen::frozen::{FrozenFrame, FrozenScan, RowAt};
 use gd_frozen::tree::FrozenTrees;
 use std::alloc::Global;
 
@@ -107,37 +107,4 @@ pub(crate) fn scan_again(alloc: Global, scan: &FrozenScan) -> Result<FrozenScan,
         weight: scan.weight,
         frames: frames_again(alloc, scan.frames.as_slice())?,
     })
-}
-
-/// The same links. `Memory`: an allocation was refused.
-fn links_again(alloc: Global, links: &[Id]) -> Result<Vec<Id>, Memory>
-    ensures { IfOk result (λ again. again.items ≡ links.now) }
-{
-    let mut again = Vec::with_capacity(alloc, links.len())?;
-    for link in links {
-        again.push(*link)?;
-    }
-    Ok(again)
-}
-
-/// The same walk. `Memory`: an allocation was refused.
-fn walk_again(alloc: Global, walk: &Walk) -> Result<Walk, Memory>
-    ensures { IfOk result (λ again. walk_of again ≡ walk_of walk.now) }
-{
-    match walk {
-        Walk::Guid => Ok(Walk::Guid),
-        Walk::Root => Ok(Walk::Root),
-        Walk::Links(links) => Ok(Walk::Links(links_again(alloc, links.as_slice())?)),
-    }
-}
-
-/// The same walks. `Memory`: an allocation was refused.
-pub(crate) fn walks_again(alloc: Global, walks: &[Walk]) -> Result<Vec<Walk>, Memory>
-    ensures { IfOk result (λ again. map walk_of again.items ≡ map walk_of walks.now) }
-{
-    let mut again = Vec::with_capacity(alloc, walks.len())?;
-    for walk in walks {
-        again.push(walk_again(alloc, walk)?)?;
-    }
-    Ok(again)
 }

@@ -11,7 +11,7 @@ ghost use Rattle.gd_thawed.specs.Freezing.{Freezes, frozen_as, scan_told, build_
 ghost use Rattle.gd_thawed.specs.Query.{IsGoing};
 ghost use Rattle.gd_thawed.specs.Subject.{marks_in};
 
-use crate::again::{after_again, rows_again, scan_again, trees_again, walks_again};
+use crate::again::{after_again, rows_again, scan_again, trees_again};
 use crate::building::Building;
 use crate::cursors::places_of;
 use crate::printing::Printing;
@@ -117,8 +117,9 @@ fn freeze_build(
     })
 }
 
-/// A reading that prints, as it is put away: the rows, the trees and the walks with which its page
-/// began, and how many places of the trees were counted. `Memory`: an allocation was refused.
+/// A reading that prints, as it is put away: the rows and the trees with which its page began, the
+/// walks of the ids that are known so far, and how many places of the trees were counted. `Memory`:
+/// an allocation was refused.
 fn freeze_print(
     alloc: Global,
     subject: &Subject,
@@ -128,7 +129,7 @@ fn freeze_print(
         ≡ frozen_as subject.now (marks_in reading.now.rows.items) (print_told reading.now)) }
 {
     let trees = trees_again(alloc, &reading.trees)?;
-    let walks = walks_again(alloc, reading.shape.walks())?;
+    let walks = reading.shape.walks(alloc)?;
     let rows = rows_again(alloc, reading.rows.as_slice())?;
     Ok(FrozenReading {
         dateline: subject.dateline,

@@ -28,7 +28,9 @@ ghost use Rattle.gd_runs.specs.Scanned.{scan_order};
 ghost use Rattle.gd_trees.specs.View.{trees_view};
 ghost use Rattle.gd_thawed.specs.Rounds.{RoundGoes};
 ghost use Rattle.gd_shape.specs.Outcome.{text_of};
-ghost use Rattle.gd_shape.specs.Shaping.{page_of as page_told, body_told, body_places, walks_in, IsOf};
+ghost use Rattle.gd_shape.specs.Shaping as shaping;
+ghost use Rattle.gd_shape.specs.Shaping.{page_of as page_told, asked_of, body_told, body_list};
+ghost use Rattle.gd_shape.specs.Shaping.{body_places, walks_in, IsOf};
 
 use crate::cursors::row_text;
 use crate::rows::page_of;
@@ -110,6 +112,8 @@ fn printing_of(
     ensures of { IfOk result (λ printing. (prims : List Primitive) → IsOf prims printing.shape) }
     ensures walks { IfOk result (λ printing. walks_in printing.shape ≡ map walk_of walks.items) }
     ensures single { IfOk result (λ printing. printing.single ≡ plan.single) }
+    ensures asks { IfOk result (λ printing. asked_of printing.shape ≡ asked_view plan) }
+    ensures has { IfOk result (λ printing. shaping.trees_in printing.shape ≡ body_list body) }
     ensures rows { IfOk result (λ printing. printing.rows ≡ rows) }
     ensures trees { IfOk result (λ printing. printing.trees ≡ trees) }
     ensures places { IfOk result (λ printing. printing.places ≤ body_places body) }

@@ -1,4 +1,0 @@
-use Rattle.gd_resolve.proofs.up.+write_way.Given as goal
-
-abbrev pub decreases-write_way : goal.decreases-write_way
-decreases-write_way g l = l.levels
