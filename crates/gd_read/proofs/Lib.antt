@@ -1,3 +1,4 @@
+pub mod Answering
 pub mod KeyLinks
 pub mod Advanced
 pub mod Scanned

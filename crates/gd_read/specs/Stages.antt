@@ -100,6 +100,10 @@ IsLight prims q o = passes_template prims (template_of q) o ≡ true → weight 
 abbrev pub AreLight : List Primitive → Asked → List ℕ → Type 0
 AreLight prims q os = (n o : ℕ) → slice_get os n ≡ Some o → IsLight prims q o
 
+-- each of objects answers
+abbrev pub AllAnswer : List Primitive → Asked → List ℕ → Type 0
+AllAnswer prims q os = (n o : ℕ) → slice_get os n ≡ Some o → is_answer prims (template_of q) o ≡ true
+
 -- a tree is kept with those before it, which do not weigh too much with it
 pub record TreeIsKept (old new : Gathered) (u : Tree) (weight : ℕ) : Type 0 where
   pub trees : map tree_view new.trees.items ≡ map tree_view old.trees.items ++ u ∷ []
