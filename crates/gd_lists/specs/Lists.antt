@@ -3,7 +3,7 @@ use Rattle.std.specs.Prelude.{ℕ, List, [], unwrap_or, slice_index_or}
 use Rattle.std.specs.Ordering.{nat_cmp}
 use Rattle.std.specs.Map.{lookup}
 use Rattle.std.specs.BTreeMap.{is_at}
-use Rattle.std.specs.Cmp.Lexicographic.{slice_cmp}
+use Rattle.std.specs.Str.{bytes_eq}
 use Rattle.gd_postings.specs.Postings.{Places}
 
 -- the list where nothing was entered
@@ -12,7 +12,7 @@ nothing = record { ids = []; spare = 0 }
 
 -- the list under a text
 abbrev pub text_list : List (List ℕ × Places) → List ℕ → Places
-text_list lists text = unwrap_or (lookup (is_at (slice_cmp nat_cmp text)) lists) nothing
+text_list lists text = unwrap_or (lookup (bytes_eq text) lists) nothing
 
 -- the list of an identity, in a table by identity
 abbrev pub id_list : List Places → ℕ → Places

@@ -10,14 +10,14 @@ use gd_base::id::Id;
 use gd_base::memory::Memory;
 use gd_base::text::Text;
 use gd_postings::postings::Postings;
+use indexmap::IndexMap;
 use std::alloc::Global;
-use std::collections::BTreeMap;
 use std::marker::Model;
 
-/// A list for each text. Contracts see the entries, in the order of the texts.
+/// A list for each text. Contracts see the entries, in the order in which the lists were made.
 #[derive(Drop)]
 pub struct TextLists {
-    lists: BTreeMap<Text, Postings>,
+    lists: IndexMap<Text, Postings>,
     alloc: Global,
 }
 
@@ -30,14 +30,14 @@ impl Model for TextLists {
     ghost view = { λ texts. texts.lists.entries };
 }
 
-/// The same lists again, entered in their order.
+/// The same lists again, entered in their order. Each text is hashed once.
 fn copies(
     alloc: Global,
-    lists: &BTreeMap<Text, Postings>,
-) -> Result<BTreeMap<Text, Postings>, Memory>
+    lists: &IndexMap<Text, Postings>,
+) -> Result<IndexMap<Text, Postings>, Memory>
     ensures { IfOk result (λ made. made.entries ≡ lists.now.entries) }
 {
-    let mut made = BTreeMap::new(alloc);
+    let mut made = IndexMap::with_capacity(alloc, lists.len())?;
     for (text, list) in lists.iter() {
         let name = text.copy()?;
         let same = list.copy()?;
@@ -52,7 +52,7 @@ impl TextLists {
         ensures { result ≡ [] }
     {
         TextLists {
-            lists: BTreeMap::new(alloc),
+            lists: IndexMap::new(alloc),
             alloc,
         }
     }

@@ -1,4 +1,4 @@
 pub mod Each
-pub mod Last
+pub mod EitherWay
 pub mod Ranked
 pub mod Runs

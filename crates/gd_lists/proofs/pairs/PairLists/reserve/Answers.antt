@@ -7,7 +7,7 @@ use Rattle.std.specs.BTreeMap.{is_at}
 use Rattle.gd_lists.specs.Lists.{pair_list, text_list}
 use Rattle.gd_lists.proofs.Each.{each_pair}
 use Rattle.gd_postings.specs.Postings.{Places}
-use Rattle.gd_lists.proofs.Each.{Sets}
+use Rattle.gd_lists.proofs.Each.{Sets, same_id}
 use Rattle.std.specs.BTreeMap.{BTreeMap}
 use Rattle.gd_lists.proofs.pairs.PairLists.reserve.Goals as goal
 
@@ -24,8 +24,8 @@ pub returns-in_ok-insert-in-None-clause-same : goal.returns-in_ok-insert-in-None
 returns-in_ok-insert-in-None-clause-same c =
     let w = c.reserve-in-None.new.self in
     let held : [] ≡ unwrap_or (lookup (is_at (nat_cmp c.args.namespace)) c.self.inside.texts.entries) [] = ap (λ o. unwrap_or o []) c.in-None.ensures.value in
-    let written : Sets nat_cmp c.self.inside.texts.entries c.insert.new.self.entries c.args.namespace w =
-    subst (λ (m : BTreeMap ℕ (List (List ℕ × Places))). Sets nat_cmp m.entries c.insert.new.self.entries c.args.namespace w) c.get_mut.follows.holds-at-none
+    let written : Sets same_id c.self.inside.texts.entries c.insert.new.self.entries c.args.namespace w =
+    subst (λ (m : BTreeMap ℕ (List (List ℕ × Places))). Sets same_id m.entries c.insert.new.self.entries c.args.namespace w) c.get_mut.follows.holds-at-none
     c.in_ok-insert-in-None.ensures.updates.0 in
     let made : (t : List ℕ) → (text_list w t).ids ≡ (text_list [] t).ids =
     subst (λ (m : List (List ℕ × Places)). (t : List ℕ) → (text_list w t).ids ≡ (text_list m t).ids) c.new-texts.ensures c.reserve-in-None.ensures.same in
