@@ -25,11 +25,13 @@ use gd_store::view::View;
 use std::alloc::Global;
 
 /// The places below a view's end that are of some kind, in rising order. It owes those from its
-/// place on.
+/// place on. Where the next one stands in the store's list is kept as `at`, which only spares
+/// searching.
 #[derive(Drop)]
 pub struct Leaf {
     kind: Kind,
     place: Id,
+    at: u32,
 }
 
 impl Leaf {
@@ -43,6 +45,7 @@ impl Leaf {
         Leaf {
             kind: Kind::All,
             place: Id(0),
+            at: 0,
         }
     }
 
@@ -56,6 +59,7 @@ impl Leaf {
         Leaf {
             kind: Kind::Linkage(end, node),
             place: Id(0),
+            at: 0,
         }
     }
 
@@ -70,6 +74,7 @@ impl Leaf {
         Leaf {
             kind: Kind::Value(number),
             place: Id(0),
+            at: 0,
         }
     }
 
@@ -88,6 +93,7 @@ impl Leaf {
         Ok(Leaf {
             kind: Kind::Fixed(list),
             place: Id(0),
+            at: 0,
         })
     }
 
@@ -117,17 +123,17 @@ impl Leaf {
         }
     }
 
-    /// The first member that is `from` or greater.
-    fn first<L>(&self, view: &View<'_>, from: Id, steps: &mut Steps<L>) -> Option<Id>
+    /// The first member that is `from` or greater, looked for at a place of the store's list first.
+    fn first<L>(&self, view: &View<'_>, from: Id, at: &mut u32, steps: &mut Steps<L>) -> Option<Id>
         ensures first { result ≡ first_from from (leaf_set self.now.kind view.now) }
         ensures below { IfSome result (λ id. id < length (prims_of view.now)) }
-        ensures work { steps.new ≤ steps.old + 22 }
+        ensures work { steps.new ≤ steps.old + 24 }
         ensures later { steps.old ≤ steps.new }
     {
         match &self.kind {
             Kind::All => first_of_all(view, from, steps),
-            Kind::Linkage(end, node) => view.first_link(*end, *node, from, steps),
-            Kind::Value(number) => view.first_of_value(*number, from, steps),
+            Kind::Linkage(end, node) => view.first_link(*end, *node, from, at, steps),
+            Kind::Value(number) => view.first_of_value(*number, from, at, steps),
             Kind::Fixed(list) => list.first(view, from, steps),
         }
     }
@@ -140,11 +146,14 @@ impl Leaf {
         ensures low { IsLow result }
         ensures known { (before budget now : ℕ) → Reaches before budget result now }
         ensures settled { IsKnown result }
-        ensures work { steps.new ≤ steps.old + 22 }
+        ensures work { steps.new ≤ steps.old + 24 }
         ensures later { steps.old ≤ steps.new }
     {
         let end = view.end();
-        match self.first(view, self.place, steps) {
+        let mut at = self.at;
+        let first = self.first(view, self.place, &mut at, steps);
+        self.at = at;
+        match first {
             Some(id) => {
                 prove!(id < end);
                 self.place = Id(id.place() + 1);
@@ -157,10 +166,11 @@ impl Leaf {
     /// Whether a place is a member.
     fn is_member<L>(&self, view: &View<'_>, id: Id, steps: &mut Steps<L>) -> bool
         ensures has { result ≡ has_id (leaf_set self.now.kind view.now) id }
-        ensures work { steps.new ≤ steps.old + 22 }
+        ensures work { steps.new ≤ steps.old + 24 }
         ensures later { steps.old ≤ steps.new }
     {
-        match self.first(view, id, steps) {
+        let mut at = self.at;
+        match self.first(view, id, &mut at, steps) {
             Some(found) => found == id,
             None => false,
         }

@@ -128,3 +128,19 @@ all_before ids end n rising e last = record { order = omega arith; within = omeg
         (λ less. let low = rising i n less (omega (arith, e)) in omega (arith, low, last))
         (λ least. let same : i ≡ n = omega (arith, least, there, e) in let q = ap (slice_index ids) same in omega (arith, q, last))
         (cases_lt i n)
+
+-- where the identity at a place is none that is less than an end, and the one before it is, a rising list is split there
+pub split_here : (ids : List ℕ) (end at : ℕ) → IsRising ids → at < length ids → end ≤ slice_index ids at → (0 < at → slice_index ids (at - 1) < end) → IsSplit ids end at at
+split_here ids end at rising there high low = record { order = omega arith; within = omega (arith, there); before = before; behind = behind }
+  where
+    before : (i : ℕ) → i < at → slice_index ids i < end
+    before i less = ⊎_elim
+        (λ under. let up = rising i (at - 1) under (omega (arith, there)) in let last = low (omega (arith, less)) in omega (arith, up, last))
+        (λ least. let same : i ≡ at - 1 = omega (arith, least, less) in let q = ap (slice_index ids) same in let last = low (omega (arith, less)) in omega (arith, q, last))
+        (cases_lt i (at - 1))
+
+    behind : (i : ℕ) → at ≤ i → i < length ids → end ≤ slice_index ids i
+    behind i from inside = ⊎_elim
+        (λ more. let up = rising at i more inside in omega (arith, up, high))
+        (λ least. let same : i ≡ at = omega (arith, least, from) in let q = ap (slice_index ids) same in omega (arith, q, high))
+        (cases_lt at i)

@@ -165,6 +165,26 @@ impl Postings {
         Some(ids[place])
     }
 
+    /// The same, where the place `at` of the list may be the answer's: it is looked at first, and the
+    /// one before it. Then it takes three steps, and else at most 24. Afterwards `at` is the place
+    /// behind the identity that is given; no clause says so, since no answer rests on it.
+    #[tactic(auto, using(crate::proofs::Split::finds, crate::proofs::Split::finds_none))]
+    pub fn next_from<L>(&self, id: Id, at: &mut u32, steps: &mut Steps<L>) -> Option<Id>
+        ensures first { result ≡ rising.first_from id self.now.ids }
+        ensures work { steps.new ≤ steps.old + 24 }
+        ensures later { steps.old ≤ steps.new }
+        ensures counted { 0 < length self.now.ids → Rose steps.old steps.new }
+    {
+        let ids = self.as_slice();
+        let place = near(ids, id, *at as usize, steps);
+        if place == ids.len() {
+            return None;
+        }
+        steps.tick();
+        *at = place as u32 + 1;
+        Some(ids[place])
+    }
+
     /// Whether the identity is in the list, in at most 22 steps, and at least one where the list is
     /// not empty.
     pub fn has<L>(&self, id: Id, steps: &mut Steps<L>) -> bool
@@ -263,6 +283,39 @@ fn cut<L>(ids: &[Id], end: Id, steps: &mut Steps<L>) -> usize
     if lies_below(ids, end) {
         steps.tick();
         return ids.len();
+    }
+    search(ids, end, steps)
+}
+
+/// Whether a rising list is split at a place: the identity there is none that is less than `end`,
+/// and the one before it is.
+#[tactic(auto, using(crate::proofs::Split::split_here))]
+fn splits_at<L>(ids: &[Id], end: Id, at: usize, steps: &mut Steps<L>) -> bool
+    requires rising { IsRising ids.now }
+    ensures split { IsTrue result → IsSplit ids.now end at at }
+    ensures work { steps.new ≤ steps.old + 2 }
+    ensures later { steps.old ≤ steps.new }
+    ensures counted { Rose steps.old steps.new }
+{
+    steps.tick();
+    if at >= ids.len() || ids[at].place() < end.place() {
+        return false;
+    }
+    steps.tick();
+    at == 0 || ids[at - 1].place() < end.place()
+}
+
+/// The same place as `search` gives, which is tried first at a place that may be the one.
+fn near<L>(ids: &[Id], end: Id, at: usize, steps: &mut Steps<L>) -> usize
+    requires few { length ids.now ≤ 2_097_151 }
+    requires rising { IsRising ids.now }
+    ensures split { IsSplit ids.now end result result }
+    ensures work { steps.new ≤ steps.old + 23 }
+    ensures later { steps.old ≤ steps.new }
+    ensures counted { Rose steps.old steps.new }
+{
+    if splits_at(ids, end, at, steps) {
+        return at;
     }
     search(ids, end, steps)
 }

@@ -49,12 +49,18 @@ pub(crate) fn count_front<L>(list: &Postings, from: Id, end: Id, steps: &mut Ste
 }
 
 /// The first of the identities that are less than `end` that is not less than `from`, if there is
-/// one.
+/// one. The place `at` of the list is looked at first, and is the one behind it afterwards.
 #[tactic(auto, using(crate::proofs::Rising::first_both))]
-pub(crate) fn first_front<L>(list: &Postings, from: Id, end: Id, steps: &mut Steps<L>) -> Option<Id>
+pub(crate) fn first_front<L>(
+    list: &Postings,
+    from: Id,
+    end: Id,
+    at: &mut u32,
+    steps: &mut Steps<L>,
+) -> Option<Id>
     ensures first { result ≡ first_from from (ids_below end list.now.ids) }
     ensures below { IfSome result (λ id. id < end) }
-    ensures work { steps.new ≤ steps.old + 22 }
+    ensures work { steps.new ≤ steps.old + 24 }
     ensures later { steps.old ≤ steps.new }
     ensures counted { Rose steps.old steps.new }
 {
@@ -62,7 +68,7 @@ pub(crate) fn first_front<L>(list: &Postings, from: Id, end: Id, steps: &mut Ste
         steps.tick();
         return None;
     }
-    let first = list.first_from(from, steps)?;
+    let first = list.next_from(from, at, steps)?;
     if first < end { Some(first) } else { None }
 }
 

@@ -281,15 +281,17 @@ impl IndexedPrims {
         node: Id,
         from: Id,
         below: u32,
+        at: &mut u32,
         steps: &mut Steps<L>,
     ) -> Option<Id>
         ensures first { result ≡ first_from from (places_with end node (take below self.now)) }
         ensures below { IfSome result (λ place. place < below) }
-        ensures work { steps.new ≤ steps.old + 22 }
+        ensures work { steps.new ≤ steps.old + 24 }
         ensures later { steps.old ≤ steps.new }
         ensures counted { Rose steps.old steps.new }
     {
-        self.indexes.first_link(end, node, from, Id(below), steps)
+        self.indexes
+            .first_link(end, node, from, Id(below), at, steps)
     }
 
     /// The k-th place, from 0 in rising order, whose primitive has this node at the end.
@@ -379,15 +381,17 @@ impl IndexedPrims {
         number: u32,
         from: Id,
         end: u32,
+        at: &mut u32,
         steps: &mut Steps<L>,
     ) -> Option<Id>
         ensures first { result ≡ first_from from (places_of_number number (take end self.now)) }
         ensures below { IfSome result (λ place. place < end) }
-        ensures work { steps.new ≤ steps.old + 22 }
+        ensures work { steps.new ≤ steps.old + 24 }
         ensures later { steps.old ≤ steps.new }
         ensures counted { Rose steps.old steps.new }
     {
-        self.indexes.first_of_value(number, from, Id(end), steps)
+        self.indexes
+            .first_of_value(number, from, Id(end), at, steps)
     }
 
     /// The k-th place, from 0 in rising order, whose primitive has the value with a number.

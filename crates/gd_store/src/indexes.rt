@@ -458,16 +458,17 @@ impl Indexes {
         node: Id,
         from: Id,
         below: Id,
+        at: &mut u32,
         steps: &mut Steps<L>,
     ) -> Option<Id>
         ensures first { result ≡ first_from from
             (ids_below below (list_of end node self.now.linkage).ids) }
         ensures below { IfSome result (λ place. place < below) }
-        ensures work { steps.new ≤ steps.old + 22 }
+        ensures work { steps.new ≤ steps.old + 24 }
         ensures later { steps.old ≤ steps.new }
         ensures counted { Rose steps.old steps.new }
     {
-        first_front(self.linkage.list(end, node), from, below, steps)
+        first_front(self.linkage.list(end, node), from, below, at, steps)
     }
 
     /// The k-th place, from 0, that names this node at this end.
@@ -538,16 +539,17 @@ impl Indexes {
         number: u32,
         from: Id,
         end: Id,
+        at: &mut u32,
         steps: &mut Steps<L>,
     ) -> Option<Id>
         ensures first { result ≡ first_from from
             (ids_below end (number_list number self.now.values).ids) }
         ensures below { IfSome result (λ place. place < end) }
-        ensures work { steps.new ≤ steps.old + 22 }
+        ensures work { steps.new ≤ steps.old + 24 }
         ensures later { steps.old ≤ steps.new }
         ensures counted { Rose steps.old steps.new }
     {
-        first_front(self.values.list_at(number as usize), from, end, steps)
+        first_front(self.values.list_at(number as usize), from, end, at, steps)
     }
 
     /// The k-th place, from 0, that has the value with a number.

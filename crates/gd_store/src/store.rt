@@ -487,18 +487,19 @@ impl Store {
         end: End,
         node: Id,
         from: Id,
+        at: &mut u32,
         steps: &mut Steps<L>,
     ) -> Option<Id>
         requires { dateline ≤ length self.now }
         ensures first { result ≡ first_from from
             (places_with end node (prims_at self.now dateline)) }
         ensures below { IfSome result (λ place. place < length (prims_at self.now dateline)) }
-        ensures work { steps.new ≤ steps.old + 22 }
+        ensures work { steps.new ≤ steps.old + 24 }
         ensures later { steps.old ≤ steps.new }
         ensures counted { Rose steps.old steps.new }
     {
         self.prims
-            .first_link(end, node, from, self.end(dateline), steps)
+            .first_link(end, node, from, self.end(dateline), at, steps)
     }
 
     /// The k-th place below a dateline, from 0 in rising order, whose primitive has this node at
@@ -587,18 +588,19 @@ impl Store {
         dateline: u32,
         number: u32,
         from: Id,
+        at: &mut u32,
         steps: &mut Steps<L>,
     ) -> Option<Id>
         requires { dateline ≤ length self.now }
         ensures first { result ≡ first_from from
             (places_of_number number (prims_at self.now dateline)) }
         ensures below { IfSome result (λ place. place < length (prims_at self.now dateline)) }
-        ensures work { steps.new ≤ steps.old + 22 }
+        ensures work { steps.new ≤ steps.old + 24 }
         ensures later { steps.old ≤ steps.new }
         ensures counted { Rose steps.old steps.new }
     {
         self.prims
-            .first_of_value(number, from, self.end(dateline), steps)
+            .first_of_value(number, from, self.end(dateline), at, steps)
     }
 
     /// The k-th place below a dateline, from 0 in rising order, whose primitive has the value with

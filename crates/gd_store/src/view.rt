@@ -253,16 +253,24 @@ impl<'a> View<'a> {
     }
 
     /// The first place that is `from` or greater whose primitive has this node at the end, if there
-    /// is one. It takes no memory.
-    pub fn first_link<L>(&self, end: End, node: Id, from: Id, steps: &mut Steps<L>) -> Option<Id>
+    /// is one. Who asks for one after another keeps `at`, 0 at first, by which the next one is found
+    /// in a few steps; it says nothing. It takes no memory.
+    pub fn first_link<L>(
+        &self,
+        end: End,
+        node: Id,
+        from: Id,
+        at: &mut u32,
+        steps: &mut Steps<L>,
+    ) -> Option<Id>
         ensures first { result ≡ first_from from (places_with end node (prims_of self.now)) }
         ensures below { IfSome result (λ place. place < length (prims_of self.now)) }
-        ensures work { steps.new ≤ steps.old + 22 }
+        ensures work { steps.new ≤ steps.old + 24 }
         ensures later { steps.old ≤ steps.new }
         ensures counted { Rose steps.old steps.new }
     {
         let store = self.store;
-        store.first_link(self.dateline, end, node, from, steps)
+        store.first_link(self.dateline, end, node, from, at, steps)
     }
 
     /// Whether a primitive below the dateline may have this text as its value. False: none has it,
@@ -342,15 +350,21 @@ impl<'a> View<'a> {
     }
 
     /// The first place that is `from` or greater whose primitive has the value with this number, if
-    /// there is one. It takes no memory.
-    pub fn first_of_value<L>(&self, number: u32, from: Id, steps: &mut Steps<L>) -> Option<Id>
+    /// there is one, with `at` as for `first_link`. It takes no memory.
+    pub fn first_of_value<L>(
+        &self,
+        number: u32,
+        from: Id,
+        at: &mut u32,
+        steps: &mut Steps<L>,
+    ) -> Option<Id>
         ensures first { result ≡ first_from from (places_of_number number (prims_of self.now)) }
         ensures below { IfSome result (λ place. place < length (prims_of self.now)) }
-        ensures work { steps.new ≤ steps.old + 22 }
+        ensures work { steps.new ≤ steps.old + 24 }
         ensures later { steps.old ≤ steps.new }
         ensures counted { Rose steps.old steps.new }
     {
         let store = self.store;
-        store.first_of_value(self.dateline, number, from, steps)
+        store.first_of_value(self.dateline, number, from, at, steps)
     }
 }
