@@ -123,6 +123,18 @@ impl Leaf {
         }
     }
 
+    /// The end and the node where it walks all places whose primitives have that node at that end.
+    /// It takes no steps.
+    pub fn names(&self) -> Option<(End, Id)>
+        ensures { IfSome result (λ n. (batches : List Batch) → leaf_set self.now.kind batches
+            ≡ places_with n.0 n.1 (prims_of batches)) }
+    {
+        match &self.kind {
+            Kind::Linkage(end, node) => Some((*end, *node)),
+            Kind::All | Kind::Value(_) | Kind::Fixed(_) => None,
+        }
+    }
+
     /// The first member that is `from` or greater, looked for at a place of the store's list first.
     fn first<L>(&self, view: &View<'_>, from: Id, at: &mut u32, steps: &mut Steps<L>) -> Option<Id>
         ensures first { result ≡ first_from from (leaf_set self.now.kind view.now) }
@@ -194,7 +206,7 @@ impl<'a> Iter<View<'a>> for Leaf {
 
     ghost position = { λ it. at_place it.place };
 
-    /// Gives the next member. It always knows.
+    /// Gives the next member. It always knows, in at most 22 steps.
     fn next<L>(&mut self, world: &View<'a>, budget: u64, steps: &mut Steps<L>) -> Turn
         ensures gives { NextGives (ids_from self.old.place (leaf_set self.old.kind world.now))
             result (ids_from self.new.place (leaf_set self.new.kind world.now)) }
@@ -206,6 +218,7 @@ impl<'a> Iter<View<'a>> for Leaf {
             → IsAt (leaf_walk self.new.kind) world.now (at_place self.new.place)
             (ids_from self.new.place (leaf_set self.new.kind world.now)) }
         ensures reached { Reaches steps.old budget result steps.new }
+        ensures few { steps.new ≤ steps.old + 24 }
         ensures work { steps.new ≤ steps.old + budget + 24 }
         ensures later { steps.old ≤ steps.new }
     {
